@@ -1,13 +1,13 @@
-// A library with one function.
+//! The definitions that the crates of the solver share, and the plain data that they speak of.
+//!
+//! What a contract says of networks, costs, steps, trees, certificates and texts is defined in this crate's
+//! specs/, in the order that docs/DEFINITIONS.md gives. The code here is data alone.
 #![tactic(auto)]
 
-ghost use Rattle.std.specs.Prelude.{◌≡◌};
-ghost use Rattle.cfn_model.specs.Echo.{echo_of};
+mod reading;
+mod report;
+mod step;
 
-// The `ensures` clause is the contract: what `echo` returns is `echo_of` of its argument, a definition
-// in `specs/Echo.antt`, which a caller's clause can cite too.
-pub fn echo(x: usize) -> usize
-    ensures { result ≡ echo_of x }
-{
-    x
-}
+pub use reading::{Kind, NumberFault, Refusal};
+pub use report::{ResultWord, Row};
+pub use step::{Event, Step};

@@ -1,0 +1,169 @@
+-- What a wcsp file reads as, and its first refusal (toulbar2 user manual, wcsp format).
+-- Words are read from left to right; at each place the checks run in their order, and the first that fails decides.
+use Rattle.std.specs.Prelude.{◌≡◌, ℕ, zero, suc, ◌+◌, ◌*◌, Bool, ◌&&◌, ◌||◌, List, [], ◌∷◌, ◌++◌, length, slice_index, sum_by, ℤ, pos, negsuc, Option, Some, None, Result, Ok, Err, if◌then◌else◌, ◌==◌, nat_lt, int_lt, unsigned_abs}
+use Rattle.std.specs.List.{list_any}
+use Rattle.cfn_model.specs.declared.reading.NumberFault.{NumberFault}
+use Rattle.cfn_model.specs.declared.reading.NumberFault.TheVariants as faults
+use Rattle.cfn_model.specs.declared.reading.Kind.{Kind}
+use Rattle.cfn_model.specs.declared.reading.Kind.TheVariants.{Short, NotNumber, TooLarge, NoVariables, NegativeCount, EmptyDomain, IntervalDomain, DomainTooLarge, NegativeCost, Keyword, SharedTable, VariableOutOfRange, RepeatedVariable, ValueOutOfRange, TableTooWide, TooMany}
+use Rattle.cfn_model.specs.declared.reading.Refusal.{Refusal}
+use Rattle.cfn_model.specs.Network.{Function, Network, cells, dims, function_of}
+use Rattle.cfn_model.specs.Words.{words, number_of}
+
+-- The words that are left, and the ordinal of the next one.
+pub record At : Type 0 where
+  pub words : List (List ℕ)
+  pub next : ℕ
+
+-- What is read is a value and the words after it, or the first refusal.
+infixl 10 ◌>>=◌
+abbrev pub ◌>>=◌ : {A B : Type 0} → Result A Refusal → (A → Result B Refusal) → Result B Refusal
+(Ok x) >>= f = f x
+(Err e) >>= f = Err e
+
+-- A value, unless a check failed at the word with this ordinal.
+abbrev pub unless_refused : {A : Type 0} → Option Kind → ℕ → A → Result A Refusal
+unless_refused None n x = Ok x
+unless_refused (Some kind) n x = Err (record { kind = kind; ordinal = n })
+
+abbrev pub first_word : List (List ℕ) → ℕ → Result (List ℕ × At) Refusal
+first_word [] n = Err (record { kind = Short; ordinal = n })
+first_word (word ∷ rest) n = Ok (word, record { words = rest; next = n + 1 })
+
+-- The next word.
+abbrev pub word_at : At → Result (List ℕ × At) Refusal
+word_at s = first_word s.words s.next
+
+-- A number, with the word's ordinal where it is none.
+abbrev pub number_in : Result ℤ NumberFault → ℕ → Result ℤ Refusal
+number_in (Ok z) n = Ok z
+number_in (Err faults.NotNumber) n = Err (record { kind = NotNumber; ordinal = n })
+number_in (Err faults.TooLarge) n = Err (record { kind = TooLarge; ordinal = n })
+
+-- The next word as a number that passes the checks of its place.
+unfoldable pub natural_at : (ℤ → Option Kind) → At → Result (ℕ × At) Refusal
+natural_at check s = do
+  word ← word_at s
+  z ← number_in (number_of word.0) s.next
+  unless_refused (check z) s.next (unsigned_abs z, word.1)
+
+-- The checks of each place.
+abbrev pub check_variables : ℤ → Option Kind
+check_variables z = if int_lt z (pos 1) then Some NoVariables else (if int_lt (pos 1048576) z then Some TooMany else None)
+
+abbrev pub check_size : ℤ → Option Kind
+check_size z = if int_lt z (pos 0) then Some IntervalDomain else (if int_lt z (pos 1) then Some EmptyDomain else None)
+
+abbrev pub check_functions : ℤ → Option Kind
+check_functions z = if int_lt z (pos 0) then Some NegativeCount else (if int_lt (pos 1048576) z then Some TooMany else None)
+
+abbrev pub check_cost : ℤ → Option Kind
+check_cost z = if int_lt z (pos 0) then Some NegativeCost else None
+
+abbrev pub check_domain : ℤ → Option Kind
+check_domain z =
+    if int_lt z (pos 0) then Some IntervalDomain
+    else (if int_lt z (pos 1) then Some EmptyDomain else (if int_lt (pos 4096) z then Some DomainTooLarge else None))
+
+abbrev pub check_arity : ℤ → Option Kind
+check_arity z = if int_lt z (pos 0) then Some SharedTable else None
+
+-- A scope's next variable, behind those that the scope has so far.
+abbrev pub check_variable : List ℕ → List ℕ → ℤ → Option Kind
+check_variable sizes scope z =
+    if int_lt z (pos 0) || int_lt (pos (length sizes)) (pos (suc (unsigned_abs z))) then Some VariableOutOfRange
+    else (if list_any (λ x. x == unsigned_abs z) scope then Some RepeatedVariable
+    else (if nat_lt 4194304 (cells (dims sizes scope) * slice_index sizes (unsigned_abs z)) then Some TableTooWide else None))
+
+-- A default cost, where the functions so far, this one included, have so many cells.
+abbrev pub check_default : ℕ → ℤ → Option Kind
+check_default all_cells z =
+    if int_lt (negsuc 1) z && int_lt z (pos 0) then Some Keyword
+    else (if int_lt z (pos 0) then Some NegativeCost else (if nat_lt 67108864 all_cells then Some TooMany else None))
+
+abbrev pub check_count : ℤ → Option Kind
+check_count z = if int_lt z (pos 0) then Some SharedTable else (if int_lt (pos 67108864) z then Some TooMany else None)
+
+abbrev pub check_value : ℕ → ℤ → Option Kind
+check_value size z = if int_lt z (pos 0) || int_lt (pos size) (pos (suc (unsigned_abs z))) then Some ValueOutOfRange else None
+
+-- So many domain sizes.
+unfoldable pub sizes_at : ℕ → At → Result (List ℕ × At) Refusal
+sizes_at zero s = Ok ([], s)
+sizes_at (suc n) s = do
+  size ← natural_at check_domain s
+  sizes ← sizes_at n size.1
+  Ok (size.0 ∷ sizes.0, sizes.1)
+
+-- So many more variables of a scope.
+unfoldable pub scope_from : List ℕ → List ℕ → ℕ → At → Result (List ℕ × At) Refusal
+scope_from sizes scope zero s = Ok (scope, s)
+scope_from sizes scope (suc n) s = do
+  x ← natural_at (check_variable sizes scope) s
+  scope_from sizes (scope ++ x.0 ∷ []) n x.1
+
+-- A tuple's values, one for each of these domain sizes.
+unfoldable pub tuple_at : List ℕ → At → Result (List ℕ × At) Refusal
+tuple_at [] s = Ok ([], s)
+tuple_at (size ∷ sizes) s = do
+  value ← natural_at (check_value size) s
+  values ← tuple_at sizes value.1
+  Ok (value.0 ∷ values.0, values.1)
+
+-- A tuple with its cost.
+unfoldable pub listing_at : List ℕ → At → Result ((List ℕ × ℕ) × At) Refusal
+listing_at sizes s = do
+  tuple ← tuple_at sizes s
+  amount ← natural_at check_cost tuple.1
+  Ok ((tuple.0, amount.0), amount.1)
+
+-- So many listings.
+unfoldable pub listings_at : List ℕ → ℕ → At → Result (List (List ℕ × ℕ) × At) Refusal
+listings_at sizes zero s = Ok ([], s)
+listings_at sizes (suc n) s = do
+  listing ← listing_at sizes s
+  listings ← listings_at sizes n listing.1
+  Ok (listing.0 ∷ listings.0, listings.1)
+
+-- A cost function, behind functions that have so many cells.
+unfoldable pub function_from : List ℕ → ℕ → ℕ → At → Result (Function × At) Refusal
+function_from sizes upper so_far s = do
+  arity ← natural_at check_arity s
+  scope ← scope_from sizes [] arity.0 arity.1
+  default ← natural_at (check_default (so_far + cells (dims sizes scope.0))) scope.1
+  count ← natural_at check_count default.1
+  listings ← listings_at (dims sizes scope.0) count.0 count.1
+  Ok (function_of sizes upper scope.0 default.0 listings.0, listings.1)
+
+-- So many cost functions, behind functions that have so many cells.
+unfoldable pub functions_from : List ℕ → ℕ → ℕ → ℕ → At → Result (List Function × At) Refusal
+functions_from sizes upper so_far zero s = Ok ([], s)
+functions_from sizes upper so_far (suc n) s = do
+  f ← function_from sizes upper so_far s
+  fs ← functions_from sizes upper (so_far + cells (dims sizes f.0.scope)) n f.1
+  Ok (f.0 ∷ fs.0, fs.1)
+
+-- A network: its name, the number of variables, the greatest domain size (which is not used), the number of
+-- functions, the upper bound, the domain sizes, and the functions. What follows is not looked at.
+unfoldable pub network_at : At → Result Network Refusal
+network_at s = do
+  name ← word_at s
+  variables ← natural_at check_variables name.1
+  widest ← natural_at check_size variables.1
+  functions ← natural_at check_functions widest.1
+  upper ← natural_at check_cost functions.1
+  sizes ← sizes_at variables.0 upper.1
+  fs ← functions_from sizes.0 upper.0 0 functions.0 sizes.1
+  Ok (record { name = name.0; sizes = sizes.0; upper = upper.0; functions = fs.0 })
+
+-- What a file's bytes read as.
+abbrev pub reading : List ℕ → Result Network Refusal
+reading bytes = network_at (record { words = words bytes; next = 1 })
+
+-- The bytes read as this network.
+abbrev pub Reads : List ℕ → Network → Type 0
+Reads bytes P = reading bytes ≡ Ok P
+
+-- The first word that fails is the one with this ordinal, and fails this check.
+abbrev pub Refuses : List ℕ → Refusal → Type 0
+Refuses bytes refusal = reading bytes ≡ Err refusal
