@@ -19,11 +19,20 @@ pub enum Step {
         amount: u64,
     },
     /// Moves `amount` from the unary cost of each value of `variable` to the floor (unary project).
-    Lift { variable: u32, amount: u64 },
+    Lift {
+        variable: u32,
+        amount: u64,
+    },
     /// Takes `value` from `variable`.
-    CutValue { variable: u32, value: u32 },
+    CutValue {
+        variable: u32,
+        value: u32,
+    },
     /// Takes the tuple of `function` with the number `cell`.
-    CutTuple { function: u32, cell: u32 },
+    CutTuple {
+        function: u32,
+        cell: u32,
+    },
 }
 
 /// What happens along a path from the root: a step, or a decision of a split.
