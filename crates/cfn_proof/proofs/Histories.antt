@@ -1,0 +1,262 @@
+-- Which history stands before a node, and what a split or a closing of an open leaf adds to a tree.
+use Rattle.std.proofs.Common.{◌≡◌, ◌≢◌, ℕ, zero, suc, ◌+◌, ◌-◌, ◌<◌, ◌≤◌, ◌⊎◌, inl, inr, List, [], ◌∷◌, ◌++◌, length, drop, Option, Some, None, refl, sym, ap, ◌∙◌, subst, arith, append_assoc, length-append}
+use Rattle.std.proofs.lemmas.Bool.{cases_eq, cases_lt}
+use Rattle.std.specs.Prelude.{Bool, true, false, ◌||◌, ◌==◌, IsTrue}
+use Rattle.cfn_model.specs.declared.step.Step.{Step}
+use Rattle.cfn_model.specs.declared.step.Event.{Event}
+use Rattle.cfn_model.specs.declared.step.Event.TheVariants.{Did, Is, IsNot}
+use Rattle.cfn_model.specs.Steps.{after}
+use Rattle.cfn_model.specs.Tree as trees
+use Rattle.cfn_model.specs.Tree.{count}
+use Rattle.cfn_proof.specs.declared.tree.NodeId.{NodeId}
+use Rattle.cfn_proof.specs.declared.tree.End.{End}
+use Rattle.cfn_proof.specs.declared.tree.End.TheVariants.{Free, Shut, Split}
+use Rattle.cfn_proof.specs.declared.tree.Node.{Node}
+use Rattle.cfn_proof.specs.Nodes.{node_at, names_child, open_node, tree_at, tree_of, with_children, IsLinked, IsFamily, IsFree, Before, at_root, at_first, at_second, split_at, split_end, close_at}
+use Rattle.cfn_proof.specs.Local.{IsNewChild, BeforeSplitLaw, BeforeCloseLaw, BeforeOnceLaw, BeforeSomeLaw, CountSplitLaw, CountCloseLaw}
+use Rattle.cfn_proof.proofs.TreeLemmas.{tree_at_is, from_last}
+use Rattle.cfn_proof.proofs.Growth.{Changed, IsOf, before_old, before_new, changed_by_split, changed_by_close, split_numbers, split_at-same, split_at-first, split_at-second, length-split_at, close_at-same, length-close_at, linked_by_split, linked_by_close}
+
+-- the kinds of what stands before a node, by the node's parent
+record Side (nodes : List Node) (i : ℕ) (history : List Event) : Type 0 where
+  parent : ℕ
+  x : ℕ
+  a : ℕ
+  first : NodeId
+  second : NodeId
+  above : List Event
+  there : parent < length nodes
+  is : (node_at nodes parent).end ≡ Split x a first second
+  before : Before nodes parent above
+  knows : (node_at nodes i).parent ≡ Some (record { number = parent })
+  side : ((i ≡ first.number) × (history ≡ Is x a ∷ after (node_at nodes parent).block above)) ⊎ ((i ≡ second.number) × (history ≡ IsNot x a ∷ after (node_at nodes parent).block above))
+
+side_of : (nodes : List Node) (i : ℕ) (history : List Event) → IsLinked nodes → Before nodes i history → ((i ≡ 0) × (history ≡ [])) ⊎ Side nodes i history
+side_of nodes i history linked (at_root is_root is_empty) = inl (is_root, is_empty)
+side_of nodes i history linked (at_first parent x a first second above there is before is_child is_history) =
+    inr (record { parent = parent; x = x; a = a; first = first; second = second; above = above; there = there; is = is; before = before; knows = ap (λ m. (node_at nodes m).parent) is_child ∙ (linked.children parent x a first second there is).first_knows; side = inl (is_child, is_history) })
+side_of nodes i history linked (at_second parent x a first second above there is before is_child is_history) =
+    inr (record { parent = parent; x = x; a = a; first = first; second = second; above = above; there = there; is = is; before = before; knows = ap (λ m. (node_at nodes m).parent) is_child ∙ (linked.children parent x a first second there is).second_knows; side = inr (is_child, is_history) })
+
+same_parent : {p q : ℕ} {o : Option NodeId} → o ≡ Some (record { number = p }) → o ≡ Some (record { number = q }) → p ≡ q
+same_parent {p = p} {q = q} e f = let N : ℕ → NodeId = λ n. record { number = n } in let g : N p ≡ N q = cc in ap (λ (n : NodeId). n.number) g
+
+split_parts : {e : End} {x a y b : ℕ} {first second third fourth : NodeId} → e ≡ Split x a first second → e ≡ Split y b third fourth → (x ≡ y) × (a ≡ b) × (first ≡ third) × (second ≡ fourth)
+split_parts e f = ((cc), (cc), (cc), (cc))
+
+no_parent : {p : ℕ} {o : Option NodeId} → o ≡ None → o ≡ Some (record { number = p }) → ⊥
+no_parent e f = cc
+
+pub before_once : BeforeOnceLaw
+before_once nodes i history other linked (at_root is_root is_empty) second_way =
+    elim (side_of nodes i other linked second_way) [
+      | inl same ↦ is_empty ∙ sym same.1
+      | inr s ↦ absurd (no_parent (ap (λ m. (node_at nodes m).parent) is_root ∙ linked.root) s.knows)
+    ]
+before_once nodes i history other linked (at_first parent x a first second above there is before is_child is_history) second_way =
+    let family = linked.children parent x a first second there is in
+    elim (side_of nodes i other linked second_way) [
+      | inl same ↦ absurd (omega (arith, family.first_behind, same.0))
+      | inr s ↦
+          (let same : s.parent ≡ parent = same_parent s.knows (ap (λ m. (node_at nodes m).parent) is_child ∙ family.first_knows) in
+          let before' : Before nodes parent s.above = subst (λ p. Before nodes p s.above) same s.before in
+          let rest : above ≡ s.above = before_once nodes parent above s.above linked before before' in
+          let parts = split_parts is (subst (λ p. (node_at nodes p).end ≡ Split s.x s.a s.first s.second) same s.is) in
+          elim s.side [
+            | inl left ↦ is_history ∙ ap (λ p. Is x a ∷ after (node_at nodes p).block above) (sym same) ∙ ap (λ h. Is x a ∷ after (node_at nodes s.parent).block h) rest ∙ ap (λ y. Is y a ∷ after (node_at nodes s.parent).block s.above) parts.0 ∙ ap (λ b. Is s.x b ∷ after (node_at nodes s.parent).block s.above) parts.1 ∙ sym left.1
+            | inr right ↦ absurd (family.different (sym is_child ∙ right.0 ∙ ap (λ (n : NodeId). n.number) (sym parts.3)))
+          ])
+    ]
+before_once nodes i history other linked (at_second parent x a first second above there is before is_child is_history) second_way =
+    let family = linked.children parent x a first second there is in
+    elim (side_of nodes i other linked second_way) [
+      | inl same ↦ absurd (omega (arith, family.second_behind, same.0))
+      | inr s ↦
+          (let same : s.parent ≡ parent = same_parent s.knows (ap (λ m. (node_at nodes m).parent) is_child ∙ family.second_knows) in
+          let before' : Before nodes parent s.above = subst (λ p. Before nodes p s.above) same s.before in
+          let rest : above ≡ s.above = before_once nodes parent above s.above linked before before' in
+          let parts = split_parts is (subst (λ p. (node_at nodes p).end ≡ Split s.x s.a s.first s.second) same s.is) in
+          elim s.side [
+            | inl left ↦ absurd (family.different (ap (λ (n : NodeId). n.number) parts.2 ∙ sym left.0 ∙ is_child))
+            | inr right ↦ is_history ∙ ap (λ p. IsNot x a ∷ after (node_at nodes p).block above) (sym same) ∙ ap (λ h. IsNot x a ∷ after (node_at nodes s.parent).block h) rest ∙ ap (λ y. IsNot y a ∷ after (node_at nodes s.parent).block s.above) parts.0 ∙ ap (λ b. IsNot s.x b ∷ after (node_at nodes s.parent).block s.above) parts.1 ∙ sym right.1
+          ])
+    ]
+
+-- the leaf that was split keeps its block
+kept_block : (nodes : List Node) (i x a : ℕ) → i < length nodes → (node_at (split_at nodes i x a) i).block ≡ (node_at nodes i).block
+kept_block nodes i x a there = ap (λ (n : Node). n.block) (split_at-same nodes i x a there)
+
+pub before_split : BeforeSplitLaw
+before_split nodes i x a j history linked there free before =
+    let changed = changed_by_split nodes i x a there free in (
+      λ old. before_old nodes (split_at nodes i x a) i j history linked changed before old,
+      λ first.
+          let new = before_new nodes (split_at nodes i x a) i j history linked changed before (omega (arith, first)) in
+          let n = split_numbers (ap (λ (n : Node). n.end) (sym (split_at-same nodes i x a there)) ∙ new.is) in
+          elim new.side [
+            | inl left ↦ record { above = new.above; before = new.before; is = left.1 ∙ ap (λ y. Is y new.a ∷ after (node_at (split_at nodes i x a) i).block new.above) n.0 ∙ ap (λ b. Is x b ∷ after (node_at (split_at nodes i x a) i).block new.above) n.1 ∙ ap (λ b. Is x a ∷ after b new.above) (kept_block nodes i x a there) }
+            | inr right ↦ absurd (omega (arith, right.0, n.3, first))
+          ],
+      λ second.
+          let new = before_new nodes (split_at nodes i x a) i j history linked changed before (omega (arith, second)) in
+          let n = split_numbers (ap (λ (n : Node). n.end) (sym (split_at-same nodes i x a there)) ∙ new.is) in
+          elim new.side [
+            | inl left ↦ absurd (omega (arith, left.0, n.2, second))
+            | inr right ↦ record { above = new.above; before = new.before; is = right.1 ∙ ap (λ y. IsNot y new.a ∷ after (node_at (split_at nodes i x a) i).block new.above) n.0 ∙ ap (λ b. IsNot x b ∷ after (node_at (split_at nodes i x a) i).block new.above) n.1 ∙ ap (λ b. IsNot x a ∷ after b new.above) (kept_block nodes i x a there) }
+          ],
+    )
+
+-- a node that something stands before is there
+pub before_there : (nodes : List Node) (i : ℕ) (history : List Event) → IsLinked nodes → Before nodes i history → i < length nodes
+before_there nodes i history linked (at_root is_root is_empty) = omega (arith, linked.some, is_root)
+before_there nodes i history linked (at_first parent x a first second above there is before is_child is_history) = omega (arith, is_child, (linked.children parent x a first second there is).first_there)
+before_there nodes i history linked (at_second parent x a first second above there is before is_child is_history) = omega (arith, is_child, (linked.children parent x a first second there is).second_there)
+
+pub before_close : BeforeCloseLaw
+before_close nodes i block j history linked there free before =
+    before_old nodes (close_at nodes i block) i j history linked (changed_by_close nodes i block there free) before
+    (omega (arith, before_there (close_at nodes i block) j history (linked_by_close nodes i block linked there free) before, length-close_at nodes i block there))
+
+-- what a child's end names
+named : (e : End) (i : ℕ) → IsTrue (names_child e i) → (x : ℕ) × (a : ℕ) × (first : NodeId) × (second : NodeId) × (e ≡ Split x a first second) × ((first.number ≡ i) ⊎ (second.number ≡ i))
+named Free i h = absurd (let k : false ≡ true = h in cc)
+named Shut i h = absurd (let k : false ≡ true = h in cc)
+named (Split x a first second) i h =
+    (x, a, first, second, refl, elim (cases_eq first.number i) [ inl left ↦ inl left | inr other ↦ elim (cases_eq second.number i) [ inl right ↦ inr right | inr neither ↦ absurd (none_named first.number second.number i other neither h) ] ])
+  where
+    none_named : (f s i : ℕ) → f ≢ i → s ≢ i → IsTrue ((f == i) || (s == i)) → ⊥
+    none_named f s i p q h = grind arith
+
+-- a history before a node from one before its parent
+from_parent : (nodes : List Node) (linked : IsLinked nodes) (i : ℕ) (there : i < length nodes) → ((p : ℕ) → p < i → (history : List Event) × Before nodes p history) → (o : Option NodeId) → (node_at nodes i).parent ≡ o → (history : List Event) × Before nodes i history
+from_parent nodes linked i there above_of None is = ([], at_root (linked.only_root i there is) refl)
+from_parent nodes linked i there above_of (Some parent) is =
+    let up = linked.parents i parent there is in
+    let child = named (node_at nodes parent.number).end i up.1 in
+    let above = above_of parent.number up.0 in
+    elim child.5 [
+      | inl left ↦ (Is child.0 child.1 ∷ after (node_at nodes parent.number).block above.0, at_first parent.number child.0 child.1 child.2 child.3 above.0 (omega (arith, up.0)) child.4 above.1 (sym left) refl)
+      | inr right ↦ (IsNot child.0 child.1 ∷ after (node_at nodes parent.number).block above.0, at_second parent.number child.0 child.1 child.2 child.3 above.0 (omega (arith, up.0)) child.4 above.1 (sym right) refl)
+    ]
+
+some_from : (nodes : List Node) → IsLinked nodes → (m i : ℕ) → i < m → i < length nodes → (history : List Event) × Before nodes i history
+some_from nodes linked zero i small there = absurd (omega arith)
+some_from nodes linked (suc m) i small there =
+    from_parent nodes linked i there (λ p h. some_from nodes linked m p (omega arith) (omega arith)) (node_at nodes i).parent refl
+
+pub before_some : BeforeSomeLaw
+before_some nodes i linked there = some_from nodes linked (suc i) i (omega arith) there
+
+-- a history that another goes on from
+pub IsEnd : List Event → List Event → Type 0
+IsEnd early late = (front : List Event) × (late ≡ front ++ early)
+
+end_of_cons : (event : Event) (early late : List Event) → IsEnd (event ∷ early) late → IsEnd early late
+unfolding IsEnd
+end_of_cons event early late h = (h.0 ++ event ∷ [], h.1 ∙ sym (append_assoc h.0 (event ∷ []) early))
+
+end_of_after : (block : List Step) (early late : List Event) → IsEnd (after block early) late → IsEnd early late
+end_of_after [] early late h = h
+end_of_after (step ∷ block) early late h = end_of_cons (Did step) early late (end_of_after block (Did step ∷ early) late h)
+
+-- two lists that end alike in as many elements end in the same
+same_ends : (x y : Event) (xs front back : List Event) → front ++ x ∷ xs ≡ back ++ y ∷ xs → x ≡ y
+same_ends x y xs [] [] e = cc
+same_ends x y xs [] (b ∷ back) e = absurd (let l = ap length e in omega (arith, l, length-append back (y ∷ xs)))
+same_ends x y xs (f ∷ front) [] e = absurd (let l = ap length e in omega (arith, l, length-append front (x ∷ xs)))
+same_ends x y xs (f ∷ front) (b ∷ back) e = same_ends x y xs front back (cc)
+
+one_side : (x a : ℕ) (early late : List Event) → IsEnd (Is x a ∷ early) late → IsEnd (IsNot x a ∷ early) late → ⊥
+unfolding IsEnd
+one_side x a early late h k = let e : Is x a ≡ IsNot x a = same_ends (Is x a) (IsNot x a) early h.0 k.0 (sym h.1 ∙ k.1) in cc
+
+-- a subtree that the changed leaf is not in stays
+module _ (nodes new : List Node) (i : ℕ) (here : List Event) (linked : IsLinked nodes) (linked_new : IsLinked new) (changed : Changed nodes new i) (before_here : Before nodes i here) where
+  children_same : (j : ℕ) (history : List Event) (e : End) → j < length nodes → Before nodes j history → (node_at nodes j).end ≡ e → (IsEnd history here → ⊥) → ((c : ℕ) → j < c → c < length nodes → (h : List Event) → Before nodes c h → (IsEnd h here → ⊥) → tree_at new c ≡ tree_at nodes c) → with_children (node_at nodes j).block e (tree_at new) ≡ with_children (node_at nodes j).block e (tree_at nodes)
+  children_same j history Free there before is apart later = refl
+  children_same j history Shut there before is apart later = refl
+  children_same j history (Split x a first second) there before is apart later =
+      let family = linked.children j x a first second there is in
+      let left = later first.number family.first_behind family.first_there (Is x a ∷ after (node_at nodes j).block history) (at_first j x a first second history there is before refl refl) (λ h. apart (end_of_after (node_at nodes j).block history here (end_of_cons (Is x a) (after (node_at nodes j).block history) here h))) in
+      let right = later second.number family.second_behind family.second_there (IsNot x a ∷ after (node_at nodes j).block history) (at_second j x a first second history there is before refl refl) (λ h. apart (end_of_after (node_at nodes j).block history here (end_of_cons (IsNot x a) (after (node_at nodes j).block history) here h))) in
+      ap (λ t. trees.Split (node_at nodes j).block x a t (tree_at new second.number)) left ∙ ap (λ t. trees.Split (node_at nodes j).block x a (tree_at nodes first.number) t) right
+
+  at_leaf : (history : List Event) → Before nodes i history → IsEnd history here
+  unfolding IsEnd
+  at_leaf history before = ([], before_once nodes i here history linked before_here before)
+
+  pub apart_same : (j : ℕ) → j < length nodes → (history : List Event) → Before nodes j history → (IsEnd history here → ⊥) → tree_at new j ≡ tree_at nodes j
+  apart_same = from_last (length nodes) (λ j. (history : List Event) → Before nodes j history → (IsEnd history here → ⊥) → tree_at new j ≡ tree_at nodes j)
+      (λ j there later history before apart.
+      let other : j ≢ i = λ same. apart (at_leaf history (subst (λ m. Before nodes m history) same before)) in
+      let e : node_at new j ≡ node_at nodes j = changed.others j there other in
+      tree_at_is new j linked_new (omega (arith, changed.no_fewer))
+      ∙ ap (λ (n : Node). with_children n.block n.end (tree_at new)) e
+      ∙ children_same j history (node_at nodes j).end there before refl apart later
+      ∙ sym (tree_at_is nodes j linked there))
+
+  node_same : (j x a : ℕ) (first second : NodeId) → j < length nodes → (node_at nodes j).end ≡ Split x a first second → node_at new j ≡ node_at nodes j
+  node_same j x a first second there is = changed.others j there (λ same. split_not_free changed.free (subst (λ m. (node_at nodes m).end ≡ Split x a first second) same is))
+    where
+      split_not_free : {e : End} → e ≡ Free → e ≡ Split x a first second → ⊥
+      split_not_free h k = cc
+
+  as_split : (m : List Node) (j x a : ℕ) (first second : NodeId) → IsLinked m → j < length m → (node_at m j).end ≡ Split x a first second → tree_at m j ≡ trees.Split (node_at m j).block x a (tree_at m first.number) (tree_at m second.number)
+  as_split m j x a first second l there is = tree_at_is m j l there ∙ ap (λ e. with_children (node_at m j).block e (tree_at m)) is
+
+  -- one node more in a subtree is one more in the whole tree
+  pub counted_up : (j : ℕ) (history : List Event) → Before nodes j history → IsEnd history here → count (tree_at new j) ≡ count (tree_at nodes j) + 1 → count (tree_of new) ≡ count (tree_of nodes) + 1
+  counted_up j history (at_root is_root is_empty) end more = subst (λ m. count (tree_at new m) ≡ count (tree_at nodes m) + 1) is_root more
+  counted_up j history (at_first parent x a first second above there is before is_child is_history) end more =
+      let e = node_same parent x a first second there is in
+      let family = linked.children parent x a first second there is in
+      let h : IsEnd (Is x a ∷ after (node_at nodes parent).block above) here = subst (λ h. IsEnd h here) is_history end in
+      let same : tree_at new second.number ≡ tree_at nodes second.number =
+      apart_same second.number family.second_there (IsNot x a ∷ after (node_at nodes parent).block above) (at_second parent x a first second above there is before refl refl) (λ k. one_side x a (after (node_at nodes parent).block above) here h k) in
+      let up : IsEnd above here = end_of_after (node_at nodes parent).block above here (end_of_cons (Is x a) (after (node_at nodes parent).block above) here h) in
+      let old = ap count (as_split nodes parent x a first second linked there is) in
+      let now = ap count (as_split new parent x a first second linked_new (omega (arith, changed.no_fewer)) (ap (λ (n : Node). n.end) e ∙ is)) in
+      let m : count (tree_at new first.number) ≡ count (tree_at nodes first.number) + 1 = subst (λ c. count (tree_at new c) ≡ count (tree_at nodes c) + 1) is_child more in
+      counted_up parent above before up (omega (arith, old, now, m, ap count same))
+  counted_up j history (at_second parent x a first second above there is before is_child is_history) end more =
+      let e = node_same parent x a first second there is in
+      let family = linked.children parent x a first second there is in
+      let h : IsEnd (IsNot x a ∷ after (node_at nodes parent).block above) here = subst (λ h. IsEnd h here) is_history end in
+      let same : tree_at new first.number ≡ tree_at nodes first.number =
+      apart_same first.number family.first_there (Is x a ∷ after (node_at nodes parent).block above) (at_first parent x a first second above there is before refl refl) (λ k. one_side x a (after (node_at nodes parent).block above) here k h) in
+      let up : IsEnd above here = end_of_after (node_at nodes parent).block above here (end_of_cons (IsNot x a) (after (node_at nodes parent).block above) here h) in
+      let old = ap count (as_split nodes parent x a first second linked there is) in
+      let now = ap count (as_split new parent x a first second linked_new (omega (arith, changed.no_fewer)) (ap (λ (n : Node). n.end) e ∙ is)) in
+      let m : count (tree_at new second.number) ≡ count (tree_at nodes second.number) + 1 = subst (λ c. count (tree_at new c) ≡ count (tree_at nodes c) + 1) is_child more in
+      counted_up parent above before up (omega (arith, old, now, m, ap count same))
+
+leaf_count : (nodes : List Node) (i : ℕ) → IsLinked nodes → i < length nodes → IsFree nodes i → count (tree_at nodes i) ≡ 0
+leaf_count nodes i linked there free = ap count (tree_at_is nodes i linked there ∙ ap (λ e. with_children (node_at nodes i).block e (tree_at nodes)) free)
+
+itself : (history : List Event) → IsEnd history history
+unfolding IsEnd
+itself history = ([], refl)
+
+pub count_split : CountSplitLaw
+count_split nodes i x a linked there free room some =
+    let new = split_at nodes i x a in
+    let changed = changed_by_split nodes i x a there free in
+    let linked_new = linked_by_split nodes i x a linked there free room in
+    let len = length-split_at nodes i x a there in
+    let is : (node_at new i).end ≡ split_end x a (length nodes) = ap (λ (n : Node). n.end) (split_at-same nodes i x a there) in
+    let tree = ap count (tree_at_is new i linked_new (omega (arith, len)) ∙ ap (λ e. with_children (node_at new i).block e (tree_at new)) is) in
+    let left = leaf_count new (length nodes) linked_new (omega (arith, len)) (ap (λ (n : Node). n.end) (split_at-first nodes i x a there)) in
+    let right = leaf_count new (length nodes + 1) linked_new (omega (arith, len)) (ap (λ (n : Node). n.end) (split_at-second nodes i x a there)) in
+    counted_up nodes new i some.0 linked linked_new changed some.1 i some.0 some.1 (itself some.0)
+    (omega (arith, tree, left, right, leaf_count nodes i linked there free))
+
+pub count_close : CountCloseLaw
+count_close nodes i block linked there free some =
+    let new = close_at nodes i block in
+    let changed = changed_by_close nodes i block there free in
+    let linked_new = linked_by_close nodes i block linked there free in
+    let len = length-close_at nodes i block there in
+    let is : (node_at new i).end ≡ Shut = ap (λ (n : Node). n.end) (close_at-same nodes i block there) in
+    let tree = ap count (tree_at_is new i linked_new (omega (arith, len)) ∙ ap (λ e. with_children (node_at new i).block e (tree_at new)) is) in
+    counted_up nodes new i some.0 linked linked_new changed some.1 i some.0 some.1 (itself some.0)
+    (omega (arith, tree, leaf_count nodes i linked there free))

@@ -1,0 +1,5 @@
+pub mod TreeLemmas
+pub mod Growth
+pub mod Histories
+pub mod WholeTree
+pub mod Written

@@ -1,0 +1,14 @@
+use Rattle.cfn_proof.proofs.Histories.{before_split, before_close, before_once, before_some}
+use Rattle.cfn_proof.proofs.laws.same_before.Goals as goal
+
+pub returns-clause-split : goal.returns-clause-split
+returns-clause-split c = before_split
+
+pub returns-clause-close : goal.returns-clause-close
+returns-clause-close c = before_close
+
+pub returns-clause-once : goal.returns-clause-once
+returns-clause-once c = before_once
+
+pub returns-clause-some : goal.returns-clause-some
+returns-clause-some c = before_some

@@ -1,0 +1,86 @@
+-- What a whole tree has where each of its nodes has it. What a node must have depends on what stands before it.
+use Rattle.std.specs.Prelude.{◌≡◌, ◌≢◌, ℕ, ◌+◌, ◌<◌, ◌≤◌, ◌^◌, List, [], ◌∷◌, length}
+use Rattle.cfn_model.specs.declared.step.Step.{Step}
+use Rattle.cfn_model.specs.declared.step.Event.{Event}
+use Rattle.cfn_model.specs.declared.step.Event.TheVariants.{Is, IsNot}
+use Rattle.cfn_model.specs.Network.{Network}
+use Rattle.cfn_model.specs.Sums.{floor}
+use Rattle.cfn_model.specs.Steps.{IsValue, Run, after}
+use Rattle.cfn_model.specs.Tree.{CanClose, IsStrictSplit, Valid, Strict, OpenBelow, bound, count}
+use Rattle.cfn_proof.specs.declared.tree.End.{End}
+use Rattle.cfn_proof.specs.declared.tree.End.TheVariants.{Free, Shut, Split}
+use Rattle.cfn_proof.specs.declared.tree.Node.{Node}
+use Rattle.cfn_proof.specs.Nodes.{node_at, tree_of, IsLinked, IsFree, Before, split_at, close_at}
+
+-- A node's block runs after the history before it; a closed leaf may be closed there, and a split is in range.
+abbrev pub ValidNode : Network → List Event → List Step → End → ℕ → Type 0
+ValidNode P history block Free k = Run P history block k
+ValidNode P history block Shut k = Run P history block k × CanClose P (after block history) k
+ValidNode P history block (Split x a first second) k = Run P history block k × IsValue P x a
+
+pub record ValidNodes (P : Network) (nodes : List Node) (k : ℕ) : Type 0 where
+  pub each : (i : ℕ) (history : List Event) → i < length nodes → Before nodes i history → ValidNode P history (node_at nodes i).block (node_at nodes i).end k
+
+-- A split is strict after what stands before it.
+abbrev pub StrictNode : Network → List Event → List Step → End → Type 0
+StrictNode P history block Free = Unit {0}
+StrictNode P history block Shut = Unit {0}
+StrictNode P history block (Split x a first second) = IsStrictSplit P (after block history) x a
+
+pub record StrictNodes (P : Network) (nodes : List Node) : Type 0 where
+  pub each : (i : ℕ) (history : List Event) → i < length nodes → Before nodes i history → StrictNode P history (node_at nodes i).block (node_at nodes i).end
+
+-- Each open leaf has a floor of at least a number, or below it.
+pub record FloorsFrom (P : Network) (nodes : List Node) (low : ℕ) : Type 0 where
+  pub each : (i : ℕ) (history : List Event) → i < length nodes → IsFree nodes i → Before nodes i history → low ≤ floor P (after (node_at nodes i).block history)
+
+pub record FloorsBelow (P : Network) (nodes : List Node) (k : ℕ) : Type 0 where
+  pub each : (i : ℕ) (history : List Event) → i < length nodes → IsFree nodes i → Before nodes i history → floor P (after (node_at nodes i).block history) < k
+
+-- The tree is valid, or strict, where each node is.
+abbrev pub ValidLaw : Type 0
+ValidLaw = (P : Network) (nodes : List Node) (k : ℕ) → IsLinked nodes → ValidNodes P nodes k → Valid P [] (tree_of nodes) k
+
+abbrev pub StrictLaw : Type 0
+StrictLaw = (P : Network) (nodes : List Node) → IsLinked nodes → StrictNodes P nodes → Strict P [] (tree_of nodes)
+
+-- The tree's open leaves are below k, or its bound is at least a number, where each open leaf is.
+abbrev pub OpenBelowLaw : Type 0
+OpenBelowLaw = (P : Network) (nodes : List Node) (k : ℕ) → IsLinked nodes → FloorsBelow P nodes k → OpenBelow P [] (tree_of nodes) k
+
+abbrev pub BoundFromLaw : Type 0
+BoundFromLaw = (P : Network) (nodes : List Node) (low k : ℕ) → IsLinked nodes → low ≤ k → FloorsFrom P nodes low → low ≤ bound P [] (tree_of nodes) k
+
+-- The bound is at most the floor of each open leaf.
+abbrev pub BoundAtLaw : Type 0
+BoundAtLaw = (P : Network) (nodes : List Node) (k i : ℕ) (history : List Event) → IsLinked nodes → i < length nodes → IsFree nodes i → Before nodes i history → bound P [] (tree_of nodes) k ≤ floor P (after (node_at nodes i).block history)
+
+-- A split of an open leaf, and its closing, are one node more.
+abbrev pub CountSplitLaw : Type 0
+CountSplitLaw = (nodes : List Node) (i x a : ℕ) → IsLinked nodes → i < length nodes → IsFree nodes i → length nodes + 2 ≤ 2 ^ 32 → ((history : List Event) × Before nodes i history) → count (tree_of (split_at nodes i x a)) ≡ count (tree_of nodes) + 1
+
+abbrev pub CountCloseLaw : Type 0
+CountCloseLaw = (nodes : List Node) (i : ℕ) (block : List Step) → IsLinked nodes → i < length nodes → IsFree nodes i → ((history : List Event) × Before nodes i history) → count (tree_of (close_at nodes i block)) ≡ count (tree_of nodes) + 1
+
+-- After a split, what stands before a node is what stood before it, or a new child's.
+pub record IsNewChild (nodes : List Node) (i : ℕ) (decision : Event) (history : List Event) : Type 0 where
+  pub above : List Event
+  pub before : Before nodes i above
+  pub is : history ≡ decision ∷ after (node_at nodes i).block above
+
+abbrev pub BeforeSplitLaw : Type 0
+BeforeSplitLaw = (nodes : List Node) (i x a j : ℕ) (history : List Event) → IsLinked nodes → i < length nodes → IsFree nodes i → Before (split_at nodes i x a) j history →
+    (j < length nodes → Before nodes j history)
+    × (j ≡ length nodes → IsNewChild nodes i (Is x a) history)
+    × (j ≡ length nodes + 1 → IsNewChild nodes i (IsNot x a) history)
+
+-- After a closing, what stands before a node is what stood before it.
+abbrev pub BeforeCloseLaw : Type 0
+BeforeCloseLaw = (nodes : List Node) (i : ℕ) (block : List Step) (j : ℕ) (history : List Event) → IsLinked nodes → i < length nodes → IsFree nodes i → Before (close_at nodes i block) j history → Before nodes j history
+
+-- One history stands before a node, and some history does.
+abbrev pub BeforeOnceLaw : Type 0
+BeforeOnceLaw = (nodes : List Node) (i : ℕ) (history other : List Event) → IsLinked nodes → Before nodes i history → Before nodes i other → history ≡ other
+
+abbrev pub BeforeSomeLaw : Type 0
+BeforeSomeLaw = (nodes : List Node) (i : ℕ) → IsLinked nodes → i < length nodes → (history : List Event) × Before nodes i history

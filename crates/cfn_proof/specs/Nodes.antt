@@ -1,0 +1,86 @@
+-- What a list of nodes means as a tree.
+use Rattle.std.specs.Prelude.{◌≡◌, ℕ, ◌+◌, ◌-◌, ◌<◌, ◌≤◌, ◌^◌, List, [], ◌∷◌, ◌++◌, length, slice_index_or, slice_set, Bool, false, ◌||◌, ◌==◌, Option, Some, None, IsTrue}
+use Rattle.cfn_model.specs.declared.step.Step.{Step}
+use Rattle.cfn_model.specs.declared.step.Event.{Event}
+use Rattle.cfn_model.specs.declared.step.Event.TheVariants.{Is, IsNot}
+use Rattle.cfn_model.specs.Network.{Network}
+use Rattle.cfn_model.specs.Steps.{IsValue, Run, after}
+use Rattle.cfn_model.specs.Tree as trees
+use Rattle.cfn_proof.specs.declared.tree.NodeId.{NodeId}
+use Rattle.cfn_proof.specs.declared.tree.End.{End}
+use Rattle.cfn_proof.specs.declared.tree.End.TheVariants.{Free, Shut, Split}
+use Rattle.cfn_proof.specs.declared.tree.Node.{Node}
+
+-- An open leaf with an empty block, and the node with a number, where there is one.
+abbrev pub open_node : Option NodeId → Node
+open_node parent = record { parent = parent; block = []; end = Free }
+
+abbrev pub node_at : List Node → ℕ → Node
+node_at nodes i = slice_index_or nodes i (open_node None)
+
+-- A node as a tree, over the trees of what its children's numbers name.
+abbrev pub with_children : List Step → End → (ℕ → trees.Tree) → trees.Tree
+with_children block Free child = trees.Open block
+with_children block Shut child = trees.Closed block
+with_children block (Split x a first second) child = trees.Split block x a (child first.number) (child second.number)
+
+-- The trees of the nodes from the number base on, each made of trees behind it.
+abbrev pub trees_from : ℕ → List Node → List trees.Tree
+trees_from base [] = []
+trees_from base (node ∷ nodes) =
+    with_children node.block node.end (λ i. slice_index_or (trees_from (base + 1) nodes) (i - (base + 1)) (trees.Open [])) ∷ trees_from (base + 1) nodes
+
+-- The tree that begins at a node, and the whole tree.
+abbrev pub tree_at : List Node → ℕ → trees.Tree
+tree_at nodes i = slice_index_or (trees_from 0 nodes) i (trees.Open [])
+
+abbrev pub tree_of : List Node → trees.Tree
+tree_of nodes = tree_at nodes 0
+
+-- Whether a node's end names a child.
+abbrev pub names_child : End → ℕ → Bool
+names_child Free i = false
+names_child Shut i = false
+names_child (Split x a first second) i = (first.number == i) || (second.number == i)
+
+-- The children of a node stand behind it, differ, and know it as their parent.
+pub record IsFamily (nodes : List Node) (i first second : ℕ) : Type 0 where
+  pub first_behind : i < first
+  pub first_there : first < length nodes
+  pub second_behind : i < second
+  pub second_there : second < length nodes
+  pub different : first ≡ second → ⊥
+  pub first_knows : (node_at nodes first).parent ≡ Some (record { number = i })
+  pub second_knows : (node_at nodes second).parent ≡ Some (record { number = i })
+
+-- Parents and children know each other, and a parent stands before its children.
+pub record IsLinked (nodes : List Node) : Type 0 where
+  pub some : 0 < length nodes
+  pub few : length nodes ≤ 2 ^ 32
+  pub root : (node_at nodes 0).parent ≡ None
+  pub only_root : (i : ℕ) → i < length nodes → (node_at nodes i).parent ≡ None → i ≡ 0
+  pub children : (i x a : ℕ) (first second : NodeId) → i < length nodes → (node_at nodes i).end ≡ Split x a first second → IsFamily nodes i first.number second.number
+  pub parents : (i : ℕ) (parent : NodeId) → i < length nodes → (node_at nodes i).parent ≡ Some parent → (parent.number < i) × IsTrue (names_child (node_at nodes parent.number).end i)
+
+-- What stands before a node's block, the newest event first: nothing before the root's; before a child's what stands
+-- before its parent's end, and the decision.
+pub data Before (nodes : List Node) : ℕ → List Event → Type 0 where
+  at_root : {i : ℕ} {history : List Event} → i ≡ 0 → history ≡ [] → Before nodes i history
+  at_first : {i : ℕ} {history : List Event} (parent x a : ℕ) (first second : NodeId) (above : List Event) → parent < length nodes → (node_at nodes parent).end ≡ Split x a first second → Before nodes parent above → i ≡ first.number → history ≡ Is x a ∷ after (node_at nodes parent).block above → Before nodes i history
+  at_second : {i : ℕ} {history : List Event} (parent x a : ℕ) (first second : NodeId) (above : List Event) → parent < length nodes → (node_at nodes parent).end ≡ Split x a first second → Before nodes parent above → i ≡ second.number → history ≡ IsNot x a ∷ after (node_at nodes parent).block above → Before nodes i history
+
+-- A leaf split by a decision, its children put behind all nodes.
+abbrev pub split_end : ℕ → ℕ → ℕ → End
+split_end x a n = Split x a (record { number = n }) (record { number = n + 1 })
+
+abbrev pub split_at : List Node → ℕ → ℕ → ℕ → List Node
+split_at nodes i x a =
+    slice_set nodes i (record (node_at nodes i) { end = split_end x a (length nodes) }) ++ open_node (Some (record { number = i })) ∷ open_node (Some (record { number = i })) ∷ []
+
+-- A leaf closed behind a block.
+abbrev pub close_at : List Node → ℕ → List Step → List Node
+close_at nodes i block = slice_set nodes i (record (node_at nodes i) { block = block; end = Shut })
+
+-- A node is an open leaf.
+abbrev pub IsFree : List Node → ℕ → Type 0
+IsFree nodes i = (node_at nodes i).end ≡ Free

@@ -1,0 +1,30 @@
+//! Laws of trees: what a whole tree has where each of its nodes has it, and what a split or a closing changes.
+
+ghost use Rattle.cfn_proof.specs.Local.{ValidLaw, StrictLaw, OpenBelowLaw, BoundFromLaw, BoundAtLaw, CountSplitLaw, CountCloseLaw, BeforeSplitLaw, BeforeCloseLaw, BeforeOnceLaw, BeforeSomeLaw};
+
+/// A tree is valid at a threshold, or strict, where each of its nodes is after what stands before it.
+pub fn valid_where_nodes_are()
+    ensures valid { ValidLaw }
+    ensures strict { StrictLaw }
+{}
+
+/// The floors of the open leaves decide whether they are below a threshold, and what a tree's bound is.
+pub fn bound_where_floors_are()
+    ensures below { OpenBelowLaw }
+    ensures from { BoundFromLaw }
+    ensures at { BoundAtLaw }
+{}
+
+/// A split or a closing of an open leaf adds one to the number of splits and closed leaves.
+pub fn one_node_more()
+    ensures split { CountSplitLaw }
+    ensures close { CountCloseLaw }
+{}
+
+/// What stands before a node stays where another leaf is split or closed.
+pub fn same_before()
+    ensures split { BeforeSplitLaw }
+    ensures close { BeforeCloseLaw }
+    ensures once { BeforeOnceLaw }
+    ensures some { BeforeSomeLaw }
+{}

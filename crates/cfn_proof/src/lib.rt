@@ -1,0 +1,15 @@
+//! What a search leaves as its proof: blocks of steps, paths, and trees of blocks.
+//!
+//! A tree is a list of nodes. What such a list means as a tree is defined in specs/Nodes.antt; specs/Local.antt
+//! says what a whole tree has where each of its nodes has it, and `laws` carries those statements.
+#![tactic(auto)]
+
+mod block;
+pub mod laws;
+mod path;
+mod tree;
+
+pub use block::Block;
+pub use cfn_model::{Event, Row, Step};
+pub use path::Path;
+pub use tree::{End, Node, NodeId, Tree};

@@ -1,0 +1,187 @@
+//! A search tree, kept as a list of nodes in which every node stands behind its parent.
+//!
+//! So a tree is walked without recursion and without memory, and no drop is deep. Nodes are only added, and an
+//! open leaf may become a split or a closed leaf.
+
+ghost use Rattle.std.specs.Prelude.{◌≡◌, ◌+◌, ◌<◌, ◌≤◌, [], ◌∷◌, length, None, IfOk, OnOk, OnErr};
+ghost use Rattle.cfn_proof.specs.Nodes.{IsFree, IsLinked, node_at, open_node, split_at, close_at};
+
+use crate::block::Block;
+use std::alloc::{AllocError, Global};
+use std::marker::Model;
+
+/// The number of a node in its tree. The root has number 0.
+#[derive(Clone, Copy, Debug, PartialEq, Eq)]
+pub struct NodeId {
+    pub number: u32,
+}
+
+/// How a node ends.
+#[derive(Clone, Copy, Debug, PartialEq, Eq)]
+pub enum End {
+    /// An open leaf.
+    Free,
+    /// A closed leaf.
+    Shut,
+    /// A split: in the first child `variable` has `value`, in the second another value.
+    Split {
+        variable: u32,
+        value: u32,
+        first: NodeId,
+        second: NodeId,
+    },
+}
+
+/// A node: its parent, the block of steps before its end, and its end.
+#[derive(Drop)]
+pub struct Node {
+    pub parent: Option<NodeId>,
+    pub block: Block,
+    pub end: End,
+}
+
+impl Node {
+    /// An open leaf with an empty block. It takes no memory.
+    fn open(alloc: Global, parent: Option<NodeId>) -> Node
+        ensures { result ≡ open_node parent }
+    {
+        Node {
+            parent,
+            block: Block::new(alloc),
+            end: End::Free,
+        }
+    }
+}
+
+/// A search tree of at most 4,294,967,296 nodes. Contracts see the list of its nodes.
+#[derive(Drop)]
+pub struct Tree {
+    nodes: Vec<Node>,
+}
+
+impl Model for Tree {
+    ghost use Rattle.std.specs.Prelude.{List};
+    ghost use Rattle.cfn_proof.specs.declared.tree.Node.{Node};
+
+    ghost Value = { List Node };
+
+    ghost use Rattle.cfn_proof.specs.Nodes.{IsLinked};
+
+    ghost view = { λ t. t.nodes.items };
+
+    ghost invariant = { λ t. IsLinked t.nodes.items };
+}
+
+impl Tree {
+    /// The root's number.
+    pub const ROOT: NodeId = NodeId { number: 0 };
+
+    /// How many nodes a tree may have.
+    const MOST: usize = 4294967296;
+
+    /// One open leaf with an empty block. An `Err` is want of memory.
+    pub fn new(alloc: Global) -> Result<Tree, AllocError>
+        ensures { IfOk result (λ tree. tree ≡ open_node None ∷ []) }
+    {
+        let mut nodes = Vec::new(alloc);
+        nodes.push(Node::open(alloc, None))?;
+        Ok(Tree { nodes })
+    }
+
+    /// Parents and children of a tree know each other, and a parent has a smaller number than its children.
+    pub fn linked(&self)
+        ensures { IsLinked self.now }
+    {
+        let _ = &self.nodes;
+    }
+
+    /// How many nodes there are. It takes no memory.
+    pub fn len(&self) -> usize
+        ensures { result ≡ length self.now }
+    {
+        self.nodes.len()
+    }
+
+    /// A node that is there. It takes no memory.
+    pub fn node(&self, id: NodeId) -> &Node
+        requires { id.number < length self.now }
+        ensures { result.now ≡ node_at self.now id.number }
+    {
+        &self.nodes[id.number as usize]
+    }
+
+    /// Splits an open leaf, behind its block, and answers its children: in the first `variable` has `value`, in the
+    /// second another value. They are open leaves with empty blocks. An `Err`, want of memory, leaves the tree as
+    /// it was; a tree that has no number left for a child counts as that.
+    pub fn split(
+        &mut self,
+        leaf: NodeId,
+        variable: u32,
+        value: u32,
+    ) -> Result<(NodeId, NodeId), AllocError>
+        requires there { leaf.number < length self.old }
+        requires free { IsFree self.old leaf.number }
+        ensures ok { OnOk result (self.new ≡ split_at self.old leaf.number variable value) }
+        ensures children { IfOk result (λ c. (c.0.number ≡ length self.old) × (c.1.number ≡ length self.old + 1)) }
+        ensures err { OnErr result (self.new ≡ self.old) }
+    {
+        let next = self.nodes.len();
+        if next > Tree::MOST - 2 {
+            return Err(AllocError);
+        }
+        let first = NodeId {
+            number: next as u32,
+        };
+        let second = NodeId {
+            number: (next + 1) as u32,
+        };
+        self.nodes.reserve(2)?;
+        let alloc = *self.nodes.allocator();
+        let node = &mut self.nodes[leaf.number as usize];
+        node.end = End::Split {
+            variable,
+            value,
+            first,
+            second,
+        };
+        self.nodes.push_reserved(Node::open(alloc, Some(leaf)));
+        self.nodes.push_reserved(Node::open(alloc, Some(leaf)));
+        Ok((first, second))
+    }
+
+    /// Closes an open leaf behind a block, which takes the place of the leaf's own. It takes no memory.
+    pub fn close(&mut self, leaf: NodeId, block: Block)
+        requires there { leaf.number < length self.old }
+        requires free { IsFree self.old leaf.number }
+        ensures { self.new ≡ close_at self.old leaf.number block }
+    {
+        let node = &mut self.nodes[leaf.number as usize];
+        node.block = block;
+        node.end = End::Shut;
+    }
+
+    /// Closes an open leaf behind its own block. It takes no memory.
+    pub fn shut(&mut self, leaf: NodeId)
+        requires there { leaf.number < length self.old }
+        requires free { IsFree self.old leaf.number }
+        ensures { self.new ≡ close_at self.old leaf.number (node_at self.old leaf.number).block }
+    {
+        let node = &mut self.nodes[leaf.number as usize];
+        node.end = End::Shut;
+    }
+
+    /// The same tree, or want of memory.
+    pub fn copy(&self, alloc: Global) -> Result<Tree, AllocError>
+        ensures { IfOk result (λ tree. tree ≡ self.now) }
+    {
+        let mut nodes = Vec::new(alloc);
+        for node in &self.nodes {
+            nodes.push(Node {
+                parent: node.parent,
+                block: node.block.copy(alloc)?,
+                end: node.end,
+            })?;
+        }
+        Ok(Tree { nodes })
+    }
+}
