@@ -1,16 +1,178 @@
 -- Small networks whose reading, refusals, costs, sums and certificates are known, as theorems that compute.
-use Rattle.std.proofs.Common.{◌≡◌, ℕ, List, [], ◌∷◌, refl}
-use Rattle.std.specs.Prelude.{codes, Ok, Err, Some, None, pos}
+use Rattle.std.proofs.Common.{◌≡◌, ℕ, suc, List, [], ◌∷◌, refl, arith, lit<, lit≤, inl}
+use Rattle.std.proofs.lemmas.Int.{ints}
+use Rattle.std.specs.Fmt.{digits}
+use Rattle.std.specs.Prelude.{codes, Some, None, pos, ◌≤ℤ◌, ◌≤◌, zero}
+use Rattle.cfn_model.specs.declared.step.Step.TheVariants.{Project, Lift}
+use Rattle.cfn_model.specs.declared.step.Event.TheVariants.{Did}
+use Rattle.cfn_model.specs.declared.step.Event.{Event}
+use Rattle.cfn_model.specs.declared.step.Step.{Step}
 use Rattle.cfn_model.specs.declared.reading.Kind.TheVariants.{Short, NotNumber, TooLarge, IntervalDomain, Keyword, RepeatedVariable, TableTooWide}
-use Rattle.cfn_model.specs.Network.{Network, cost, total}
-use Rattle.cfn_model.specs.Reading.{Reads, Refuses, reading, natural_at, sizes_at, scope_from, tuple_at, listing_at, listings_at, function_from, functions_from, network_at}
+use Rattle.cfn_model.specs.Network.{Function, Network, cost}
+use Rattle.cfn_model.specs.Sums.{floor, unary, residual}
+use Rattle.cfn_model.specs.Steps.{CanProject, CanLift}
+use Rattle.cfn_model.specs.Tree.{Open, Closed}
+use Rattle.cfn_model.specs.Certificate.{Certificate, Good}
+use Rattle.cfn_model.specs.Text.{spelling}
+use Rattle.cfn_model.specs.Reading.{Reads, Refuses, natural_at, sizes_at, scope_from, tuple_at, listing_at, listings_at, function_from, functions_from, network_at}
 
-pub tiny_file : List ℕ
-tiny_file = codes "tiny 1 2 1 10\n2\n1 0 3 1\n1 1"
+-- a function as a row of its scope, its default and its entries
+abbrev row : List ℕ → ℕ → List ℕ → Function
+row scope default entries = record { scope = scope; default = default; entries = entries }
 
-unfoldable pub tiny : Network
-tiny = record { name = codes "tiny"; sizes = 2 ∷ []; upper = 10; functions = record { scope = 0 ∷ []; default = 3; entries = 3 ∷ 1 ∷ [] } ∷ [] }
+abbrev tiny : Network
+tiny = record { name = codes "tiny"; sizes = 2 ∷ []; upper = 10; functions = row (0 ∷ []) 3 (3 ∷ 1 ∷ []) ∷ [] }
 
-pub tiny_reads : Reads (codes "tiny 1 2 1 10\n2\n1 0 3 1\n1 1\n") tiny
-unfolding tiny natural_at sizes_at scope_from tuple_at listing_at listings_at function_from functions_from network_at
+abbrev tiny_file : List ℕ
+tiny_file = codes "tiny 1 2 1 10\n2\n1 0 3 1\n1 1\n"
+
+pub tiny_reads : Reads tiny_file tiny
+unfolding natural_at sizes_at scope_from tuple_at listing_at listings_at function_from functions_from network_at
 tiny_reads = refl
+
+pub hard_reads : Reads (codes "hard 2 2 1 5\n2 2\n2 0 1 5 0\n") (record { name = codes "hard"; sizes = 2 ∷ 2 ∷ []; upper = 5; functions = row (0 ∷ 1 ∷ []) 5 (5 ∷ 5 ∷ 5 ∷ 5 ∷ []) ∷ [] })
+unfolding natural_at sizes_at scope_from tuple_at listing_at listings_at function_from functions_from network_at
+hard_reads = refl
+
+pub const_reads : Reads (codes "const 1 2 1 10\n2\n0 4 0\n") (record { name = codes "const"; sizes = 2 ∷ []; upper = 10; functions = row [] 4 (4 ∷ []) ∷ [] })
+unfolding natural_at sizes_at scope_from tuple_at listing_at listings_at function_from functions_from network_at
+const_reads = refl
+
+-- a tuple that is listed twice has the cost of its last listing
+abbrev twice : Network
+twice = record { name = codes "twice"; sizes = 2 ∷ []; upper = 100; functions = row (0 ∷ []) 9 (2 ∷ 9 ∷ []) ∷ [] }
+
+pub twice_reads : Reads (codes "twice 1 2 1 100\n2\n1 0 9 2\n0 5\n0 2\n") twice
+unfolding natural_at sizes_at scope_from tuple_at listing_at listings_at function_from functions_from network_at
+twice_reads = refl
+
+pub twice_costs : cost twice (0 ∷ []) ≡ 2
+twice_costs = refl
+
+-- costs add up to at most the upper bound
+abbrev top : Network
+top = record { name = codes "top"; sizes = 1 ∷ []; upper = 9223372036854775807; functions = row (0 ∷ []) 9223372036854775807 (9223372036854775807 ∷ []) ∷ row (0 ∷ []) 9223372036854775807 (9223372036854775807 ∷ []) ∷ [] }
+
+pub top_reads : Reads (codes "top 1 1 2 9223372036854775807\n1\n1 0 9223372036854775807 0\n1 0 9223372036854775807 0\n") top
+unfolding natural_at sizes_at scope_from tuple_at listing_at listings_at function_from functions_from network_at
+top_reads = refl
+
+pub top_costs : cost top (0 ∷ []) ≡ 9223372036854775807
+top_costs = refl
+
+-- three variables, of which each two should differ
+abbrev tri : Network
+tri = record { name = codes "tri"; sizes = 2 ∷ 2 ∷ 2 ∷ []; upper = 10; functions = row (0 ∷ 1 ∷ []) 0 (1 ∷ 0 ∷ 0 ∷ 1 ∷ []) ∷ row (0 ∷ 2 ∷ []) 0 (1 ∷ 0 ∷ 0 ∷ 1 ∷ []) ∷ row (1 ∷ 2 ∷ []) 0 (1 ∷ 0 ∷ 0 ∷ 1 ∷ []) ∷ [] }
+
+pub tri_reads : Reads (codes "tri 3 2 3 10\n2 2 2\n2 0 1 0 2\n0 0 1\n1 1 1\n2 0 2 0 2\n0 0 1\n1 1 1\n2 1 2 0 2\n0 0 1\n1 1 1\n") tri
+unfolding natural_at sizes_at scope_from tuple_at listing_at listings_at function_from functions_from network_at
+tri_reads = refl
+
+pub tri_costs : cost tri (0 ∷ 0 ∷ 0 ∷ []) ≡ 3
+tri_costs = refl
+
+-- refusals: the first word that fails, and why
+pub tiny_short : Refuses (codes "tiny 1 2 1 10\n2\n1 0 3 1\n1") (record { kind = Short; ordinal = 12 })
+unfolding natural_at sizes_at scope_from tuple_at listing_at listings_at function_from functions_from network_at
+tiny_short = refl
+
+pub empty_short : Refuses [] (record { kind = Short; ordinal = 1 })
+unfolding natural_at sizes_at scope_from tuple_at listing_at listings_at function_from functions_from network_at
+empty_short = refl
+
+pub keyword_refused : Refuses (codes "key 2 2 1 10\n2 2\n2 0 1 -1 >= 0 0\n") (record { kind = Keyword; ordinal = 11 })
+unfolding natural_at sizes_at scope_from tuple_at listing_at listings_at function_from functions_from network_at
+keyword_refused = refl
+
+pub repeated_refused : Refuses (codes "rep 2 2 1 10\n2 2\n2 0 0 0 0\n") (record { kind = RepeatedVariable; ordinal = 10 })
+unfolding natural_at sizes_at scope_from tuple_at listing_at listings_at function_from functions_from network_at
+repeated_refused = refl
+
+pub interval_refused : Refuses (codes "int 1 3 0 10\n-3\n") (record { kind = IntervalDomain; ordinal = 6 })
+unfolding natural_at sizes_at scope_from tuple_at listing_at listings_at function_from functions_from network_at
+interval_refused = refl
+
+pub wide_refused : Refuses (codes "wide 2 4096 1 10\n4096 4096\n2 0 1 0 0\n") (record { kind = TableTooWide; ordinal = 10 })
+unfolding natural_at sizes_at scope_from tuple_at listing_at listings_at function_from functions_from network_at
+wide_refused = refl
+
+pub letter_refused : Refuses (codes "tiny 1 x 1 10\n2\n1 0 3 1\n1 1\n") (record { kind = NotNumber; ordinal = 3 })
+unfolding natural_at sizes_at scope_from tuple_at listing_at listings_at function_from functions_from network_at
+letter_refused = refl
+
+pub large_refused : Refuses (codes "tiny 1 2 1 9223372036854775808\n2\n1 0 3 1\n1 1\n") (record { kind = TooLarge; ordinal = 5 })
+unfolding natural_at sizes_at scope_from tuple_at listing_at listings_at function_from functions_from network_at
+large_refused = refl
+
+-- the sums after two projects and a lift on tiny
+abbrev shifts : List Step
+shifts = Project 0 0 0 3 ∷ Project 0 0 1 1 ∷ Lift 0 1 ∷ []
+
+abbrev shifted : List Event
+shifted = Did (Lift 0 1) ∷ Did (Project 0 0 1 1) ∷ Did (Project 0 0 0 3) ∷ []
+
+pub shifted_floor : floor tiny shifted ≡ 1
+shifted_floor = refl
+
+pub shifted_unary : unary tiny shifted 0 0 ≡ pos 2
+shifted_unary = refl
+
+pub shifted_other_unary : unary tiny shifted 0 1 ≡ pos 0
+shifted_other_unary = refl
+
+pub shifted_residual : residual tiny shifted 0 (0 ∷ []) ≡ pos 0
+shifted_residual = refl
+
+pub shifted_other_residual : residual tiny shifted 0 (1 ∷ []) ≡ pos 0
+shifted_other_residual = refl
+
+-- the text of two certificates
+pub open_text : spelling (record { variables = 1; functions = 1; upper = 10; best = None; lower = 4; tree = Open [] }) ≡ codes "wcspcert 1\nnetwork 1 1 10\nlower 4\nbest none\ntree\nopen\nend\n"
+unfolding digits
+open_text = refl
+
+abbrev tiny_certificate : ℕ → ℕ → ℕ → Certificate
+tiny_certificate upper lower amount = record { variables = 1; functions = 1; upper = upper; best = Some (record { cost = 1; values = 1 ∷ [] }); lower = lower; tree = Closed (Project 0 0 0 3 ∷ Project 0 0 1 1 ∷ Lift 0 amount ∷ []) }
+
+pub tiny_text : spelling (tiny_certificate 10 1 1) ≡ codes "wcspcert 1\nnetwork 1 1 10\nlower 1\nbest 1\nvalues 1\ntree\np 0 0 0 3\np 0 0 1 1\nu 0 1\nclosed\nend\n"
+unfolding digits
+tiny_text = refl
+
+-- each step of that certificate is allowed: the two values' costs become unary, and 1 of each is lifted
+first_project : CanProject tiny [] 0 0 0 3
+first_project [] fits is live = absurd fits
+first_project (zero ∷ []) fits is live = omega (arith, ints)
+first_project (suc v ∷ []) fits is live = absurd (omega arith)
+first_project (v ∷ w ∷ tuple) fits is live = absurd fits.1
+
+second_project : CanProject tiny (Did (Project 0 0 0 3) ∷ []) 0 0 1 1
+second_project [] fits is live = absurd fits
+second_project (zero ∷ []) fits is live = absurd (omega arith)
+second_project (suc zero ∷ []) fits is live = omega (arith, ints)
+second_project (suc (suc v) ∷ []) fits is live = absurd (omega (arith, fits.0))
+second_project (v ∷ w ∷ tuple) fits is live = absurd fits.1
+
+lift : CanLift tiny (Did (Project 0 0 1 1) ∷ Did (Project 0 0 0 3) ∷ []) 0 1
+lift zero h live = omega (arith, ints)
+lift (suc zero) h live = omega (arith, ints)
+lift (suc (suc a)) h live = absurd (omega arith)
+
+pub tiny_is_good : Good tiny (tiny_certificate 10 1 1)
+tiny_is_good = record {
+  variables = refl;
+  functions = refl;
+  upper = refl;
+  best = record { below = lit< tt; fits = (lit< tt, tt); cost = refl };
+  valid = (((record { function = lit< tt; place = lit< tt; value = lit< tt }, lit< tt, first_project), ((record { function = lit< tt; place = lit< tt; value = lit< tt }, lit< tt, second_project), ((lit< tt, lit< tt, lift), tt))), inl (lit≤ tt));
+  lower = lit≤ tt;
+}
+
+-- value 1 has only 1 to lift; the bound is 1; and the upper bound is 10
+pub larger_lift_is_bad : Good tiny (tiny_certificate 10 1 2) → ⊥
+larger_lift_is_bad good = let can : CanLift tiny (Did (Project 0 0 1 1) ∷ Did (Project 0 0 0 3) ∷ []) 0 2 = good.valid.0.1.1.0.2 in let h : pos 2 ≤ℤ pos 1 = can 1 (lit< tt) refl in absurd (omega (arith, ints))
+
+pub larger_lower_is_bad : Good tiny (tiny_certificate 10 2 1) → ⊥
+larger_lower_is_bad good = let h : 2 ≤ 1 = good.lower in absurd (omega arith)
+
+pub other_network_is_bad : Good tiny (tiny_certificate 9 1 1) → ⊥
+other_network_is_bad good = let h : 9 ≡ 10 = good.upper in absurd (omega arith)

@@ -1,6 +1,6 @@
 -- What a wcsp file reads as, and its first refusal (toulbar2 user manual, wcsp format).
 -- Words are read from left to right; at each place the checks run in their order, and the first that fails decides.
-use Rattle.std.specs.Prelude.{◌≡◌, ℕ, zero, suc, ◌+◌, ◌*◌, Bool, ◌&&◌, ◌||◌, List, [], ◌∷◌, ◌++◌, length, slice_index, sum_by, ℤ, pos, negsuc, Option, Some, None, Result, Ok, Err, if◌then◌else◌, ◌==◌, nat_lt, int_lt, unsigned_abs}
+use Rattle.std.specs.Prelude.{◌≡◌, ℕ, zero, suc, ◌+◌, ◌*◌, ◌&&◌, ◌||◌, List, [], ◌∷◌, ◌++◌, length, slice_index, ℤ, pos, negsuc, Option, Some, None, Result, Ok, Err, if◌then◌else◌, ◌==◌, nat_lt, int_lt, unsigned_abs}
 use Rattle.std.specs.List.{list_any}
 use Rattle.cfn_model.specs.declared.reading.NumberFault.{NumberFault}
 use Rattle.cfn_model.specs.declared.reading.NumberFault.TheVariants as faults

@@ -1,10 +1,9 @@
 -- What a list of events, the newest first, makes of a network's costs and values (Cooper et al. 2010).
-use Rattle.std.specs.Prelude.{◌≡◌, ℕ, zero, suc, ◌+◌, ◌<◌, Bool, true, false, not, ◌&&◌, ◌||◌, List, [], ◌∷◌, length, slice_index, sum_by, ℤ, pos, ◌+ℤ◌, neg_ℤ, if◌then◌else◌, ◌==◌, nat_lt}
-use Rattle.cfn_model.specs.declared.step.Step.{Step}
+use Rattle.std.specs.Prelude.{ℕ, ◌+◌, Bool, true, false, not, ◌&&◌, ◌||◌, List, [], ◌∷◌, slice_index, sum_by, ℤ, pos, ◌+ℤ◌, neg_ℤ, if◌then◌else◌, ◌==◌, nat_lt}
 use Rattle.cfn_model.specs.declared.step.Step.TheVariants.{Project, Extend, Lift, CutValue, CutTuple}
 use Rattle.cfn_model.specs.declared.step.Event.{Event}
 use Rattle.cfn_model.specs.declared.step.Event.TheVariants.{Did, Is, IsNot}
-use Rattle.cfn_model.specs.Network.{Function, Network, entry, entry_at, arity, scope_at, variable_at, dims_at, cell}
+use Rattle.cfn_model.specs.Network.{Function, Network, entry_at, arity, scope_at, variable_at, dims_at, cell}
 
 -- An amount where a test holds, and else nothing.
 abbrev pub when : Bool → ℤ → ℤ

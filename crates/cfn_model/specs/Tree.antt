@@ -1,5 +1,5 @@
 -- Search trees: blocks of steps, each before an open leaf, a closed leaf or a split.
-use Rattle.std.specs.Prelude.{◌≡◌, ◌≢◌, ℕ, ◌+◌, ◌<◌, ◌≤◌, ◌⊎◌, min, Bool, false, List, [], ◌∷◌, length, slice_index, if◌then◌else◌, ◌==◌, IsTrue, IsFalse}
+use Rattle.std.specs.Prelude.{◌≢◌, ℕ, ◌+◌, ◌<◌, ◌≤◌, ◌⊎◌, min, List, ◌∷◌, length, slice_index, if◌then◌else◌, ◌==◌, IsTrue, IsFalse}
 use Rattle.cfn_model.specs.declared.step.Step.{Step}
 use Rattle.cfn_model.specs.declared.step.Event.{Event}
 use Rattle.cfn_model.specs.declared.step.Event.TheVariants.{Is, IsNot}

@@ -4,6 +4,7 @@
 //! specs/, in the order that docs/DEFINITIONS.md gives. The code here is data alone.
 #![tactic(auto)]
 
+pub mod laws;
 mod reading;
 mod report;
 mod step;

@@ -1,5 +1,5 @@
 -- What a split or a closing of an open leaf changes in a list of nodes.
-use Rattle.std.proofs.Common.{◌≡◌, ◌≢◌, ℕ, zero, suc, ◌+◌, ◌-◌, ◌<◌, ◌≤◌, ◌^◌, ◌⊎◌, inl, inr, List, [], ◌∷◌, ◌++◌, length, set, Option, Some, None, refl, sym, ap, ◌∙◌, subst, arith}
+use Rattle.std.proofs.Common.{◌≡◌, ◌≢◌, ℕ, zero, suc, ◌+◌, ◌-◌, ◌<◌, ◌≤◌, ◌^◌, ◌⊎◌, inl, inr, List, [], ◌∷◌, length, set, Some, None, refl, sym, ap, ◌∙◌, subst, arith}
 use Rattle.std.proofs.lemmas.Bool.{cases_eq, cases_lt}
 use Rattle.std.specs.Prelude.{Bool, true, false, ◌||◌, ◌==◌, IsTrue}
 use Rattle.std.proofs.Common.{eq-eqb}
@@ -8,15 +8,11 @@ use Rattle.cfn_model.specs.declared.step.Step.{Step}
 use Rattle.cfn_model.specs.declared.step.Event.{Event}
 use Rattle.cfn_model.specs.declared.step.Event.TheVariants.{Is, IsNot}
 use Rattle.cfn_model.specs.Steps.{after}
-use Rattle.cfn_model.specs.Tree as trees
-use Rattle.cfn_model.specs.Tree.{count}
 use Rattle.cfn_proof.specs.declared.tree.NodeId.{NodeId}
 use Rattle.cfn_proof.specs.declared.tree.End.{End}
 use Rattle.cfn_proof.specs.declared.tree.End.TheVariants.{Free, Shut, Split}
 use Rattle.cfn_proof.specs.declared.tree.Node.{Node}
-use Rattle.cfn_proof.specs.Nodes.{node_at, names_child, open_node, tree_at, tree_of, with_children, IsLinked, IsFamily, IsFree, Before, at_root, at_first, at_second, split_at, split_end, close_at}
-use Rattle.cfn_proof.specs.Local.{IsNewChild, BeforeSplitLaw, BeforeCloseLaw, BeforeOnceLaw, BeforeSomeLaw, CountSplitLaw, CountCloseLaw}
-use Rattle.cfn_proof.proofs.TreeLemmas.{tree_at_is, from_last}
+use Rattle.cfn_proof.specs.Nodes.{node_at, names_child, open_node, IsLinked, IsFamily, IsFree, Before, at_root, at_first, at_second, split_at, split_end, close_at}
 
 -- only the node i, an open leaf, has changed, and open leaves stand behind the nodes that were there
 pub record Changed (nodes new : List Node) (i : ℕ) : Type 0 where

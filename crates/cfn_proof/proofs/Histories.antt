@@ -1,7 +1,7 @@
 -- Which history stands before a node, and what a split or a closing of an open leaf adds to a tree.
-use Rattle.std.proofs.Common.{◌≡◌, ◌≢◌, ℕ, zero, suc, ◌+◌, ◌-◌, ◌<◌, ◌≤◌, ◌⊎◌, inl, inr, List, [], ◌∷◌, ◌++◌, length, drop, Option, Some, None, refl, sym, ap, ◌∙◌, subst, arith, append_assoc, length-append}
-use Rattle.std.proofs.lemmas.Bool.{cases_eq, cases_lt}
-use Rattle.std.specs.Prelude.{Bool, true, false, ◌||◌, ◌==◌, IsTrue}
+use Rattle.std.proofs.Common.{◌≡◌, ◌≢◌, ℕ, zero, suc, ◌+◌, ◌<◌, ◌⊎◌, inl, inr, List, [], ◌∷◌, ◌++◌, length, Option, Some, None, refl, sym, ap, ◌∙◌, subst, arith, append_assoc, length-append}
+use Rattle.std.proofs.lemmas.Bool.{cases_eq}
+use Rattle.std.specs.Prelude.{true, false, ◌||◌, ◌==◌, IsTrue}
 use Rattle.cfn_model.specs.declared.step.Step.{Step}
 use Rattle.cfn_model.specs.declared.step.Event.{Event}
 use Rattle.cfn_model.specs.declared.step.Event.TheVariants.{Did, Is, IsNot}
@@ -12,10 +12,10 @@ use Rattle.cfn_proof.specs.declared.tree.NodeId.{NodeId}
 use Rattle.cfn_proof.specs.declared.tree.End.{End}
 use Rattle.cfn_proof.specs.declared.tree.End.TheVariants.{Free, Shut, Split}
 use Rattle.cfn_proof.specs.declared.tree.Node.{Node}
-use Rattle.cfn_proof.specs.Nodes.{node_at, names_child, open_node, tree_at, tree_of, with_children, IsLinked, IsFamily, IsFree, Before, at_root, at_first, at_second, split_at, split_end, close_at}
-use Rattle.cfn_proof.specs.Local.{IsNewChild, BeforeSplitLaw, BeforeCloseLaw, BeforeOnceLaw, BeforeSomeLaw, CountSplitLaw, CountCloseLaw}
+use Rattle.cfn_proof.specs.Nodes.{node_at, names_child, tree_at, tree_of, with_children, IsLinked, IsFree, Before, at_root, at_first, at_second, split_at, split_end, close_at}
+use Rattle.cfn_proof.specs.Local.{BeforeSplitLaw, BeforeCloseLaw, BeforeOnceLaw, BeforeSomeLaw, CountSplitLaw, CountCloseLaw}
 use Rattle.cfn_proof.proofs.TreeLemmas.{tree_at_is, from_last}
-use Rattle.cfn_proof.proofs.Growth.{Changed, IsOf, before_old, before_new, changed_by_split, changed_by_close, split_numbers, split_at-same, split_at-first, split_at-second, length-split_at, close_at-same, length-close_at, linked_by_split, linked_by_close}
+use Rattle.cfn_proof.proofs.Growth.{Changed, before_old, before_new, changed_by_split, changed_by_close, split_numbers, split_at-same, split_at-first, split_at-second, length-split_at, close_at-same, length-close_at, linked_by_split, linked_by_close}
 
 -- the kinds of what stands before a node, by the node's parent
 record Side (nodes : List Node) (i : ℕ) (history : List Event) : Type 0 where

@@ -1,12 +1,12 @@
 -- Facts on a tree from facts on each of its nodes.
-use Rattle.std.proofs.Common.{◌≡◌, ℕ, zero, suc, ◌+◌, ◌-◌, ◌<◌, ◌≤◌, List, [], ◌∷◌, length, get_or, refl, sym, ap, ◌∙◌, subst, arith, add-one}
+use Rattle.std.proofs.Common.{◌≡◌, ℕ, zero, suc, ◌+◌, ◌-◌, ◌<◌, ◌≤◌, List, [], ◌∷◌, length, get_or, refl, ap, ◌∙◌, arith}
 use Rattle.cfn_model.specs.declared.step.Step.{Step}
 use Rattle.cfn_model.specs.Tree as trees
 use Rattle.cfn_proof.specs.declared.tree.NodeId.{NodeId}
 use Rattle.cfn_proof.specs.declared.tree.End.{End}
 use Rattle.cfn_proof.specs.declared.tree.End.TheVariants.{Free, Shut, Split}
 use Rattle.cfn_proof.specs.declared.tree.Node.{Node}
-use Rattle.cfn_proof.specs.Nodes.{node_at, with_children, trees_from, tree_at, tree_of, IsLinked, IsFamily}
+use Rattle.cfn_proof.specs.Nodes.{node_at, with_children, trees_from, tree_at, IsLinked}
 
 -- what a node's children are, where two ways of naming them agree on those behind it
 with_children_ext : (block : List Step) (e : End) (low : ℕ) (f g : ℕ → trees.Tree) → ((x a : ℕ) (first second : NodeId) → e ≡ Split x a first second → (low < first.number) × (low < second.number)) → ((i : ℕ) → low < i → f i ≡ g i) → with_children block e f ≡ with_children block e g

@@ -1,6 +1,5 @@
 -- The laws that lead from the nodes of a tree to the whole tree.
-use Rattle.std.proofs.Common.{◌≡◌, ℕ, ◌+◌, ◌<◌, ◌≤◌, List, [], ◌∷◌, length, min, refl, sym, ap, ◌∙◌, subst, arith}
-use Rattle.cfn_model.specs.declared.step.Step.{Step}
+use Rattle.std.proofs.Common.{◌≡◌, ℕ, ◌<◌, ◌≤◌, List, [], ◌∷◌, length, refl, sym, ap, ◌∙◌, subst, arith}
 use Rattle.cfn_model.specs.declared.step.Event.{Event}
 use Rattle.cfn_model.specs.declared.step.Event.TheVariants.{Is, IsNot}
 use Rattle.cfn_model.specs.Network.{Network}
@@ -12,8 +11,8 @@ use Rattle.cfn_proof.specs.declared.tree.NodeId.{NodeId}
 use Rattle.cfn_proof.specs.declared.tree.End.{End}
 use Rattle.cfn_proof.specs.declared.tree.End.TheVariants.{Free, Shut, Split}
 use Rattle.cfn_proof.specs.declared.tree.Node.{Node}
-use Rattle.cfn_proof.specs.Nodes.{node_at, tree_at, tree_of, with_children, IsLinked, IsFamily, IsFree, Before, at_root, at_first, at_second}
-use Rattle.cfn_proof.specs.Local.{ValidNode, ValidNodes, StrictNode, StrictNodes, FloorsFrom, FloorsBelow, ValidLaw, StrictLaw, OpenBelowLaw, BoundFromLaw, BoundAtLaw}
+use Rattle.cfn_proof.specs.Nodes.{node_at, tree_at, tree_of, with_children, IsLinked, IsFree, Before, at_root, at_first, at_second}
+use Rattle.cfn_proof.specs.Local.{ValidNode, StrictNode, ValidLaw, StrictLaw, OpenBelowLaw, BoundFromLaw, BoundAtLaw}
 use Rattle.cfn_proof.proofs.TreeLemmas.{tree_at_is, from_last}
 
 -- a fact on trees that holds of leaves by the node alone, and of splits by the node and both subtrees

@@ -1,10 +1,8 @@
 -- What the code of a tree's methods leaves in its list of nodes.
-use Rattle.std.proofs.Common.{◌≡◌, ℕ, ◌+◌, ◌<◌, ◌≤◌, ◌^◌, List, [], ◌∷◌, ◌++◌, length, get_or, set, Option, Some, None, refl, sym, ap, ◌∙◌, subst, arith, append_assoc}
+use Rattle.std.proofs.Common.{◌≡◌, ℕ, ◌+◌, ◌<◌, ◌≤◌, ◌^◌, List, [], ◌∷◌, ◌++◌, length, get_or, set, Some, None, sym, ap, ◌∙◌, subst, arith, append_assoc}
 use Rattle.std.proofs.lemmas.List.{get_or_read}
 use Rattle.cfn_model.specs.declared.step.Step.{Step}
-use Rattle.cfn_proof.specs.declared.tree.NodeId.{NodeId}
-use Rattle.cfn_proof.specs.declared.tree.End.{End}
-use Rattle.cfn_proof.specs.declared.tree.End.TheVariants.{Free, Shut, Split}
+use Rattle.cfn_proof.specs.declared.tree.End.TheVariants.{Shut, Split}
 use Rattle.cfn_proof.specs.declared.tree.Node.{Node}
 use Rattle.cfn_proof.specs.Nodes.{IsFree, IsLinked, node_at, open_node, split_at, split_end, close_at}
 use Rattle.cfn_proof.proofs.Growth.{linked_by_close, linked_by_split}

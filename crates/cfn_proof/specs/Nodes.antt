@@ -3,8 +3,7 @@ use Rattle.std.specs.Prelude.{◌≡◌, ℕ, ◌+◌, ◌-◌, ◌<◌, ◌≤�
 use Rattle.cfn_model.specs.declared.step.Step.{Step}
 use Rattle.cfn_model.specs.declared.step.Event.{Event}
 use Rattle.cfn_model.specs.declared.step.Event.TheVariants.{Is, IsNot}
-use Rattle.cfn_model.specs.Network.{Network}
-use Rattle.cfn_model.specs.Steps.{IsValue, Run, after}
+use Rattle.cfn_model.specs.Steps.{after}
 use Rattle.cfn_model.specs.Tree as trees
 use Rattle.cfn_proof.specs.declared.tree.NodeId.{NodeId}
 use Rattle.cfn_proof.specs.declared.tree.End.{End}

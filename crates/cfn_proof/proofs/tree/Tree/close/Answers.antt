@@ -1,4 +1,4 @@
-use Rattle.cfn_proof.proofs.Written.{closed_is, closed_linked}
+use Rattle.cfn_proof.proofs.Written.{closed_linked}
 use Rattle.cfn_proof.proofs.tree.Tree.close.Goals as goal
 
 pub invariant_of-self : goal.invariant_of-self

@@ -1,4 +1,4 @@
-use Rattle.cfn_proof.proofs.Written.{shut_is, shut_linked}
+use Rattle.cfn_proof.proofs.Written.{shut_linked}
 use Rattle.cfn_proof.proofs.tree.Tree.shut.Goals as goal
 
 pub invariant_of-self : goal.invariant_of-self

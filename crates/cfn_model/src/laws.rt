@@ -1,0 +1,29 @@
+//! The laws that the definitions have, each the contract of a function with nothing to do.
+
+ghost use Rattle.cfn_model.specs.Laws.{Equivalence, Bounds, ClosedLeaves, LowerBounds, Optimum, NoneBelow, RunLowering, ValidLowering};
+
+/// Shifts keep the total of every assignment (equivalence-preserving transformations, Cooper et al. 2010).
+pub fn equivalence()
+    ensures { Equivalence }
+{}
+
+/// In a tree that is valid at a threshold, the bound is at most the cost of every assignment, and no assignment
+/// below the threshold has a closed leaf.
+pub fn bounds()
+    ensures bounds { Bounds }
+    ensures closed_leaves { ClosedLeaves }
+{}
+
+/// A good certificate alone implies what it claims: its lower bound is at most the cost of every assignment; where
+/// that is the best's cost, the best is an optimum; where it is the upper bound, no assignment is below that.
+pub fn good_certificates()
+    ensures lower_bounds { LowerBounds }
+    ensures optimum { Optimum }
+    ensures none_below { NoneBelow }
+{}
+
+/// What runs or is valid at a threshold does so at every smaller one.
+pub fn lowering()
+    ensures runs { RunLowering }
+    ensures trees { ValidLowering }
+{}
