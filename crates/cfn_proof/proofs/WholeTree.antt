@@ -5,14 +5,15 @@ use Rattle.cfn_model.specs.declared.step.Event.TheVariants.{Is, IsNot}
 use Rattle.cfn_model.specs.Network.{Network}
 use Rattle.cfn_model.specs.Sums.{floor}
 use Rattle.cfn_model.specs.Steps.{after}
+use Rattle.cfn_model.specs.Text.{IsSpelledTree}
 use Rattle.cfn_model.specs.Tree as trees
 use Rattle.cfn_model.specs.Tree.{Valid, Strict, OpenBelow, bound}
 use Rattle.cfn_proof.specs.declared.tree.NodeId.{NodeId}
 use Rattle.cfn_proof.specs.declared.tree.End.{End}
 use Rattle.cfn_proof.specs.declared.tree.End.TheVariants.{Free, Shut, Split}
 use Rattle.cfn_proof.specs.declared.tree.Node.{Node}
-use Rattle.cfn_proof.specs.Nodes.{node_at, tree_at, tree_of, with_children, IsLinked, IsFree, Before, at_root, at_first, at_second}
-use Rattle.cfn_proof.specs.Local.{ValidNode, StrictNode, ValidLaw, StrictLaw, OpenBelowLaw, BoundFromLaw, BoundAtLaw}
+use Rattle.cfn_proof.specs.Nodes.{node_at, tree_at, tree_of, with_children, IsSpelledEnd, IsTree, IsLinked, IsFree, Before, at_root, at_first, at_second}
+use Rattle.cfn_proof.specs.Local.{ValidNode, StrictNode, ValidLaw, StrictLaw, OpenBelowLaw, BoundFromLaw, BoundAtLaw, SpelledLaw}
 use Rattle.cfn_proof.proofs.TreeLemmas.{tree_at_is, from_last}
 
 -- a fact on trees that holds of leaves by the node alone, and of splits by the node and both subtrees
@@ -92,3 +93,15 @@ bound_below P nodes k i history linked (at_second parent x a first second above 
 pub bound_at_law : BoundAtLaw
 bound_at_law P nodes k i history linked there free before =
     omega (arith, bound_below P nodes k i history linked before, bound_at_open P nodes k i history linked there free)
+
+spelled_at : (nodes : List Node) (tree : IsTree nodes) (i : ℕ) (e : End) → i < length nodes → (node_at nodes i).end ≡ e → ((j : ℕ) → i < j → j < length nodes → IsSpelledTree (tree_at nodes j)) → IsSpelledTree (with_children (node_at nodes i).block e (tree_at nodes))
+spelled_at nodes tree i Free there is later = tree.blocks i there
+spelled_at nodes tree i Shut there is later = tree.blocks i there
+spelled_at nodes tree i (Split x a first second) there is later =
+    let family = tree.linked.children i x a first second there is in
+    let e = subst (λ e. IsSpelledEnd e) is (tree.ends i there) in
+    (tree.blocks i there, e.0, e.1, later first.number family.first_behind family.first_there, later second.number family.second_behind family.second_there)
+
+pub spelled_law : SpelledLaw
+spelled_law nodes tree =
+    from_last (length nodes) (λ i. IsSpelledTree (tree_at nodes i)) (λ i there later. subst (λ t. IsSpelledTree t) (sym (tree_at_is nodes i tree.linked there)) (spelled_at nodes tree i (node_at nodes i).end there refl later)) 0 tree.linked.some

@@ -6,11 +6,12 @@ use Rattle.cfn_model.specs.declared.step.Event.TheVariants.{Is, IsNot}
 use Rattle.cfn_model.specs.Network.{Network}
 use Rattle.cfn_model.specs.Sums.{floor}
 use Rattle.cfn_model.specs.Steps.{IsValue, Run, after}
+use Rattle.cfn_model.specs.Text.{IsSpelledTree}
 use Rattle.cfn_model.specs.Tree.{CanClose, IsStrictSplit, Valid, Strict, OpenBelow, bound, count}
 use Rattle.cfn_proof.specs.declared.tree.End.{End}
 use Rattle.cfn_proof.specs.declared.tree.End.TheVariants.{Free, Shut, Split}
 use Rattle.cfn_proof.specs.declared.tree.Node.{Node}
-use Rattle.cfn_proof.specs.Nodes.{node_at, tree_of, IsLinked, IsFree, Before, split_at, close_at}
+use Rattle.cfn_proof.specs.Nodes.{node_at, tree_of, IsLinked, IsTree, IsFree, Before, split_at, close_at}
 
 -- A node's block runs after the history before it; a closed leaf may be closed there, and a split is in range.
 abbrev pub ValidNode : Network → List Event → List Step → End → ℕ → Type 0
@@ -84,3 +85,7 @@ BeforeOnceLaw = (nodes : List Node) (i : ℕ) (history other : List Event) → I
 
 abbrev pub BeforeSomeLaw : Type 0
 BeforeSomeLaw = (nodes : List Node) (i : ℕ) → IsLinked nodes → i < length nodes → (history : List Event) × Before nodes i history
+
+-- The whole tree has a spelling where its nodes have.
+abbrev pub SpelledLaw : Type 0
+SpelledLaw = (nodes : List Node) → IsTree nodes → IsSpelledTree (tree_of nodes)

@@ -1,10 +1,13 @@
 -- What a list of nodes means as a tree.
 use Rattle.std.specs.Prelude.{◌≡◌, ℕ, ◌+◌, ◌-◌, ◌<◌, ◌≤◌, ◌^◌, List, [], ◌∷◌, ◌++◌, length, slice_index_or, slice_set, Bool, false, ◌||◌, ◌==◌, Option, Some, None, IsTrue}
+use Rattle.std.specs.List.{AllByRecursion}
 use Rattle.cfn_model.specs.declared.step.Step.{Step}
 use Rattle.cfn_model.specs.declared.step.Event.{Event}
 use Rattle.cfn_model.specs.declared.step.Event.TheVariants.{Is, IsNot}
 use Rattle.cfn_model.specs.Steps.{after}
 use Rattle.cfn_model.specs.Tree as trees
+use Rattle.cfn_model.specs.Words.{greatest}
+use Rattle.cfn_model.specs.Text.{IsSpelledStep}
 use Rattle.cfn_proof.specs.declared.tree.NodeId.{NodeId}
 use Rattle.cfn_proof.specs.declared.tree.End.{End}
 use Rattle.cfn_proof.specs.declared.tree.End.TheVariants.{Free, Shut, Split}
@@ -83,3 +86,15 @@ close_at nodes i block = slice_set nodes i (record (node_at nodes i) { block = b
 -- A node is an open leaf.
 abbrev pub IsFree : List Node → ℕ → Type 0
 IsFree nodes i = (node_at nodes i).end ≡ Free
+
+-- The numbers of an end have a spelling.
+abbrev pub IsSpelledEnd : End → Type 0
+IsSpelledEnd Free = Unit {0}
+IsSpelledEnd Shut = Unit {0}
+IsSpelledEnd (Split x a first second) = (x ≤ greatest) × (a ≤ greatest)
+
+-- The nodes of a tree: they are linked, and their steps and splits have a spelling.
+pub record IsTree (nodes : List Node) : Type 0 where
+  pub linked : IsLinked nodes
+  pub blocks : (i : ℕ) → i < length nodes → AllByRecursion IsSpelledStep (node_at nodes i).block
+  pub ends : (i : ℕ) → i < length nodes → IsSpelledEnd (node_at nodes i).end

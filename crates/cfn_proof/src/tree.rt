@@ -4,7 +4,7 @@
 //! open leaf may become a split or a closed leaf.
 
 ghost use Rattle.std.specs.Prelude.{◌≡◌, ◌+◌, ◌<◌, ◌≤◌, [], ◌∷◌, length, None, IfOk, OnOk, OnErr};
-ghost use Rattle.cfn_proof.specs.Nodes.{IsFree, IsLinked, node_at, open_node, split_at, close_at};
+ghost use Rattle.cfn_proof.specs.Nodes.{IsFree, IsTree, node_at, open_node, split_at, close_at};
 
 use crate::block::Block;
 use std::alloc::{AllocError, Global};
@@ -65,11 +65,11 @@ impl Model for Tree {
 
     ghost Value = { List Node };
 
-    ghost use Rattle.cfn_proof.specs.Nodes.{IsLinked};
+    ghost use Rattle.cfn_proof.specs.Nodes.{IsTree};
 
     ghost view = { λ t. t.nodes.items };
 
-    ghost invariant = { λ t. IsLinked t.nodes.items };
+    ghost invariant = { λ t. IsTree t.nodes.items };
 }
 
 impl Tree {
@@ -88,9 +88,10 @@ impl Tree {
         Ok(Tree { nodes })
     }
 
-    /// Parents and children of a tree know each other, and a parent has a smaller number than its children.
+    /// Parents and children of a tree know each other, a parent has a smaller number than its children, and all
+    /// numbers have a spelling.
     pub fn linked(&self)
-        ensures { IsLinked self.now }
+        ensures { IsTree self.now }
     {
         let _ = &self.nodes;
     }
@@ -155,6 +156,7 @@ impl Tree {
         requires free { IsFree self.old leaf.number }
         ensures { self.new ≡ close_at self.old leaf.number block }
     {
+        let _spelled = block.steps();
         let node = &mut self.nodes[leaf.number as usize];
         node.block = block;
         node.end = End::Shut;

@@ -1,6 +1,6 @@
 use Rattle.std.proofs.Common.{◌≡◌, ◌∙◌, ◌+◌, ◌≤◌, ◌^◌, length, subst, ap, arith}
-use Rattle.cfn_proof.specs.Nodes.{split_at, IsLinked}
-use Rattle.cfn_proof.proofs.Written.{split_is, split_linked}
+use Rattle.cfn_proof.specs.Nodes.{split_at, IsTree}
+use Rattle.cfn_proof.proofs.Written.{split_is, split_tree}
 use Rattle.cfn_proof.proofs.tree.Tree.split.Goals as goal
 
 -- what the method leaves is the split list, which is linked
@@ -14,4 +14,4 @@ pub invariant_of-self-2 : goal.invariant_of-self-2
 invariant_of-self-2 c =
     let len : c.len-next.result ≡ length c.args.self.now = c.len-next.ensures ∙ c.self.inside.nodes.ok.0 ∙ ap length c.self.view_is in
     let room : length c.args.self.now + 2 ≤ 2 ^ 32 = omega (arith, len, c.if-next.false) in
-    split_linked c.args.self.now _ _ _ _ (subst (λ m. IsLinked m) c.self.view_is c.self.invariant) c.requires.there c.requires.free room (written c)
+    split_tree c.args.self.now _ _ _ _ (subst (λ m. IsTree m) c.self.view_is c.self.invariant) c.requires.there c.requires.free room (omega arith) (omega arith) (written c)
