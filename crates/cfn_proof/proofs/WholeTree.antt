@@ -7,14 +7,15 @@ use Rattle.cfn_model.specs.Sums.{floor}
 use Rattle.cfn_model.specs.Steps.{after}
 use Rattle.cfn_model.specs.Text.{IsSpelledTree}
 use Rattle.cfn_model.specs.Tree as trees
-use Rattle.cfn_model.specs.Tree.{Valid, Strict, OpenBelow, bound}
+use Rattle.cfn_model.specs.Tree.{Valid, Strict, OpenBelow, bound, open_leaves}
 use Rattle.cfn_proof.specs.declared.tree.NodeId.{NodeId}
 use Rattle.cfn_proof.specs.declared.tree.End.{End}
 use Rattle.cfn_proof.specs.declared.tree.End.TheVariants.{Free, Shut, Split}
 use Rattle.cfn_proof.specs.declared.tree.Node.{Node}
 use Rattle.cfn_proof.specs.Nodes.{node_at, tree_at, tree_of, with_children, IsSpelledEnd, IsTree, IsLinked, IsFree, Before, at_root, at_first, at_second}
-use Rattle.cfn_proof.specs.Local.{ValidNode, StrictNode, ValidLaw, StrictLaw, OpenBelowLaw, BoundFromLaw, BoundAtLaw, SpelledLaw}
+use Rattle.cfn_proof.specs.Local.{ValidNode, StrictNode, ValidLaw, StrictLaw, OpenBelowLaw, BoundFromLaw, BoundAtLaw, SpelledLaw, NoneOpenLaw, SomeOpenLaw}
 use Rattle.cfn_proof.proofs.TreeLemmas.{tree_at_is, from_last}
+use Rattle.cfn_proof.proofs.Histories.{before_some}
 
 -- a fact on trees that holds of leaves by the node alone, and of splits by the node and both subtrees
 module _ (Q : List Event → trees.Tree → Type 0) (nodes : List Node) (linked : IsLinked nodes) (at_free : (i : ℕ) (history : List Event) → i < length nodes → Before nodes i history → IsFree nodes i → Q history (trees.Open (node_at nodes i).block)) (at_shut : (i : ℕ) (history : List Event) → i < length nodes → Before nodes i history → (node_at nodes i).end ≡ Shut → Q history (trees.Closed (node_at nodes i).block)) (at_split : (i : ℕ) (history : List Event) (x a : ℕ) (first second : NodeId) → i < length nodes → Before nodes i history → (node_at nodes i).end ≡ Split x a first second → Q (Is x a ∷ after (node_at nodes i).block history) (tree_at nodes first.number) → Q (IsNot x a ∷ after (node_at nodes i).block history) (tree_at nodes second.number) → Q history (trees.Split (node_at nodes i).block x a (tree_at nodes first.number) (tree_at nodes second.number))) where
@@ -105,3 +106,29 @@ spelled_at nodes tree i (Split x a first second) there is later =
 pub spelled_law : SpelledLaw
 spelled_law nodes tree =
     from_last (length nodes) (λ i. IsSpelledTree (tree_at nodes i)) (λ i there later. subst (λ t. IsSpelledTree t) (sym (tree_at_is nodes i tree.linked there)) (spelled_at nodes tree i (node_at nodes i).end there refl later)) 0 tree.linked.some
+
+pub none_open_law : NoneOpenLaw
+none_open_law nodes linked none =
+    everywhere (λ history tree. open_leaves tree ≡ 0) nodes linked
+      (λ i history there before is. absurd (none i there is))
+      (λ i history there before is. refl)
+      (λ i history x a first second there before is left right. omega (arith, left, right))
+      0 linked.some [] (at_root refl refl)
+
+-- the whole tree has at least the open leaves of each subtree
+open_below : (nodes : List Node) (i : ℕ) (history : List Event) → IsLinked nodes → Before nodes i history → open_leaves (tree_at nodes i) ≤ open_leaves (tree_of nodes)
+open_below nodes i history linked (at_root is_root is_empty) = subst (λ j. open_leaves (tree_at nodes j) ≤ open_leaves (tree_of nodes)) (sym is_root) (omega arith)
+open_below nodes i history linked (at_first parent x a first second above there is before is_child is_history) =
+    let e = ap open_leaves (tree_at_split nodes parent x a first second linked there is) in
+    let up = open_below nodes parent above linked before in
+    subst (λ j. open_leaves (tree_at nodes j) ≤ open_leaves (tree_of nodes)) (sym is_child) (omega (arith, e, up))
+open_below nodes i history linked (at_second parent x a first second above there is before is_child is_history) =
+    let e = ap open_leaves (tree_at_split nodes parent x a first second linked there is) in
+    let up = open_below nodes parent above linked before in
+    subst (λ j. open_leaves (tree_at nodes j) ≤ open_leaves (tree_of nodes)) (sym is_child) (omega (arith, e, up))
+
+pub some_open_law : SomeOpenLaw
+some_open_law nodes i linked there free =
+    let before = before_some nodes i linked there in
+    let e = ap open_leaves (tree_at_is nodes i linked there ∙ ap (λ e. with_children (node_at nodes i).block e (tree_at nodes)) free) in
+    omega (arith, e, open_below nodes i before.0 linked before.1)

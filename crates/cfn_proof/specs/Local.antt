@@ -7,7 +7,7 @@ use Rattle.cfn_model.specs.Network.{Network}
 use Rattle.cfn_model.specs.Sums.{floor}
 use Rattle.cfn_model.specs.Steps.{IsValue, Run, after}
 use Rattle.cfn_model.specs.Text.{IsSpelledTree}
-use Rattle.cfn_model.specs.Tree.{CanClose, IsStrictSplit, Valid, Strict, OpenBelow, bound, count}
+use Rattle.cfn_model.specs.Tree.{CanClose, IsStrictSplit, Valid, Strict, OpenBelow, bound, count, open_leaves}
 use Rattle.cfn_proof.specs.declared.tree.End.{End}
 use Rattle.cfn_proof.specs.declared.tree.End.TheVariants.{Free, Shut, Split}
 use Rattle.cfn_proof.specs.declared.tree.Node.{Node}
@@ -89,3 +89,10 @@ BeforeSomeLaw = (nodes : List Node) (i : ℕ) → IsLinked nodes → i < length 
 -- The whole tree has a spelling where its nodes have.
 abbrev pub SpelledLaw : Type 0
 SpelledLaw = (nodes : List Node) → IsTree nodes → IsSpelledTree (tree_of nodes)
+
+-- The tree has no open leaf where no node is one, and some where a node is.
+abbrev pub NoneOpenLaw : Type 0
+NoneOpenLaw = (nodes : List Node) → IsLinked nodes → ((i : ℕ) → i < length nodes → IsFree nodes i → ⊥) → open_leaves (tree_of nodes) ≡ 0
+
+abbrev pub SomeOpenLaw : Type 0
+SomeOpenLaw = (nodes : List Node) (i : ℕ) → IsLinked nodes → i < length nodes → IsFree nodes i → 0 < open_leaves (tree_of nodes)

@@ -1,6 +1,6 @@
 //! Laws of trees: what a whole tree has where each of its nodes has it, and what a split or a closing changes.
 
-ghost use Rattle.cfn_proof.specs.Local.{ValidLaw, StrictLaw, OpenBelowLaw, BoundFromLaw, BoundAtLaw, CountSplitLaw, CountCloseLaw, BeforeSplitLaw, BeforeCloseLaw, BeforeOnceLaw, BeforeSomeLaw, SpelledLaw};
+ghost use Rattle.cfn_proof.specs.Local.{ValidLaw, StrictLaw, OpenBelowLaw, BoundFromLaw, BoundAtLaw, CountSplitLaw, CountCloseLaw, BeforeSplitLaw, BeforeCloseLaw, BeforeOnceLaw, BeforeSomeLaw, SpelledLaw, NoneOpenLaw, SomeOpenLaw};
 
 /// A tree is valid at a threshold, or strict, where each of its nodes is after what stands before it.
 pub fn valid_where_nodes_are()
@@ -32,5 +32,12 @@ pub fn same_before()
 /// A tree whose nodes have a spelling has one.
 pub fn spelled_where_nodes_are()
     ensures { SpelledLaw }
+{
+}
+
+/// A tree has an open leaf exactly where a node is one.
+pub fn open_where_a_node_is()
+    ensures none { NoneOpenLaw }
+    ensures some { SomeOpenLaw }
 {
 }
