@@ -8,7 +8,12 @@ mod builder;
 mod fit;
 mod function;
 mod network;
+mod scored;
 
 pub use builder::{Builder, listing_law};
 pub use fit::Fit;
 pub use network::Network;
+pub use scored::Scored;
+
+#[cfg(test)]
+mod tests;

@@ -2,7 +2,7 @@
 ghost use Rattle.std.specs.Prelude.{◌≡◌, ◌≢◌, ℕ, ◌+◌, ◌-◌, ◌*◌, ◌^◌, ◌<◌, ◌≤◌, ◌↔◌, List, [], length, slice_index, IfOk, OnOk, OnErr};
 ghost use Rattle.cfn_model.specs.Words.{IsWord};
 ghost use Rattle.cfn_model.specs.Network.{Fits, IsFunction, IsNetwork, function_at, scope_at, arity, dims_at, entry_at, restrict, cells, cell, cost, function_of};
-ghost use Rattle.cfn_net.specs.Building.{AreSizes, CanTake, IsScope, last, new_network, with_entry, with_function, with_last};
+ghost use Rattle.cfn_net.specs.Building.{AreSizes, CanTake, IsScope, last, list_at_end, new_network, with_function};
 ghost use Rattle.cfn_net.specs.Fitting.{IsFirstMisfit};
 
 use crate::fit::Fit;
@@ -224,8 +224,7 @@ impl Network {
     pub(crate) fn set_last(&mut self, cell: u32, cost: u64)
         requires some { 0 < length self.old.functions }
         requires cell { cell < cells (dims_at self.old (last self.old)) }
-        ensures { self.new ≡ with_last self.old
-            (with_entry self.old.upper cell cost (function_at self.old (last self.old))) }
+        ensures { self.new ≡ list_at_end self.old cell cost }
     {
         let upper = self.upper;
         let place = self.functions.len() - 1;
