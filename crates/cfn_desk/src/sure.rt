@@ -55,7 +55,9 @@ impl SureDesk {
 }
 
 impl Desk for SureDesk {
-    ghost use Rattle.std.specs.Prelude.{None, refl};
+    ghost use Rattle.std.specs.Prelude.{◌≡◌, [], length, None, false, true, IsOk, IsTrue, OnOk, OnErr, IfErr, unwrap_or, refl};
+    ghost use Rattle.cfn_desk.specs.Desk.{counted};
+    ghost use Rattle.cfn_desk.specs.NamedFiles.{file_named};
 
     ghost files = { λ _. None };
 
@@ -69,7 +71,12 @@ impl Desk for SureDesk {
 
     ghost idle = { λ _ _. refl };
 
-    fn load(&mut self, name: &str, into: &mut Vec<u8>) -> Result<(), LoadFault> {
+    fn load(&mut self, name: &str, into: &mut Vec<u8>) -> Result<(), LoadFault>
+        ensures read { OnOk result (into.new.items ≡ unwrap_or (file_named self.old.files name.now) []) }
+        ensures emptied { OnErr result (into.new.items ≡ []) }
+        ensures memory_only { IfErr result (λ fault. fault ≡ LoadFault.Memory) }
+        ensures same { self.new ≡ self.old }
+    {
         into.clear();
         match find_file(&self.files, name.as_bytes()) {
             None => Ok(()),
@@ -80,22 +87,37 @@ impl Desk for SureDesk {
         }
     }
 
-    fn open_out(&mut self, _name: &str) -> Result<(), Failed> {
+    fn open_out(&mut self, _name: &str) -> Result<(), Failed>
+        requires { self.old.writing ≡ false }
+        ensures never_fails { IsOk result }
+        ensures opened { self.new ≡ record self.old { writing = true } }
+    {
         self.is_writing = true;
         Ok(())
     }
 
-    fn put(&mut self, bytes: &[u8]) -> Result<(), Failed> {
+    fn put(&mut self, bytes: &[u8]) -> Result<(), Failed>
+        requires { IsTrue self.old.writing }
+        ensures never_fails { IsOk result }
+        ensures put { self.new ≡ record self.old { put = counted self.old.put (length bytes.now) } }
+    {
         self.put = self.put.saturating_add(bytes.len() as u64);
         Ok(())
     }
 
-    fn close_out(&mut self) -> Result<(), Failed> {
+    fn close_out(&mut self) -> Result<(), Failed>
+        requires { IsTrue self.old.writing }
+        ensures never_fails { IsOk result }
+        ensures ended { self.new ≡ record self.old { writing = false } }
+    {
         self.is_writing = false;
         Ok(())
     }
 
-    fn say(&mut self, bytes: &[u8]) -> Result<(), Failed> {
+    fn say(&mut self, bytes: &[u8]) -> Result<(), Failed>
+        ensures never_fails { IsOk result }
+        ensures said { self.new ≡ record self.old { said = counted self.old.said (length bytes.now) } }
+    {
         self.said = self.said.saturating_add(bytes.len() as u64);
         Ok(())
     }
