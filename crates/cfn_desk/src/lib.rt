@@ -6,9 +6,14 @@
 //! memory whose calls fail where a test says so.
 #![tactic(auto)]
 
+mod host;
 mod interface;
+mod memory;
 mod named;
+mod room;
 mod sure;
 
+pub use host::HostDesk;
 pub use interface::{Desk, Failed, LoadFault};
+pub use memory::MemoryDesk;
 pub use sure::SureDesk;
