@@ -1,15 +1,13 @@
 //! A desk over real files and standard output. This is the trusted edge: no contract can say what
 //! the system reads and writes.
 
+use crate::interface::{Desk, Failed, LoadFault};
+use crate::room::Room;
 use std::alloc::AllocError;
-use std::fs;
-use std::io;
 use std::io::{ErrorKind, Read, Write};
 use std::marker::Model;
 use std::rt::Files;
-
-use crate::interface::{Desk, Failed, LoadFault};
-use crate::room::Room;
+use std::{fs, io};
 
 /// How many bytes of a written file wait for one write.
 const BUFFER_SIZE: usize = 65536;

@@ -17,3 +17,6 @@ pub use host::HostDesk;
 pub use interface::{Desk, Failed, LoadFault};
 pub use memory::MemoryDesk;
 pub use sure::SureDesk;
+
+#[cfg(test)]
+mod tests;

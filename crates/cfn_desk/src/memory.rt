@@ -1,11 +1,10 @@
 //! A desk in memory, which fails where it is told to.
 
-use std::alloc::{AllocError, Global};
-use std::marker::Model;
-
 use crate::interface::{Desk, Failed, LoadFault};
 use crate::named::{NamedFile, copy_files, find_file};
 use crate::room::Room;
+use std::alloc::{AllocError, Global};
+use std::marker::Model;
 
 /// How many bytes a name of a written file may have.
 pub const NAME_ROOM: usize = 4096;
@@ -41,15 +40,15 @@ impl Model for MemoryDesk {
     ghost Value = { InMemory };
 
     ghost view = { λ desk. record {
-        given = kept_files desk.given.items;
-        written = written_at desk.stage desk.name desk.bytes;
-        out = out_at desk.stage desk.name desk.bytes;
-        said = desk.said.bytes;
-        calls = desk.calls;
-        faults = desk.faults;
-        failing = desk.failing.items;
-        out_room = desk.bytes.limit;
-        said_room = desk.said.limit;
+      given = kept_files desk.given.items;
+      written = written_at desk.stage desk.name desk.bytes;
+      out = out_at desk.stage desk.name desk.bytes;
+      said = desk.said.bytes;
+      calls = desk.calls;
+      faults = desk.faults;
+      failing = desk.failing.items;
+      out_room = desk.bytes.limit;
+      said_room = desk.said.limit;
     } };
 
     ghost invariant = { λ desk. desk.name.limit ≡ NAME_ROOM };
@@ -72,15 +71,15 @@ impl MemoryDesk {
         failing: &[u64],
     ) -> Result<MemoryDesk, AllocError>
         ensures { IfOk result (λ desk. desk ≡ record {
-            given = map (λ file. (file.0.now, file.1.now)) files.now;
-            written = None;
-            out = None;
-            said = [];
-            calls = 0;
-            faults = 0;
-            failing = failing.now;
-            out_room = out_room;
-            said_room = said_room;
+          given = map (λ file. (file.0.now, file.1.now)) files.now;
+          written = None;
+          out = None;
+          said = [];
+          calls = 0;
+          faults = 0;
+          failing = failing.now;
+          out_room = out_room;
+          said_room = said_room;
         }) }
     {
         Ok(MemoryDesk {
@@ -112,13 +111,22 @@ impl MemoryDesk {
         }
     }
 
+    /// How many calls failed, up to the last value of a u64.
+    pub fn fault_count(&self) -> u64
+        ensures { result ≡ self.now.faults }
+    {
+        self.faults
+    }
+
     /// The bytes of the file of that name: the one that was written and closed, or else the first
     /// that was given.
     pub fn file(&self, name: &str) -> Option<&[u8]>
         ensures { option_copied result ≡ files_of self.now name.now }
     {
         match self.stage {
-            Stage::Written if self.name.as_slice() == name.as_bytes() => Some(self.bytes.as_slice()),
+            Stage::Written if self.name.as_slice() == name.as_bytes() => Some(
+                self.bytes.as_slice(),
+            ),
             _ => find_file(&self.given, name.as_bytes()),
         }
     }

@@ -1,10 +1,9 @@
 //! A desk that never fails and keeps no text, for a fuzzer and for measuring.
 
-use std::alloc::{AllocError, Global};
-use std::marker::Model;
-
 use crate::interface::{Desk, Failed, LoadFault};
 use crate::named::{NamedFile, copy_files, find_file};
+use std::alloc::{AllocError, Global};
+use std::marker::Model;
 
 /// A desk over given files that never fails. It tells nothing, and keeps only counts of bytes.
 #[derive(Drop)]
