@@ -1,6 +1,10 @@
 //! A desk over real files and standard output. This is the trusted edge: no contract can say what
 //! the system reads and writes.
 
+ghost use Rattle.std.specs.Prelude.{◌≡◌, ◌≤◌, [], ◌++◌, vec_len, IfSome, IfOk, IsTrue, OnOk};
+ghost use Rattle.std.specs.Io.KnownBytes.{Appends, IsAtEnd, append_known};
+ghost use Rattle.cfn_desk.specs.HostDesk.{ReadsBehind};
+
 use crate::interface::{Desk, Failed, LoadFault};
 use crate::room::Room;
 use std::alloc::AllocError;
@@ -45,7 +49,8 @@ impl<'a, R: Files> HostDesk<'a, R> {
     ghost use Rattle.std.specs.Prelude.{◌≡◌, false, IfOk};
     ghost use Rattle.cfn_desk.specs.Desk.{counted, Rose};
 
-    /// A desk over this runtime. It takes all the memory that it will use but for what a load reads.
+    /// A desk over this runtime. It takes all the memory that it will use, but for what a load
+    /// reads.
     pub fn make(rt: &'a R) -> Result<HostDesk<'a, R>, AllocError>
     where
         R: AllocGlobal,
@@ -141,10 +146,21 @@ impl<'a, R: Files + Print> Desk for HostDesk<'a, R> {
 }
 
 /// Adds the bytes of the file of that name.
-fn read_file<R: Files>(rt: &R, name: &str, into: &mut Vec<u8>) -> Result<(), LoadFault> {
+fn read_file<R: Files>(rt: &R, name: &str, into: &mut Vec<u8>) -> Result<(), LoadFault>
+    ensures limit { OnOk result (vec_len into.new ≤ FILE_LIMIT) }
+{
     let mut file = fs::open(rt, name).map_err(|_| LoadFault::Failed)?;
+    read_all(&mut file, into)
+}
+
+/// Adds the bytes that the file has left.
+fn read_all<F: Read>(file: &mut F, into: &mut Vec<u8>) -> Result<(), LoadFault>
+    ensures limit { OnOk result (vec_len into.new ≤ FILE_LIMIT) }
+    ensures read { OnOk result
+        (IfSome (F.remaining file.old) (λ left. into.new.items ≡ into.old.items ++ left)) }
+{
     for _ in 0..u64::MAX {
-        if read_chunk(&mut file, into)? {
+        if read_chunk(file, into)? {
             return Ok(());
         }
     }
@@ -153,12 +169,17 @@ fn read_file<R: Files>(rt: &R, name: &str, into: &mut Vec<u8>) -> Result<(), Loa
 
 /// Adds what one read gives, and answers whether the file is at its end. A read that a signal cut
 /// short adds nothing.
-fn read_chunk<F: Read>(file: &mut F, into: &mut Vec<u8>) -> Result<bool, LoadFault> {
+fn read_chunk<F: Read>(file: &mut F, into: &mut Vec<u8>) -> Result<bool, LoadFault>
+    ensures read { OnOk result (ReadsBehind into.old.items into.new.items
+        (F.remaining file.old) (F.remaining file.new)) }
+    ensures end { IfOk result (λ ended. IsTrue ended → IsAtEnd (F.remaining file.new)) }
+    ensures limit { IfOk result (λ ended. IsTrue ended → vec_len into.new ≤ FILE_LIMIT) }
+{
     let start = into.len();
-    into.resize(start + CHUNK_SIZE, 0)
-        .map_err(|_| LoadFault::Memory)?;
-    let read = file.read(&mut into[start..]);
-    match read {
+    if into.resize(start + CHUNK_SIZE, 0).is_err() {
+        return Err(LoadFault::Memory);
+    }
+    match file.read(&mut into[start..]) {
         Ok(count) => {
             into.truncate(start + count);
             if into.len() > FILE_LIMIT {
@@ -177,7 +198,15 @@ fn read_chunk<F: Read>(file: &mut F, into: &mut Vec<u8>) -> Result<bool, LoadFau
 }
 
 /// Puts a piece behind what waits in the buffer, or writes it where it is larger than the buffer.
-fn write_piece<F: Write>(file: &mut F, buffer: &mut Room, bytes: &[u8]) -> io::Result<()> {
+/// After an `Err` bytes may be lost.
+fn write_piece<F: Write>(file: &mut F, buffer: &mut Room, bytes: &[u8]) -> io::Result<()>
+    // What the file holds and what waits got the piece at their end.
+    ensures ok { OnOk result (Appends
+        (append_known (F.contents file.old) buffer.old.bytes)
+        (append_known (F.contents file.new) buffer.new.bytes)
+        bytes.now) }
+    ensures limit { buffer.new.limit ≡ buffer.old.limit }
+{
     if buffer.add(bytes).is_ok() {
         return Ok(());
     }
@@ -188,8 +217,12 @@ fn write_piece<F: Write>(file: &mut F, buffer: &mut Room, bytes: &[u8]) -> io::R
     file.write_all(bytes)
 }
 
-/// Writes what waits in the buffer.
-fn empty_buffer<F: Write>(file: &mut F, buffer: &mut Room) -> io::Result<()> {
+/// Writes what waits in the buffer. After an `Err` bytes may be lost.
+fn empty_buffer<F: Write>(file: &mut F, buffer: &mut Room) -> io::Result<()>
+    ensures ok { OnOk result
+        (Appends (F.contents file.old) (F.contents file.new) buffer.old.bytes) }
+    ensures emptied { buffer.new ≡ record buffer.old { bytes = [] } }
+{
     let written = file.write_all(buffer.as_slice());
     buffer.clear();
     written

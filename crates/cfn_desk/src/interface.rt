@@ -39,7 +39,8 @@ pub trait Desk {
     /// Reads the file of that name into `into`, in place of what it holds. An `Err` empties it.
     fn load(&mut self, name: &str, into: &mut Vec<u8>) -> Result<(), LoadFault>
         // What was read is the file. A name that is not there gives no Ok.
-        ensures read { OnOk result (IfSome (files self.old) (λ told. told name.now ≡ Some into.new.items)) }
+        ensures read { OnOk result
+            (IfSome (files self.old) (λ told. told name.now ≡ Some into.new.items)) }
         // An error leaves no bytes.
         ensures emptied { OnErr result (into.new.items ≡ []) }
         // Failed comes only where the count of faults rose, and any other answer leaves it.
@@ -58,7 +59,8 @@ pub trait Desk {
         // A file is being written exactly after Ok.
         ensures opened { writing self.new ≡ is_ok result }
         // A desk that tells its files tells the file being written.
-        ensures told { OnOk result (IfSome (files self.old) (λ _. out self.new ≡ Some (name.now, []))) }
+        ensures told { OnOk result
+            (IfSome (files self.old) (λ _. out self.new ≡ Some (name.now, []))) }
         // An error leaves no file to tell.
         ensures none { OnErr result (out self.new ≡ None) }
         // Failed comes only where the count of faults rose, and Ok leaves it.
@@ -93,7 +95,8 @@ pub trait Desk {
         // Ok stores the file.
         ensures stored { OnOk result (StoresOut (files self.old) (out self.old) (files self.new)) }
         // An error stores it or changes nothing.
-        ensures stored_or_same { OnErr result ((files self.new ≡ files self.old) ⊎ StoresOut (files self.old) (out self.old) (files self.new)) }
+        ensures stored_or_same { OnErr result ((files self.new ≡ files self.old)
+            ⊎ StoresOut (files self.old) (out self.old) (files self.new)) }
         // A desk that told its files tells them still.
         ensures still_told { IsSome (files self.old) → IsSome (files self.new) }
         // Whatever the answer, nothing is being written.

@@ -123,12 +123,11 @@ impl MemoryDesk {
     pub fn file(&self, name: &str) -> Option<&[u8]>
         ensures { option_copied result ≡ files_of self.now name.now }
     {
-        match self.stage {
-            Stage::Written if self.name.as_slice() == name.as_bytes() => Some(
-                self.bytes.as_slice(),
-            ),
-            _ => find_file(&self.given, name.as_bytes()),
+        let name = name.as_bytes();
+        if self.stage == Stage::Written && self.name.as_slice() == name {
+            return Some(self.bytes.as_slice());
         }
+        find_file(&self.given, name)
     }
 
     /// Counts the call that begins, and answers whether it is to fail.
@@ -169,7 +168,8 @@ impl Desk for MemoryDesk {
     ghost idle = { λ desk. none_if_not desk.out };
 
     fn load(&mut self, name: &str, into: &mut Vec<u8>) -> Result<(), LoadFault>
-        ensures fails { IsErrOf result LoadFault.Failed ↔ (IsTrue (fails_next self.old) ⊎ (files_of self.old name.now ≡ None)) }
+        ensures fails { IsErrOf result LoadFault.Failed
+            ↔ (IsTrue (fails_next self.old) ⊎ (files_of self.old name.now ≡ None)) }
         ensures read { OnOk result (files_of self.old name.now ≡ Some into.new.items) }
         ensures emptied { OnErr result (into.new.items ≡ []) }
         ensures ok { OnOk result (self.new ≡ after_call self.old) }
@@ -192,8 +192,11 @@ impl Desk for MemoryDesk {
 
     fn open_out(&mut self, name: &str) -> Result<(), Failed>
         requires { is_some self.old.out ≡ false }
-        ensures fails { IsErr result ↔ (IsTrue (fails_next self.old) ⊎ IsSome self.old.written ⊎ (NAME_ROOM < length name.now)) }
-        ensures ok { OnOk result (self.new ≡ record (after_call self.old) { out = Some (name.now, []) }) }
+        ensures fails { IsErr result
+            ↔ (IsTrue (fails_next self.old) ⊎ IsSome self.old.written
+            ⊎ (NAME_ROOM < length name.now)) }
+        ensures ok { OnOk result
+            (self.new ≡ record (after_call self.old) { out = Some (name.now, []) }) }
         ensures failed { OnErr result (self.new ≡ after_fault self.old) }
         ensures cause { FailsByFault result self.old.faults self.new.faults }
         ensures never_falls { self.old.faults ≤ self.new.faults }
@@ -212,8 +215,10 @@ impl Desk for MemoryDesk {
 
     fn put(&mut self, bytes: &[u8]) -> Result<(), Failed>
         requires { IsTrue (is_some self.old.out) }
-        ensures fails { IsErr result ↔ (IsTrue (fails_next self.old) ⊎ IsSomeAnd self.old.out (λ out. self.old.out_room < length out.1 + length bytes.now)) }
-        ensures ok { OnOk result (self.new ≡ record (after_call self.old) { out = option_map (λ out. (out.0, out.1 ++ bytes.now)) self.old.out }) }
+        ensures fails { IsErr result ↔ (IsTrue (fails_next self.old)
+            ⊎ IsSomeAnd self.old.out (λ out. self.old.out_room < length out.1 + length bytes.now)) }
+        ensures ok { OnOk result (self.new ≡ record (after_call self.old)
+            { out = option_map (λ out. (out.0, out.1 ++ bytes.now)) self.old.out }) }
         ensures failed { OnErr result (self.new ≡ after_fault self.old) }
         ensures cause { FailsByFault result self.old.faults self.new.faults }
         ensures never_falls { self.old.faults ≤ self.new.faults }
@@ -227,9 +232,11 @@ impl Desk for MemoryDesk {
     fn close_out(&mut self) -> Result<(), Failed>
         requires { IsTrue (is_some self.old.out) }
         ensures fails { IsErr result ↔ IsTrue (fails_next self.old) }
-        ensures ok { OnOk result (self.new ≡ record (after_call self.old) { out = None; written = self.old.out }) }
+        ensures ok { OnOk result
+            (self.new ≡ record (after_call self.old) { out = None; written = self.old.out }) }
         ensures failed { OnErr result (self.new ≡ record (after_fault self.old) { out = None }) }
-        ensures stored { OnOk result (StoresOut (Some (files_of self.old)) self.old.out (Some (files_of self.new))) }
+        ensures stored { OnOk result
+            (StoresOut (Some (files_of self.old)) self.old.out (Some (files_of self.new))) }
         ensures cause { FailsByFault result self.old.faults self.new.faults }
         ensures never_falls { self.old.faults ≤ self.new.faults }
     {
@@ -242,8 +249,10 @@ impl Desk for MemoryDesk {
     }
 
     fn say(&mut self, bytes: &[u8]) -> Result<(), Failed>
-        ensures fails { IsErr result ↔ (IsTrue (fails_next self.old) ⊎ (self.old.said_room < length self.old.said + length bytes.now)) }
-        ensures ok { OnOk result (self.new ≡ record (after_call self.old) { said = self.old.said ++ bytes.now }) }
+        ensures fails { IsErr result ↔ (IsTrue (fails_next self.old)
+            ⊎ (self.old.said_room < length self.old.said + length bytes.now)) }
+        ensures ok { OnOk result
+            (self.new ≡ record (after_call self.old) { said = self.old.said ++ bytes.now }) }
         ensures failed { OnErr result (self.new ≡ after_fault self.old) }
         ensures cause { FailsByFault result self.old.faults self.new.faults }
         ensures never_falls { self.old.faults ≤ self.new.faults }

@@ -17,7 +17,8 @@ pub(crate) fn copy_files(
     alloc: Global,
     files: &[(&str, &[u8])],
 ) -> Result<Vec<NamedFile>, AllocError>
-    ensures { IfOk result (λ kept. kept_files kept.items ≡ map (λ file. (file.0.now, file.1.now)) files.now) }
+    ensures { IfOk result (λ kept.
+        kept_files kept.items ≡ map (λ file. (file.0.now, file.1.now)) files.now) }
 {
     let mut kept = Vec::with_capacity(alloc, files.len())?;
     for (name, bytes) in files {

@@ -22,7 +22,8 @@ impl Model for Room {
 
     ghost view = { λ room. record { bytes = room.bytes.items; limit = room.limit } };
 
-    ghost invariant = { λ room. (room.limit ≤ vec_capacity room.bytes) × (vec_len room.bytes ≤ room.limit) };
+    ghost invariant = { λ room.
+        (room.limit ≤ vec_capacity room.bytes) × (vec_len room.bytes ≤ room.limit) };
 }
 
 impl Room {
@@ -53,7 +54,8 @@ impl Room {
     /// Adds a piece, all of it or nothing.
     pub(crate) fn add(&mut self, piece: &[u8]) -> Result<(), Full>
         ensures full { IsErr result ↔ (self.old.limit < length self.old.bytes + length piece.now) }
-        ensures ok { OnOk result (self.new ≡ record self.old { bytes = self.old.bytes ++ piece.now }) }
+        ensures ok { OnOk result
+            (self.new ≡ record self.old { bytes = self.old.bytes ++ piece.now }) }
         ensures err { OnErr result (self.new ≡ self.old) }
     {
         if piece.len() > self.limit - self.bytes.len() {

@@ -20,7 +20,12 @@ impl Model for SureDesk {
 
     ghost Value = { Counts };
 
-    ghost view = { λ desk. record { files = kept_files desk.files.items; writing = desk.is_writing; put = desk.put; said = desk.said } };
+    ghost view = { λ desk. record {
+      files = kept_files desk.files.items;
+      writing = desk.is_writing;
+      put = desk.put;
+      said = desk.said;
+    } };
 }
 
 impl SureDesk {
@@ -28,7 +33,12 @@ impl SureDesk {
 
     /// A desk with copies of these files. Where a name is given twice, the first counts.
     pub fn make(alloc: Global, files: &[(&str, &[u8])]) -> Result<SureDesk, AllocError>
-        ensures { IfOk result (λ desk. desk ≡ record { files = map (λ file. (file.0.now, file.1.now)) files.now; writing = false; put = 0; said = 0 }) }
+        ensures { IfOk result (λ desk. desk ≡ record {
+          files = map (λ file. (file.0.now, file.1.now)) files.now;
+          writing = false;
+          put = 0;
+          said = 0;
+        }) }
     {
         Ok(SureDesk {
             files: copy_files(alloc, files)?,
@@ -71,7 +81,8 @@ impl Desk for SureDesk {
     ghost idle = { λ _ _. refl };
 
     fn load(&mut self, name: &str, into: &mut Vec<u8>) -> Result<(), LoadFault>
-        ensures read { OnOk result (into.new.items ≡ unwrap_or (file_named self.old.files name.now) []) }
+        ensures read { OnOk result
+            (into.new.items ≡ unwrap_or (file_named self.old.files name.now) []) }
         ensures emptied { OnErr result (into.new.items ≡ []) }
         ensures memory_only { IfErr result (λ fault. fault ≡ LoadFault.Memory) }
         ensures same { self.new ≡ self.old }
@@ -115,7 +126,8 @@ impl Desk for SureDesk {
 
     fn say(&mut self, bytes: &[u8]) -> Result<(), Failed>
         ensures never_fails { IsOk result }
-        ensures said { self.new ≡ record self.old { said = counted self.old.said (length bytes.now) } }
+        ensures said { self.new
+            ≡ record self.old { said = counted self.old.said (length bytes.now) } }
     {
         self.said = self.said.saturating_add(bytes.len() as u64);
         Ok(())
