@@ -1,13 +1,22 @@
-// A library with one function.
+//! The outside of the solver: named files, one file that is being written, and standard output.
+//!
+//! A call takes any `Desk`, and its contract sees the desk as five meanings: the named files, the
+//! bytes said, the file being written, whether one is being written, and a count of faults. So a
+//! caller's theorem speaks of bytes in and bytes out, and a caller is tried against a desk in
+//! memory whose calls fail where a test says so.
 #![tactic(auto)]
 
-ghost use Rattle.std.specs.Prelude.{◌≡◌};
-ghost use Rattle.cfn_desk.specs.Echo.{echo_of};
+mod host;
+mod interface;
+mod memory;
+mod named;
+mod room;
+mod sure;
 
-// The `ensures` clause is the contract: what `echo` returns is `echo_of` of its argument, a definition
-// in `specs/Echo.antt`, which a caller's clause can cite too.
-pub fn echo(x: usize) -> usize
-    ensures { result ≡ echo_of x }
-{
-    x
-}
+pub use host::HostDesk;
+pub use interface::{Desk, Failed, LoadFault};
+pub use memory::MemoryDesk;
+pub use sure::SureDesk;
+
+#[cfg(test)]
+mod tests;
