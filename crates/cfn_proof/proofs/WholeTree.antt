@@ -110,10 +110,10 @@ spelled_law nodes tree =
 pub none_open_law : NoneOpenLaw
 none_open_law nodes linked none =
     everywhere (λ history tree. open_leaves tree ≡ 0) nodes linked
-      (λ i history there before is. absurd (none i there is))
-      (λ i history there before is. refl)
-      (λ i history x a first second there before is left right. omega (arith, left, right))
-      0 linked.some [] (at_root refl refl)
+    (λ i history there before is. absurd (none i there is))
+    (λ i history there before is. refl)
+    (λ i history x a first second there before is left right. omega (arith, left, right))
+    0 linked.some [] (at_root refl refl)
 
 -- the whole tree has at least the open leaves of each subtree
 open_below : (nodes : List Node) (i : ℕ) (history : List Event) → IsLinked nodes → Before nodes i history → open_leaves (tree_at nodes i) ≤ open_leaves (tree_of nodes)

@@ -49,23 +49,27 @@ module _ (nodes new : List Node) (i : ℕ) (tree : IsTree nodes) (changed : Chan
   tree_kept = record {
     linked = linked;
     blocks = λ j there. elim (cases_eq j i) [
-        inl same ↦ subst (λ m. AllByRecursion IsSpelledStep (node_at new m).block) (sym same) block
+      | inl same ↦ subst (λ m. AllByRecursion IsSpelledStep (node_at new m).block) (sym same) block
       | inr other ↦ elim (cases_lt j (length nodes)) [
-          inl old ↦ subst (λ (n : Node). AllByRecursion IsSpelledStep n.block) (sym (changed.others j old other)) (tree.blocks j old)
-        | inr late ↦ subst (λ b. AllByRecursion IsSpelledStep b) (sym (blocks j late)) tt ] ];
+        | inl old ↦ subst (λ (n : Node). AllByRecursion IsSpelledStep n.block) (sym (changed.others j old other)) (tree.blocks j old)
+        | inr late ↦ subst (λ b. AllByRecursion IsSpelledStep b) (sym (blocks j late)) tt
+      ]
+    ];
     ends = λ j there. elim (cases_eq j i) [
-        inl same ↦ subst (λ m. IsSpelledEnd (node_at new m).end) (sym same) end
+      | inl same ↦ subst (λ m. IsSpelledEnd (node_at new m).end) (sym same) end
       | inr other ↦ elim (cases_lt j (length nodes)) [
-          inl old ↦ subst (λ (n : Node). IsSpelledEnd n.end) (sym (changed.others j old other)) (tree.ends j old)
-        | inr late ↦ subst (λ e. IsSpelledEnd e) (sym (changed.fresh j late)) tt ] ];
+        | inl old ↦ subst (λ (n : Node). IsSpelledEnd n.end) (sym (changed.others j old other)) (tree.ends j old)
+        | inr late ↦ subst (λ e. IsSpelledEnd e) (sym (changed.fresh j late)) tt
+      ]
+    ];
   }
 
 pub tree_by_split : (nodes : List Node) (i x a : ℕ) → IsTree nodes → i < length nodes → IsFree nodes i → length nodes + 2 ≤ 2 ^ 32 → x ≤ greatest → a ≤ greatest → IsTree (split_at nodes i x a)
 tree_by_split nodes i x a tree there free room small_x small_a =
     tree_kept nodes (split_at nodes i x a) i tree (changed_by_split nodes i x a there free) (linked_by_split nodes i x a tree.linked there free room)
-      (λ j late. ap (λ (n : Node). n.block) (split_at-behind nodes i x a there j late) ∙ two_empty _ refl (j - length nodes))
-      (subst (λ (n : Node). AllByRecursion IsSpelledStep n.block) (sym (split_at-same nodes i x a there)) (tree.blocks i there))
-      (subst (λ (n : Node). IsSpelledEnd n.end) (sym (split_at-same nodes i x a there)) (small_x, small_a))
+    (λ j late. ap (λ (n : Node). n.block) (split_at-behind nodes i x a there j late) ∙ two_empty _ refl (j - length nodes))
+    (subst (λ (n : Node). AllByRecursion IsSpelledStep n.block) (sym (split_at-same nodes i x a there)) (tree.blocks i there))
+    (subst (λ (n : Node). IsSpelledEnd n.end) (sym (split_at-same nodes i x a there)) (small_x, small_a))
 
 past_empty : (nodes : List Node) (j : ℕ) → length nodes ≤ j → (node_at nodes j).block ≡ []
 past_empty [] j h = refl
@@ -75,9 +79,9 @@ past_empty (node ∷ nodes) (suc j) h = past_empty nodes j (omega arith)
 pub tree_by_close : (nodes : List Node) (i : ℕ) (block : List Step) → IsTree nodes → i < length nodes → IsFree nodes i → AllByRecursion IsSpelledStep block → IsTree (close_at nodes i block)
 tree_by_close nodes i block tree there free spelled =
     tree_kept nodes (close_at nodes i block) i tree (changed_by_close nodes i block there free) (linked_by_close nodes i block tree.linked there free)
-      (λ j late. past_empty (close_at nodes i block) j (omega (arith, length-close_at nodes i block there)))
-      (subst (λ (n : Node). AllByRecursion IsSpelledStep n.block) (sym (close_at-same nodes i block there)) spelled)
-      (subst (λ (n : Node). IsSpelledEnd n.end) (sym (close_at-same nodes i block there)) tt)
+    (λ j late. past_empty (close_at nodes i block) j (omega (arith, length-close_at nodes i block there)))
+    (subst (λ (n : Node). AllByRecursion IsSpelledStep n.block) (sym (close_at-same nodes i block there)) spelled)
+    (subst (λ (n : Node). IsSpelledEnd n.end) (sym (close_at-same nodes i block there)) tt)
 
 pub closed_tree : (inside now : List Node) (i : ℕ) (read : Node) (block : List Step) → inside ≡ now → IsTree inside → i < length now → IsFree now i → read ≡ get_or inside i read → AllByRecursion IsSpelledStep block → IsTree (set inside i (record { parent = read.parent; block = block; end = Shut }))
 closed_tree inside now i read block same tree there free value spelled =
@@ -104,15 +108,19 @@ one_open = record {
   blocks = λ i h. subst (λ b. AllByRecursion IsSpelledStep b) (sym (no_steps i)) tt;
   ends = λ i h. subst (λ e. IsSpelledEnd e) (sym (all_free i)) tt;
 }
-  where no_steps : (i : ℕ) → (node_at (open_node None ∷ []) i).block ≡ []
-        no_steps zero = refl
-        no_steps (suc i) = refl
-        all_free : (i : ℕ) → (node_at (open_node None ∷ []) i).end ≡ Free
-        all_free zero = refl
-        all_free (suc i) = refl
-        only_open : (i x a : ℕ) (first second : NodeId) → (node_at (open_node None ∷ []) i).end ≡ Split x a first second → ⊥
-        only_open zero x a first second e = cc
-        only_open (suc i) x a first second e = cc
-        no_parents : (i : ℕ) (parent : NodeId) → (node_at (open_node None ∷ []) i).parent ≡ Some parent → ⊥
-        no_parents zero parent e = cc
-        no_parents (suc i) parent e = cc
+  where
+    no_steps : (i : ℕ) → (node_at (open_node None ∷ []) i).block ≡ []
+    no_steps zero = refl
+    no_steps (suc i) = refl
+
+    all_free : (i : ℕ) → (node_at (open_node None ∷ []) i).end ≡ Free
+    all_free zero = refl
+    all_free (suc i) = refl
+
+    only_open : (i x a : ℕ) (first second : NodeId) → (node_at (open_node None ∷ []) i).end ≡ Split x a first second → ⊥
+    only_open zero x a first second e = cc
+    only_open (suc i) x a first second e = cc
+
+    no_parents : (i : ℕ) (parent : NodeId) → (node_at (open_node None ∷ []) i).parent ≡ Some parent → ⊥
+    no_parents zero parent e = cc
+    no_parents (suc i) parent e = cc

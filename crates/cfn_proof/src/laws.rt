@@ -32,12 +32,10 @@ pub fn same_before()
 /// A tree whose nodes have a spelling has one.
 pub fn spelled_where_nodes_are()
     ensures { SpelledLaw }
-{
-}
+{}
 
 /// A tree has an open leaf exactly where a node is one.
 pub fn open_where_a_node_is()
     ensures none { NoneOpenLaw }
     ensures some { SomeOpenLaw }
-{
-}
+{}

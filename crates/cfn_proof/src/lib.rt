@@ -5,11 +5,13 @@
 #![tactic(auto)]
 
 mod block;
+mod certificate;
 pub mod laws;
 mod path;
 mod tree;
 
 pub use block::Block;
+pub use certificate::Certificate;
 pub use cfn_model::{Event, Row, Step};
 pub use path::Path;
 pub use tree::{End, Node, NodeId, Tree};
