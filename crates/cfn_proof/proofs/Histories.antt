@@ -18,20 +18,20 @@ use Rattle.cfn_proof.proofs.TreeLemmas.{tree_at_is, from_last}
 use Rattle.cfn_proof.proofs.Growth.{Changed, before_old, before_new, changed_by_split, changed_by_close, split_numbers, split_at-same, split_at-first, split_at-second, length-split_at, close_at-same, length-close_at, linked_by_split, linked_by_close}
 
 -- the kinds of what stands before a node, by the node's parent
-record Side (nodes : List Node) (i : ℕ) (history : List Event) : Type 0 where
-  parent : ℕ
-  x : ℕ
-  a : ℕ
-  first : NodeId
-  second : NodeId
-  above : List Event
-  there : parent < length nodes
-  is : (node_at nodes parent).end ≡ Split x a first second
-  before : Before nodes parent above
-  knows : (node_at nodes i).parent ≡ Some (record { number = parent })
-  side : ((i ≡ first.number) × (history ≡ Is x a ∷ after (node_at nodes parent).block above)) ⊎ ((i ≡ second.number) × (history ≡ IsNot x a ∷ after (node_at nodes parent).block above))
+pub record Side (nodes : List Node) (i : ℕ) (history : List Event) : Type 0 where
+  pub parent : ℕ
+  pub x : ℕ
+  pub a : ℕ
+  pub first : NodeId
+  pub second : NodeId
+  pub above : List Event
+  pub there : parent < length nodes
+  pub is : (node_at nodes parent).end ≡ Split x a first second
+  pub before : Before nodes parent above
+  pub knows : (node_at nodes i).parent ≡ Some (record { number = parent })
+  pub side : ((i ≡ first.number) × (history ≡ Is x a ∷ after (node_at nodes parent).block above)) ⊎ ((i ≡ second.number) × (history ≡ IsNot x a ∷ after (node_at nodes parent).block above))
 
-side_of : (nodes : List Node) (i : ℕ) (history : List Event) → IsLinked nodes → Before nodes i history → ((i ≡ 0) × (history ≡ [])) ⊎ Side nodes i history
+pub side_of : (nodes : List Node) (i : ℕ) (history : List Event) → IsLinked nodes → Before nodes i history → ((i ≡ 0) × (history ≡ [])) ⊎ Side nodes i history
 side_of nodes i history linked (at_root is_root is_empty) = inl (is_root, is_empty)
 side_of nodes i history linked (at_first parent x a first second above there is before is_child is_history) =
     inr (record { parent = parent; x = x; a = a; first = first; second = second; above = above; there = there; is = is; before = before; knows = ap (λ m. (node_at nodes m).parent) is_child ∙ (linked.children parent x a first second there is).first_knows; side = inl (is_child, is_history) })
@@ -118,7 +118,7 @@ before_close nodes i block j history linked there free before =
     (omega (arith, before_there (close_at nodes i block) j history (linked_by_close nodes i block linked there free) before, length-close_at nodes i block there))
 
 -- what a child's end names
-named : (e : End) (i : ℕ) → IsTrue (names_child e i) → (x : ℕ) × (a : ℕ) × (first : NodeId) × (second : NodeId) × (e ≡ Split x a first second) × ((first.number ≡ i) ⊎ (second.number ≡ i))
+pub named : (e : End) (i : ℕ) → IsTrue (names_child e i) → (x : ℕ) × (a : ℕ) × (first : NodeId) × (second : NodeId) × (e ≡ Split x a first second) × ((first.number ≡ i) ⊎ (second.number ≡ i))
 named Free i h = absurd (let k : false ≡ true = h in cc)
 named Shut i h = absurd (let k : false ≡ true = h in cc)
 named (Split x a first second) i h =

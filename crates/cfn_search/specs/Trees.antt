@@ -1,0 +1,10 @@
+-- What a search's tree keeps besides being one.
+use Rattle.std.specs.Prelude.{◌≡◌, ℕ, ◌<◌, List, length, slice_index}
+use Rattle.cfn_proof.specs.declared.tree.NodeId.{NodeId}
+use Rattle.cfn_proof.specs.declared.tree.End.TheVariants.{Split}
+use Rattle.cfn_proof.specs.declared.tree.Node.{Node}
+use Rattle.cfn_proof.specs.Nodes.{node_at}
+
+-- Every split names a value of a variable, of those with these domain sizes, which are at most 4,096.
+pub record SplitsInRange (sizes : List ℕ) (nodes : List Node) : Type 0 where
+  pub each : (i x a : ℕ) (first second : NodeId) → i < length nodes → (node_at nodes i).end ≡ Split x a first second → (x < length sizes) × (a < slice_index sizes x) × (a < 4096)
