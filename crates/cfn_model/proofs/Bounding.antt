@@ -270,3 +270,10 @@ optimum P c best network good is same =
 
 pub none_below : NoneBelow
 none_below P c values network good same fits = omega (arith, same, lower_bounds P c values network good fits)
+
+-- what fits has a value for each size
+pub fits_length : (sizes values : List ℕ) → Fits sizes values → length values ≡ length sizes
+fits_length [] [] fits = refl
+fits_length [] (v ∷ values) fits = absurd fits
+fits_length (d ∷ sizes) [] fits = absurd fits
+fits_length (d ∷ sizes) (v ∷ values) fits = ap suc (fits_length sizes values fits.1)

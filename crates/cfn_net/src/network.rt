@@ -167,6 +167,15 @@ impl Network {
         sum
     }
 
+    /// The entry of a function at the tuple of an assignment, at most the upper bound.
+    pub fn entry_of(&self, f: u32, values: &[u32]) -> u64
+        requires function { f < length self.now.functions }
+        requires fits { Fits self.now.sizes values.now }
+        ensures { result ≡ entry_at self.now f (restrict (scope_at self.now f) values.now) }
+    {
+        self.part(f, values).value()
+    }
+
     /// A network with no functions.
     pub(crate) fn bare(
         alloc: Global,

@@ -165,15 +165,18 @@ at_leaf_is sizes nodes at lows history whole before = record {
 -- a write of what is not more keeps a bound
 pub still_small : (highs sizes : List ℕ) (x v : ℕ) → v ≤ slice_index highs x → ((y : ℕ) → y < length sizes → slice_index highs y ≤ slice_index sizes y) → x < length highs → (y : ℕ) → y < length sizes → slice_index (set highs x v) y ≤ slice_index sizes y
 still_small highs sizes x v less small there y h = elim (cases_eq y x) [
-    inl same ↦ (let w : slice_index (set highs x v) y ≡ v = ap (slice_index (set highs x v)) same ∙ get_or-set_same highs x v 0 there in let e : slice_index highs y ≡ slice_index highs x = ap (slice_index highs) same in omega (arith, w, e, small y h, less))
-  | inr other ↦ (let w : slice_index (set highs x v) y ≡ slice_index highs y = get_or-set_other highs x y v 0 other in omega (arith, w, small y h)) ]
+  | inl same ↦ (let w : slice_index (set highs x v) y ≡ v = ap (slice_index (set highs x v)) same ∙ get_or-set_same highs x v 0 there in let e : slice_index highs y ≡ slice_index highs x = ap (slice_index highs) same in omega (arith, w, e, small y h, less))
+  | inr other ↦ (let w : slice_index (set highs x v) y ≡ slice_index highs y = get_or-set_other highs x y v 0 other in omega (arith, w, small y h))
+]
 
 pub same_from : (a b : ℕ) (test : Bool) → test ≡ (a == b) → test ≡ true → a ≡ b
 same_from a b test is holds = same_of a b (sym is ∙ holds)
-  where same_of : (a b : ℕ) → (a == b) ≡ true → a ≡ b
-        same_of a b h = grind arith
+  where
+    same_of : (a b : ℕ) → (a == b) ≡ true → a ≡ b
+    same_of a b h = grind arith
 
 pub other_from : (a b : ℕ) (test : Bool) → test ≡ (a == b) → test ≡ false → a ≢ b
 other_from a b test is h = different a b (sym is ∙ h)
-  where different : (a b : ℕ) → (a == b) ≡ false → a ≢ b
-        different a b k e = grind arith
+  where
+    different : (a b : ℕ) → (a == b) ≡ false → a ≢ b
+    different a b k e = grind arith

@@ -1,2 +1,4 @@
 pub mod Decisions
 pub mod Trees
+pub mod Closing
+pub mod Shifting

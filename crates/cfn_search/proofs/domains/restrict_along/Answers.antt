@@ -129,7 +129,7 @@ loop-parent-preserved-then-eq c =
       there = there;
       small = λ y h. subst (λ v. slice_index (Rattle.std.proofs.Common.set c.loop-parent.high c.in-Split.variable v) y ≤ slice_index c.args.high.now y) (sym c.min.ensures) (still_small c.loop-parent.high c.args.high.now c.in-Split.variable _ (omega arith) c.loop-parent.invariant.small in_high y h);
       rest = λ history before. subst (λ v. Rest c.args.high.now c.args.tree.now c.in-Some.parent.number (Rattle.std.proofs.Common.set c.loop-parent.low c.in-Split.variable v) (Rattle.std.proofs.Common.set c.loop-parent.high c.in-Split.variable c.min.result) history) (sym c.max.ensures)
-        (subst (λ v. Rest c.args.high.now c.args.tree.now c.in-Some.parent.number (Rattle.std.proofs.Common.set c.loop-parent.low c.in-Split.variable (max (slice_index c.loop-parent.low c.in-Split.variable) c.in-Split.value)) (Rattle.std.proofs.Common.set c.loop-parent.high c.in-Split.variable v) history) (sym c.min.ensures)
+          (subst (λ v. Rest c.args.high.now c.args.tree.now c.in-Some.parent.number (Rattle.std.proofs.Common.set c.loop-parent.low c.in-Split.variable (max (slice_index c.loop-parent.low c.in-Split.variable) c.in-Split.value)) (Rattle.std.proofs.Common.set c.loop-parent.high c.in-Split.variable v) history) (sym c.min.ensures)
           (rest_first c.args.high.now c.args.tree.now c.loop-parent.at.number c.in-Some.parent c.in-Split.variable c.in-Split.value c.in-Split.first c.in-Split.second c.loop-parent.low c.loop-parent.high history c.linked.ensures.linked knows is in_low in_high (c.loop-parent.invariant.rest history before) (same_from _ _ _ c.eq.ensures c.if-eq.true)));
     }
 
@@ -146,7 +146,7 @@ loop-parent-preserved-else-eq c =
       there = there;
       small = c.loop-parent.invariant.small;
       rest = λ history before. subst (λ v. Rest c.args.high.now c.args.tree.now c.in-Some.parent.number (Rattle.std.proofs.Common.set c.loop-parent.low c.in-Split.variable v) c.loop-parent.high history) (sym c.max-else-eq.ensures)
-        (rest_second c.args.high.now c.args.tree.now c.loop-parent.at.number c.in-Some.parent c.in-Split.variable c.in-Split.value c.in-Split.first c.in-Split.second c.loop-parent.low c.loop-parent.high history c.linked.ensures.linked knows is in_low in_high (c.loop-parent.invariant.rest history before) (other_from _ _ _ c.eq.ensures c.if-eq.false));
+          (rest_second c.args.high.now c.args.tree.now c.loop-parent.at.number c.in-Some.parent c.in-Split.variable c.in-Split.value c.in-Split.first c.in-Split.second c.loop-parent.low c.loop-parent.high history c.linked.ensures.linked knows is in_low in_high (c.loop-parent.invariant.rest history before) (other_from _ _ _ c.eq.ensures c.if-eq.false));
     }
 
 -- a parent is a split
