@@ -131,6 +131,7 @@ impl Network {
             → cell (dims_at self.now f) tuple ≡ number → result ≡ slice_index tuple place }
         ensures exists { (tuple : List ℕ) × Fits (dims_at self.now f) tuple
             × (cell (dims_at self.now f) tuple ≡ number) }
+        ensures below { result < slice_index (dims_at self.now f) place }
     {
         self.function(f)
             .value_at(self.sizes.as_slice(), number, place)
