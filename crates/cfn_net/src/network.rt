@@ -155,7 +155,7 @@ impl Network {
     }
 
     /// The cost of an assignment: the sum of all functions' entries, or the upper bound where that is less
-    /// (toulbar2 user manual, wcsp format; Cooper et al. 2010, section 2).
+    /// (toulbar2 user manual, wcsp format; Cooper et al. 2010).
     pub fn cost(&self, values: &[u32]) -> Cost
         requires { Fits self.now.sizes values.now }
         ensures value { result.value ≡ cost self.now values.now }
