@@ -131,6 +131,7 @@ impl Network {
             → cell (dims_at self.now f) tuple ≡ number → result ≡ slice_index tuple place }
         ensures exists { (tuple : List ℕ) × Fits (dims_at self.now f) tuple
             × (cell (dims_at self.now f) tuple ≡ number) }
+        ensures below { result < slice_index (dims_at self.now f) place }
     {
         self.function(f)
             .value_at(self.sizes.as_slice(), number, place)
@@ -154,7 +155,7 @@ impl Network {
     }
 
     /// The cost of an assignment: the sum of all functions' entries, or the upper bound where that is less
-    /// (toulbar2 user manual, wcsp format; Cooper et al. 2010, section 2).
+    /// (toulbar2 user manual, wcsp format; Cooper et al. 2010).
     pub fn cost(&self, values: &[u32]) -> Cost
         requires { Fits self.now.sizes values.now }
         ensures value { result.value ≡ cost self.now values.now }
