@@ -1,5 +1,5 @@
 -- What one shift of a function's cost to the floor does.
-use Rattle.std.proofs.Common.{◌≡◌, ◌≢◌, ℕ, zero, suc, ◌+◌, ◌-◌, ◌<◌, ◌≤◌, inl, inr, min, List, [], ◌∷◌, ◌++◌, length, map, take, refl, sym, ap, ◌∙◌, subst, arith, eq-eqb}
+use Rattle.std.proofs.Common.{◌≡◌, ◌≢◌, ℕ, zero, suc, ◌+◌, ◌-◌, ◌<◌, ◌≤◌, ◌⊎◌, inl, inr, min, List, [], ◌∷◌, ◌++◌, length, map, take, refl, sym, ap, ◌∙◌, subst, arith, eq-eqb}
 use Rattle.std.proofs.lemmas.Bool.{cases_eq}
 use Rattle.std.proofs.lemmas.Int.{ints}
 use Rattle.std.proofs.lemmas.List.Sums.{sum_by-cons, sum_by_more}
@@ -71,19 +71,6 @@ total_split sizes values (f ∷ fs) =
     let e = total_split sizes values fs in
     omega (arith, a, b, c, d, e)
 
--- a function without variables shifts nothing
-pub skipped : (P : Network) (values : List ℕ) (history : List Event) (block : List Step) (k n lacks : ℕ) → n < length P.functions → varying P.sizes values (function_at P n) ≡ 0 → Shifted P values history block k n lacks → Shifted P values history block k (n + 1) lacks
-skipped P values history block k n lacks there none s = record {
-  late = s.late;
-  is = s.is;
-  runs = s.runs;
-  lifted = s.lifted;
-  sums = λ more. let e = sum_by_more (varying P.sizes values) P.functions n no_function there in omega (arith, e, none, s.sums more);
-  unary_costs = s.unary_costs;
-  residual_costs = λ f tuple h. s.residual_costs f tuple (omega arith);
-  live = s.live;
-}
-
 -- where all functions are shifted, the floor has reached what the assignment costs
 pub all_shifted : (P : Network) (values : List ℕ) (history : List Event) (block : List Step) (k lacks : ℕ) → k ≤ cost P values → Shifted P values history block k (length P.functions) lacks → k ≤ floor P (after block history)
 all_shifted P values history block k lacks reached s = elim (cases_eq lacks 0) [
@@ -128,7 +115,7 @@ untouched : (b c : Bool) (m : ℕ) (z r : ℤ) → b ≡ false → z ≡ r → (
 untouched true c m z r h k = absurd (let e : true ≡ false = h in cc)
 untouched false c m z r h k = omega (arith, ints, k)
 
-varying_at : (P : Network) (values : List ℕ) (f : ℕ) → 0 < arity P f → varying P.sizes values (function_at P f) ≡ entry_at P f (restrict (scope_at P f) values)
+pub varying_at : (P : Network) (values : List ℕ) (f : ℕ) → 0 < arity P f → varying P.sizes values (function_at P f) ≡ entry_at P f (restrict (scope_at P f) values)
 varying_at P values f h = by_scope (scope_at P f) (entry_at P f (restrict (scope_at P f) values)) h
   where
     by_scope : (scope : List ℕ) (c : ℕ) → 0 < length scope → varying_of scope c ≡ c
@@ -183,3 +170,14 @@ one_shift P values history block new k f lacks amount lift network fits leaves t
       residual_costs = λ g tuple h. untouched (f == g) (slice_index tuple 0 == a) amount (residual P s.late g tuple) (residual P history g tuple) (other_test f g (λ e. omega arith)) (s.residual_costs g tuple (omega arith));
       live = λ y v. s.live y v;
     }
+
+-- where the floor lacks nothing, it has reached the threshold
+pub none_lacks : (P : Network) (values : List ℕ) (history : List Event) (block : List Step) (k n lacks : ℕ) → lacks ≡ 0 → Shifted P values history block k n lacks → k ≤ floor P (after block history)
+none_lacks P values history block k n lacks none s = let e = ap (floor P) s.is in omega (arith, e, s.lifted)
+
+-- a list that is not found empty has an element
+pub some_place : (m n : ℕ) {test : Bool} → test ≡ (m == 0) → test ≡ false → m ≡ n → 0 < n
+some_place m n is fails same = by_zero m (sym is ∙ fails) same
+  where by_zero : (m : ℕ) → (m == 0) ≡ false → m ≡ n → 0 < n
+        by_zero zero h same = absurd (let k : true ≡ false = h in cc)
+        by_zero (suc m) h same = omega arith

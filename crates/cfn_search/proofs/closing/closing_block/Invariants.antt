@@ -6,6 +6,6 @@ use Rattle.cfn_search.proofs.closing.closing_block.Given as goal
 
 abbrev pub invariant-loop-f : goal.invariant-loop-f
 invariant-loop-f l = record {
-  lacks : l.lacks-2 ≤ l.k;
-  shifted : (history : List Event) → Leaves l.network history l.values → Shifted l.network l.values history l.block l.k l.f l.lacks-2;
+  lacks : l.lacks ≤ l.k;
+  shifted : (history : List Event) → Leaves l.network history l.values → Shifted l.network l.values history l.block l.k l.f l.lacks;
 }
