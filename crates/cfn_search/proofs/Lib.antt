@@ -1,3 +1,5 @@
 pub mod Walk
 pub mod Fewest
 pub mod Shifts
+pub mod Live
+pub mod Growing

@@ -2,3 +2,4 @@ pub mod Decisions
 pub mod Trees
 pub mod Closing
 pub mod Shifting
+pub mod Sound
