@@ -52,7 +52,7 @@ pub live_from : (sizes : List ℕ) (history : List Event) (x v : ℕ) → InOrde
 live_from sizes [] x v order above below = refl
 live_from sizes (Did step ∷ history) x v order above below = absurd order
 live_from sizes (Is y a ∷ history) x v order above below = elim (cases_eq y x) [
-    inl same ↦
+  | inl same ↦
       (let l = if_true {b = y == x} (max a (low history x)) (low history x) (same_test y x same) in
       let h = if_true {b = y == x} (min (a + 1) (high sizes history x)) (high sizes history x) (same_test y x same) in
       let is : a ≡ v = omega (arith, l, h) in
@@ -60,14 +60,16 @@ live_from sizes (Is y a ∷ history) x v order above below = elim (cases_eq y x)
   | inr other ↦
       (let l = if_false {b = y == x} (max a (low history x)) (low history x) (other_test y x other) in
       let h = if_false {b = y == x} (min (a + 1) (high sizes history x)) (high sizes history x) (other_test y x other) in
-      both ((y == x) && not (a == v)) _ (apart_false (y == x) (not (a == v)) (other_test y x other)) (live_from sizes history x v order.2 (omega (arith, l)) (omega (arith, h)))) ]
+      both ((y == x) && not (a == v)) _ (apart_false (y == x) (not (a == v)) (other_test y x other)) (live_from sizes history x v order.2 (omega (arith, l)) (omega (arith, h))))
+]
 live_from sizes (IsNot y a ∷ history) x v order above below = elim (cases_eq y x) [
-    inl same ↦
+  | inl same ↦
       (let l = if_true {b = y == x} (max (a + 1) (low history x)) (low history x) (same_test y x same) in
       both ((y == x) && (a == v)) _ (here_false (y == x) (a == v) (other_test a v (λ e. omega (arith, l)))) (live_from sizes history x v order.2 (omega (arith, l)) below))
   | inr other ↦
       (let l = if_false {b = y == x} (max (a + 1) (low history x)) (low history x) (other_test y x other) in
-      both ((y == x) && (a == v)) _ (apart_false (y == x) (a == v) (other_test y x other)) (live_from sizes history x v order.2 (omega (arith, l)) below)) ]
+      both ((y == x) && (a == v)) _ (apart_false (y == x) (a == v) (other_test y x other)) (live_from sizes history x v order.2 (omega (arith, l)) below))
+]
 
 same_of : (a b : ℕ) → (a == b) ≡ true → a ≡ b
 same_of a b h = grind arith
@@ -87,27 +89,30 @@ from_live sizes (Is y a ∷ history) x v order within live =
     let l = and_true (not ((y == x) && not (a == v))) (is_live history x v) live in
     let before = from_live sizes history x v order.2 within l.1 in
     elim (cases_eq y x) [
-      inl same ↦
-        (let lo = if_true {b = y == x} (max a (low history x)) (low history x) (same_test y x same) in
-        let hi = if_true {b = y == x} (min (a + 1) (high sizes history x)) (high sizes history x) (same_test y x same) in
-        let is = same_of a v (kept_same (y == x) (a == v) (not_removed _ l.0) (same_test y x same)) in
-        (omega (arith, lo, before.0, is), omega (arith, hi, before.1, is)))
-    | inr other ↦
-        (let lo = if_false {b = y == x} (max a (low history x)) (low history x) (other_test y x other) in
-        let hi = if_false {b = y == x} (min (a + 1) (high sizes history x)) (high sizes history x) (other_test y x other) in
-        (omega (arith, lo, before.0), omega (arith, hi, before.1))) ]
+      | inl same ↦
+          (let lo = if_true {b = y == x} (max a (low history x)) (low history x) (same_test y x same) in
+          let hi = if_true {b = y == x} (min (a + 1) (high sizes history x)) (high sizes history x) (same_test y x same) in
+          let is = same_of a v (kept_same (y == x) (a == v) (not_removed _ l.0) (same_test y x same)) in
+          (omega (arith, lo, before.0, is), omega (arith, hi, before.1, is)))
+      | inr other ↦
+          (let lo = if_false {b = y == x} (max a (low history x)) (low history x) (other_test y x other) in
+          let hi = if_false {b = y == x} (min (a + 1) (high sizes history x)) (high sizes history x) (other_test y x other) in
+          (omega (arith, lo, before.0), omega (arith, hi, before.1)))
+    ]
 from_live sizes (IsNot y a ∷ history) x v order within live =
     let l = and_true (not ((y == x) && (a == v))) (is_live history x v) live in
     let before = from_live sizes history x v order.2 within l.1 in
     elim (cases_eq y x) [
-      inl same ↦
-        (let lo = if_true {b = y == x} (max (a + 1) (low history x)) (low history x) (same_test y x same) in
-        let differs = kept_other (y == x) (a == v) (not_removed _ l.0) (same_test y x same) in
-        let apart : a ≢ v = λ e. different a v differs e in
-        let least : a ≡ low history x = order.0 ∙ ap (low history) same in
-        (omega (arith, lo, before.0, least), before.1))
-    | inr other ↦
-        (let lo = if_false {b = y == x} (max (a + 1) (low history x)) (low history x) (other_test y x other) in
-        (omega (arith, lo, before.0), before.1)) ]
-  where different : (a v : ℕ) → (a == v) ≡ false → a ≢ v
-        different a v h e = grind arith
+      | inl same ↦
+          (let lo = if_true {b = y == x} (max (a + 1) (low history x)) (low history x) (same_test y x same) in
+          let differs = kept_other (y == x) (a == v) (not_removed _ l.0) (same_test y x same) in
+          let apart : a ≢ v = λ e. different a v differs e in
+          let least : a ≡ low history x = order.0 ∙ ap (low history) same in
+          (omega (arith, lo, before.0, least), before.1))
+      | inr other ↦
+          (let lo = if_false {b = y == x} (max (a + 1) (low history x)) (low history x) (other_test y x other) in
+          (omega (arith, lo, before.0), before.1))
+    ]
+  where
+    different : (a v : ℕ) → (a == v) ≡ false → a ≢ v
+    different a v h e = grind arith

@@ -178,6 +178,7 @@ none_lacks P values history block k n lacks none s = let e = ap (floor P) s.is i
 -- a list that is not found empty has an element
 pub some_place : (m n : ℕ) {test : Bool} → test ≡ (m == 0) → test ≡ false → m ≡ n → 0 < n
 some_place m n is fails same = by_zero m (sym is ∙ fails) same
-  where by_zero : (m : ℕ) → (m == 0) ≡ false → m ≡ n → 0 < n
-        by_zero zero h same = absurd (let k : true ≡ false = h in cc)
-        by_zero (suc m) h same = omega arith
+  where
+    by_zero : (m : ℕ) → (m == 0) ≡ false → m ≡ n → 0 < n
+    by_zero zero h same = absurd (let k : true ≡ false = h in cc)
+    by_zero (suc m) h same = omega arith

@@ -3,3 +3,5 @@ pub mod Trees
 pub mod Closing
 pub mod Shifting
 pub mod Sound
+pub mod Outcome
+pub mod Searching

@@ -29,8 +29,8 @@ pub record AreOpen (nodes : List Node) (ids : List NodeId) : Type 0 where
   pub complete : (i : ℕ) → i < length nodes → IsFree nodes i → (j : ℕ) × (j < length ids) × (number_at ids j ≡ i)
 
 -- The tree is valid and strict at the threshold, its splits are decisions in order behind empty blocks, what is held
--- is a solution, and no more nodes are counted than the tree has and the budget allows.
-pub record Sound (P : Network) (budget : ℕ) (nodes : List Node) (ids : List NodeId) (best : Scoring) (spent : ℕ) : Type 0 where
+-- is a solution, and no more nodes are counted than the tree has.
+pub record Sound (P : Network) (nodes : List Node) (ids : List NodeId) (best : Scoring) (spent : ℕ) : Type 0 where
   pub network : best.network ≡ P
   pub solution : IsBest P best.held
   pub valid : ValidNodes P nodes (price_of best)
@@ -40,4 +40,3 @@ pub record Sound (P : Network) (budget : ℕ) (nodes : List Node) (ids : List No
   pub splits : SplitsInRange P.sizes nodes
   pub leaves : AreOpen nodes ids
   pub counted : spent ≤ count (tree_of nodes)
-  pub allowed : spent ≤ budget

@@ -1,8 +1,13 @@
-//! The plainest search: depth first, over the newest open leaf, with no propagation.
+//! The plainest search: depth first, always the newest open leaf, with no propagation.
+//!
+//! `solve` makes the outcome that a report and a certificate are written from. Its contract is the promise of every
+//! search: a good certificate with its tree's bound, and why the search stopped.
 #![tactic(auto)]
 
 mod closing;
 mod domains;
+mod outcome;
+mod search;
 
-pub use closing::closing_block;
-pub use domains::Domains;
+pub use outcome::{Outcome, Stop};
+pub use search::State;

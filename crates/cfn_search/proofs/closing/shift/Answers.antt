@@ -19,5 +19,5 @@ returns-clause-shifted c = λ history leaves shifted.
     let is_amount : c.min-amount.result ≡ min (entry_at c.args.network.now c.args.f (restrict (scope_at c.args.network.now c.args.f) c.args.values.now)) c.args.k = c.min-amount.ensures ∙ ap (λ m. min m c.args.k) c.entry_of.ensures in
     let amount_some : 0 < c.min-amount.result = omega (arith, c.if-amount-eq0.false) in
     one_shift c.args.network.now c.args.values.now history c.args.block.now c.push-2.new.self c.args.k c.args.f c.args.lacks c.min-amount.result c.min-lift.result c.limits.ensures c.requires.fits leaves c.requires.function place c.requires.lacks.0 is_amount amount_some c.min-lift.ensures
-      (c.in_ok-push-2.ensures.ok ∙ ap (λ b. b ++ Lift (slice_index c.scope-scope.result.now 0) c.min-lift.result ∷ []) c.in_ok-push.ensures.ok ∙ ap (λ x. (c.args.block.now ++ Project c.args.f 0 (slice_index c.args.values.now x) c.min-amount.result ∷ []) ++ Lift x c.min-lift.result ∷ []) e)
-      shifted
+    (c.in_ok-push-2.ensures.ok ∙ ap (λ b. b ++ Lift (slice_index c.scope-scope.result.now 0) c.min-lift.result ∷ []) c.in_ok-push.ensures.ok ∙ ap (λ x. (c.args.block.now ++ Project c.args.f 0 (slice_index c.args.values.now x) c.min-amount.result ∷ []) ++ Lift x c.min-lift.result ∷ []) e)
+    shifted

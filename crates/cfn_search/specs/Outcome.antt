@@ -1,0 +1,39 @@
+-- What every search owes.
+use Rattle.std.specs.Prelude.{◌≡◌, ℕ, ◌<◌, ◌≤◌, min, List, [], ◌∷◌, length, None}
+use Rattle.cfn_model.specs.declared.report.Row.{Row}
+use Rattle.cfn_model.specs.Network.{Network}
+use Rattle.cfn_model.specs.Sums.{floor}
+use Rattle.cfn_model.specs.Tree.{count, open_leaves, Strict, OpenBelow, bound}
+use Rattle.cfn_model.specs.Certificate as model
+use Rattle.cfn_model.specs.Text.{IsSpelled}
+use Rattle.cfn_proof.specs.Certificates.{certificate_of}
+use Rattle.cfn_search.specs.declared.outcome.Stop.{Stop}
+use Rattle.cfn_search.specs.declared.outcome.Stop.TheVariants.{Done, Budget, Memory}
+use Rattle.cfn_search.specs.declared.outcome.Outcome.{Outcome}
+
+-- Why a search stopped: no leaf is open; one is, and the budget is spent; or one is, and the budget is not spent.
+abbrev pub HasCause : Stop → ℕ → ℕ → ℕ → Type 0
+HasCause Done leaves nodes budget = leaves ≡ 0
+HasCause Budget leaves nodes budget = (0 < leaves) × (nodes ≡ budget)
+HasCause Memory leaves nodes budget = (0 < leaves) × (nodes < budget)
+
+-- The opening row: the floor of the network, capped at the upper bound, and no assignment.
+abbrev pub opening : Network → Row
+opening P = record { lower = min P.upper (floor P []); upper = None }
+
+-- The certificate is good and has a spelling; its lower bound is its tree's bound; its open leaves have floors below
+-- the threshold; its tree is strict; no more nodes are counted than the tree has and the budget allows; the rows
+-- begin with the opening's and go no further.
+pub record IsSearched (P : Network) (budget nodes : ℕ) (c : model.Certificate) (rows : List Row) (stop : Stop) : Type 0 where
+  pub good : model.Good P c
+  pub spelled : IsSpelled c
+  pub lower : c.lower ≡ bound P [] c.tree (model.threshold c)
+  pub below : OpenBelow P [] c.tree (model.threshold c)
+  pub strict : Strict P [] c.tree
+  pub counted : nodes ≤ count c.tree
+  pub allowed : nodes ≤ budget
+  pub begins : rows ≡ opening P ∷ []
+  pub cause : HasCause stop (open_leaves c.tree) nodes budget
+
+abbrev pub IsOutcome : Network → ℕ → Outcome → Type 0
+IsOutcome P budget outcome = IsSearched P budget outcome.nodes (certificate_of outcome.certificate) outcome.rows.items outcome.stop

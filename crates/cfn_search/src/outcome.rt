@@ -1,0 +1,24 @@
+//! What a search hands out.
+
+use cfn_proof::{Certificate, Row};
+
+/// Why a search stopped.
+#[derive(Clone, Copy, Debug, PartialEq, Eq)]
+pub enum Stop {
+    /// No leaf is open.
+    Done,
+    /// A leaf is open, and as many nodes were expanded as the budget allows.
+    Budget,
+    /// A leaf is open, and fewer nodes were expanded than the budget allows: memory was refused.
+    Memory,
+}
+
+/// The certificate, the rows of bounds from the opening on, the number of leaves that were expanded into a split or
+/// closed, and why the search stopped.
+#[derive(Drop)]
+pub struct Outcome {
+    pub certificate: Certificate,
+    pub rows: Vec<Row>,
+    pub nodes: u64,
+    pub stop: Stop,
+}
