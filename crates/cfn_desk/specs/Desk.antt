@@ -60,3 +60,8 @@ pub record Stores (before : Files) (name bytes : List ℕ) (now : Files) : Type 
 -- Where the files and the file being written were told, the files are told still, and have it.
 abbrev pub StoresOut : Option Files → Option (List ℕ × List ℕ) → Option Files → Type 0
 StoresOut files out now = IfSome files (λ before. IfSome out (λ done. IsSomeAnd now (Stores before done.0 done.1)))
+
+-- Where the files were told, they are told still, and are as they were or have the file being written.
+abbrev pub StoresOutOrNothing : Option Files → Option (List ℕ × List ℕ) → Option Files → Type 0
+StoresOutOrNothing files out now = IfSome files (λ before.
+    (now ≡ Some before) ⊎ IsSomeAnd out (λ done. IsSomeAnd now (Stores before done.0 done.1)))

@@ -2,9 +2,12 @@
 use Rattle.std.specs.Prelude.{◌≡◌, ℕ, Bool, List, ◌++◌, Option}
 use Rattle.std.specs.Io.KnownBytes.{Consumes}
 
--- whether a file is being written, and how many calls failed
 pub record Host : Type 0 where
+  -- whether a file is being written
   pub writing : Bool
+  -- the bytes put into it so far, where the runtime's files tell what they hold
+  pub held : Option (List ℕ)
+  -- how many calls failed, up to the last value of a count
   pub faults : ℕ
 
 -- Some bytes that the reader had left came behind those that were there.

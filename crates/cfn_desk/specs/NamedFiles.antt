@@ -1,5 +1,5 @@
 -- Files in a list, each as its name and its bytes.
-use Rattle.std.specs.Prelude.{ℕ, List, [], ◌∷◌, Option, Some, None, if◌then◌else◌, bytes_eq, map, unwrap_or}
+use Rattle.std.specs.Prelude.{ℕ, List, [], ◌∷◌, Option, Some, None, if◌then◌else◌, bytes_eq, map}
 use Rattle.cfn_desk.specs.declared.named.NamedFile.{NamedFile}
 
 -- the bytes of the first file of that name

@@ -20,7 +20,7 @@ const BUFFER_SIZE: usize = 65536;
 const CHUNK_SIZE: usize = 65536;
 
 /// How many bytes a file that is read may have.
-const FILE_LIMIT: usize = 4294967295;
+pub const FILE_LIMIT: usize = 4294967295;
 
 /// A desk over the files and the standard output of a runtime. It tells no contents.
 ///
@@ -37,16 +37,22 @@ pub struct HostDesk<'a, R: Files> {
 }
 
 impl<'a, R: Files> Model for HostDesk<'a, R> {
-    ghost use Rattle.std.specs.Prelude.{is_some};
+    ghost use Rattle.std.specs.Prelude.{is_some, option_and_then};
+    ghost use Rattle.std.specs.Io.KnownBytes.{append_known};
     ghost use Rattle.cfn_desk.specs.HostDesk.{Host};
 
     ghost Value = { Host };
 
-    ghost view = { λ desk. record { writing = is_some desk.file; faults = desk.faults } };
+    ghost view = { λ desk. record {
+      writing = is_some desk.file;
+      held = option_and_then
+          (λ file. append_known (R.File.contents file) desk.buffer.bytes) desk.file;
+      faults = desk.faults;
+    } };
 }
 
 impl<'a, R: Files> HostDesk<'a, R> {
-    ghost use Rattle.std.specs.Prelude.{◌≡◌, false, IfOk};
+    ghost use Rattle.std.specs.Prelude.{◌≡◌, false, None, IfOk};
     ghost use Rattle.cfn_desk.specs.Desk.{counted, Rose};
 
     /// A desk over this runtime. It takes all the memory that it will use, but for what a load
@@ -54,7 +60,8 @@ impl<'a, R: Files> HostDesk<'a, R> {
     pub fn make(rt: &'a R) -> Result<HostDesk<'a, R>, AllocError>
     where
         R: AllocGlobal,
-        ensures { IfOk result (λ desk. desk ≡ record { writing = false; faults = 0 }) }
+        ensures { IfOk result (λ desk.
+            desk ≡ record { writing = false; held = None; faults = 0 }) }
     {
         Ok(HostDesk {
             rt,
@@ -76,7 +83,9 @@ impl<'a, R: Files> HostDesk<'a, R> {
 }
 
 impl<'a, R: Files + Print> Desk for HostDesk<'a, R> {
-    ghost use Rattle.std.specs.Prelude.{None, refl};
+    ghost use Rattle.std.specs.Prelude.{◌≡◌, ◌≤◌, [], vec_len, None, IsTrue, OnOk, OnErr, refl};
+    ghost use Rattle.std.specs.Io.KnownBytes.{Appends};
+    ghost use Rattle.cfn_desk.specs.Desk.{FailsByFault, LoadFailsByFault};
 
     ghost files = { λ _. None };
 
@@ -90,7 +99,13 @@ impl<'a, R: Files + Print> Desk for HostDesk<'a, R> {
 
     ghost idle = { λ _ _. refl };
 
-    fn load(&mut self, name: &str, into: &mut Vec<u8>) -> Result<(), LoadFault> {
+    fn load(&mut self, name: &str, into: &mut Vec<u8>) -> Result<(), LoadFault>
+        ensures limit { OnOk result (vec_len into.new ≤ FILE_LIMIT) }
+        ensures emptied { OnErr result (into.new.items ≡ []) }
+        ensures cause { LoadFailsByFault result self.old.faults self.new.faults }
+        ensures never_falls { self.old.faults ≤ self.new.faults }
+        ensures same { self.new ≡ record self.old { faults = self.new.faults } }
+    {
         into.clear();
         match read_file(self.rt, name, into) {
             Ok(()) => Ok(()),
@@ -116,7 +131,13 @@ impl<'a, R: Files + Print> Desk for HostDesk<'a, R> {
         }
     }
 
-    fn put(&mut self, bytes: &[u8]) -> Result<(), Failed> {
+    fn put(&mut self, bytes: &[u8]) -> Result<(), Failed>
+        requires { IsTrue self.old.writing }
+        ensures held { OnOk result (Appends self.old.held self.new.held bytes.now) }
+        ensures still_writing { IsTrue self.new.writing }
+        ensures cause { FailsByFault result self.old.faults self.new.faults }
+        ensures never_falls { self.old.faults ≤ self.new.faults }
+    {
         let Some(file) = &mut self.file else {
             unreachable!();
         };

@@ -17,8 +17,8 @@ pub struct Failed;
 ///
 /// Names and files are bytes. Only `load` takes memory. What a desk tells it goes on telling.
 pub trait Desk {
-    ghost use Rattle.std.specs.Prelude.{◌≡◌, ◌≤◌, ◌⊎◌, ℕ, Bool, false, List, [], Option, Some, None, IfSome, IsSome, IsTrue, OnOk, OnErr, is_ok};
-    ghost use Rattle.cfn_desk.specs.Desk.{Files, FailsByFault, LoadFailsByFault, SaysPiece, SaysFront, PutsPiece, PutsFront, StoresOut};
+    ghost use Rattle.std.specs.Prelude.{◌≡◌, ◌≤◌, ℕ, Bool, false, List, [], Option, Some, None, IfSome, IsSome, IsTrue, OnOk, OnErr, is_ok};
+    ghost use Rattle.cfn_desk.specs.Desk.{Files, FailsByFault, LoadFailsByFault, SaysPiece, SaysFront, PutsPiece, PutsFront, StoresOut, StoresOutOrNothing};
 
     /// The named files, where the desk tells them.
     ghost files: { Self → Option Files };
@@ -95,8 +95,8 @@ pub trait Desk {
         // Ok stores the file.
         ensures stored { OnOk result (StoresOut (files self.old) (out self.old) (files self.new)) }
         // An error stores it or changes nothing.
-        ensures stored_or_same { OnErr result ((files self.new ≡ files self.old)
-            ⊎ StoresOut (files self.old) (out self.old) (files self.new)) }
+        ensures stored_or_same { OnErr result
+            (StoresOutOrNothing (files self.old) (out self.old) (files self.new)) }
         // A desk that told its files tells them still.
         ensures still_told { IsSome (files self.old) → IsSome (files self.new) }
         // Whatever the answer, nothing is being written.

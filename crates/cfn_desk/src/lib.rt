@@ -13,9 +13,9 @@ mod named;
 mod room;
 mod sure;
 
-pub use host::HostDesk;
+pub use host::{FILE_LIMIT, HostDesk};
 pub use interface::{Desk, Failed, LoadFault};
-pub use memory::MemoryDesk;
+pub use memory::{MemoryDesk, NAME_ROOM};
 pub use sure::SureDesk;
 
 #[cfg(test)]
