@@ -24,7 +24,8 @@ use Rattle.cfn_proof.proofs.Histories.{before_split, before_close, before_some, 
 use Rattle.cfn_search.specs.Decisions.{low, high, InOrder}
 use Rattle.cfn_search.specs.Trees.{SplitsInRange}
 use Rattle.cfn_search.specs.Sound.{Sound, AreOpen, number_at, price_of}
-use Rattle.cfn_search.proofs.Live.{live_from}
+use Rattle.cfn_search.proofs.Live.{live_from, no_steps}
+use Rattle.cfn_search.proofs.Shifts.{decisions_floor}
 
 -- a node stays valid at every smaller threshold
 valid_node_lower : (P : Network) (history : List Event) (block : List Step) (e : End) (k less : ℕ) → less ≤ k → ValidNode P history block e k → ValidNode P history block e less
@@ -70,10 +71,10 @@ split_not_shut h k = cc
 
 -- the leaf at the end of the list is closed
 module _ (P : Network) (nodes : List Node) (ids : List NodeId) (id : NodeId) (best : Scoring) (spent now : ℕ) (block : List Step) (tree : IsTree nodes) (sound : Sound P nodes (ids ++ id ∷ []) best spent) where
-  last_there : id.number < length nodes
+  pub last_there : id.number < length nodes
   last_there = subst (λ n. n < length nodes) (last_number ids id) (sound.leaves.there (length ids) (omega (arith, length-append ids (id ∷ []))))
 
-  last_free : IsFree nodes id.number
+  pub last_free : IsFree nodes id.number
   last_free = subst (λ n. IsFree nodes n) (last_number ids id) (sound.leaves.free (length ids) (omega (arith, length-append ids (id ∷ []))))
 
   not_last : (j : ℕ) → j < length ids → number_at ids j ≢ id.number
@@ -307,3 +308,19 @@ module _ (P : Network) (nodes : List Node) (ids : List NodeId) (id one two : Nod
         leaves = grown there free apart_from other len first_is second_is is_split;
         counted = let m = count_split nodes id.number x a tree.linked there free room (before_some nodes id.number tree.linked there) in omega (arith, m, sound.counted);
       }
+
+-- the floor of an open leaf is that of the network
+pub leaf_floor : (P : Network) (nodes : List Node) (ids : List NodeId) (best : Scoring) (spent i : ℕ) (history : List Event) → Sound P nodes ids best spent → i < length nodes → IsFree nodes i → Before nodes i history → floor P (after (node_at nodes i).block history) ≡ floor P []
+leaf_floor P nodes ids best spent i history sound there free before =
+    let block_is : (node_at nodes i).block ≡ [] = sound.empty i there (λ shut. shut_not_free shut free) in
+    ap (λ b. floor P (after b history)) block_is ∙ decisions_floor P history (no_steps P.sizes history (sound.order i history there before))
+
+-- an open leaf whose floor reaches the threshold is closed behind its own block
+pub swept : (P : Network) (nodes : List Node) (ids : List NodeId) (id : NodeId) (best : Scoring) (spent now : ℕ) → IsTree nodes → Sound P nodes (ids ++ id ∷ []) best spent → price_of best ≤ floor P [] → now ≤ spent + 1 → Sound P (close_at nodes id.number (node_at nodes id.number).block) ids best now
+swept P nodes ids id best spent now tree sound reached fewer =
+    let there = last_there P nodes ids id best spent now [] tree sound in
+    let free = last_free P nodes ids id best spent now [] tree sound in
+    let block_is : (node_at nodes id.number).block ≡ [] = sound.empty id.number there (λ shut. shut_not_free shut free) in
+    closed P nodes ids id best spent now (node_at nodes id.number).block tree sound
+    (λ history before. (subst (λ b. Run P history b (price_of best)) (sym block_is) tt, inl (let f = leaf_floor P nodes (ids ++ id ∷ []) best spent id.number history sound there free before in omega (arith, f, reached))))
+    fewer

@@ -1,7 +1,8 @@
 //! The search: a stack of open leaves, of which the newest is expanded.
 
 ghost use Rattle.std.specs.Prelude.{◌≡◌, ℕ, ◌+◌, ◌<◌, ◌≤◌, min, List, [], length, IfOk, OnOk, OnErr};
-ghost use Rattle.cfn_model.specs.Sums.{floor};
+ghost use Rattle.cfn_model.specs.Network.{function_at};
+ghost use Rattle.cfn_model.specs.Sums.{constant, floor};
 ghost use Rattle.cfn_search.specs.Outcome.{IsOutcome, opening};
 ghost use Rattle.cfn_search.specs.Sound.{price_of};
 
@@ -55,6 +56,7 @@ impl State {
             return;
         }
         while let Some(leaf) = self.leaves.pop() {
+            self.tree.linked();
             self.tree.shut(leaf);
         }
     }
@@ -67,9 +69,21 @@ fn opening_floor(network: &Network) -> u64
     network.limits();
     let mut sum = Cost::of(0, network.ub());
     for f in 0..network.functions() {
-        if network.scope(f).is_empty() {
-            sum = sum.plus(Cost::of(network.entry(f, 0), network.ub()));
-        }
+        sum = sum.plus(Cost::of(constant(network, f), network.ub()));
     }
     sum.value()
+}
+
+/// The constant that a function of arity 0 is, and 0 for any other function.
+fn constant(network: &Network, f: u32) -> u64
+    requires { f < length network.now.functions }
+    ensures value { result ≡ constant (function_at network.now f) }
+    ensures capped { result ≤ network.now.upper }
+{
+    network.limits();
+    if network.scope(f).is_empty() {
+        network.entry(f, 0)
+    } else {
+        0
+    }
 }
