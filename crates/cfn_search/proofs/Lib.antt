@@ -3,3 +3,4 @@ pub mod Fewest
 pub mod Shifts
 pub mod Live
 pub mod Growing
+pub mod Expanding

@@ -14,16 +14,16 @@ no_steps sizes (Did step ∷ history) order = absurd order
 no_steps sizes (Is x a ∷ history) order = no_steps sizes history order.2
 no_steps sizes (IsNot x a ∷ history) order = no_steps sizes history order.2
 
-same_test : (x y : ℕ) → x ≡ y → (x == y) ≡ true
+pub same_test : (x y : ℕ) → x ≡ y → (x == y) ≡ true
 same_test x y h = eq-eqb x y h
 
-other_test : (x y : ℕ) → (x ≡ y → ⊥) → (x == y) ≡ false
+pub other_test : (x y : ℕ) → (x ≡ y → ⊥) → (x == y) ≡ false
 other_test x y h = grind arith
 
-if_true : {b : Bool} (m n : ℕ) → b ≡ true → (if b then m else n) ≡ m
+pub if_true : {b : Bool} (m n : ℕ) → b ≡ true → (if b then m else n) ≡ m
 if_true m n h = rw h refl
 
-if_false : {b : Bool} (m n : ℕ) → b ≡ false → (if b then m else n) ≡ n
+pub if_false : {b : Bool} (m n : ℕ) → b ≡ false → (if b then m else n) ≡ n
 if_false m n h = rw h refl
 
 and_true : (a b : Bool) → (a && b) ≡ true → (a ≡ true) × (b ≡ true)

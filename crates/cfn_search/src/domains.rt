@@ -40,7 +40,9 @@ impl Domains {
         requires high { length self.old.high.items ≡ length network.now.sizes }
         requires leaf { leaf.number < length tree.now }
         requires splits { SplitsInRange network.now.sizes tree.now }
-        ensures { (history : List Event) → Before tree.now leaf.number history
+        ensures low { length self.new.low.items ≡ length network.now.sizes }
+        ensures high { length self.new.high.items ≡ length network.now.sizes }
+        ensures domains { (history : List Event) → Before tree.now leaf.number history
             → AreDomains network.now.sizes history self.new.low.items self.new.high.items }
     {
         fill_whole(network, &mut self.low, &mut self.high);
