@@ -1,0 +1,21 @@
+-- A scope that is being read, and the stamps by which it knows its variables.
+use Rattle.std.specs.Prelude.{◌≡◌, ℕ, ◌<◌, ◌≤◌, List, length, slice_index, ◌==◌}
+use Rattle.std.specs.List.{list_any}
+use Rattle.cfn_model.specs.Network.{cells, dims}
+use Rattle.cfn_wcsp.specs.Building.{IsScope, AreSizes}
+
+-- The domain sizes of all variables, the variables of the scope so far, and which scope it is, counted from 1.
+pub record Partial : Type 0 where
+  pub sizes : List ℕ
+  pub variables : List ℕ
+  pub number : ℕ
+
+-- The variables of the scope are those that its number is stamped on, and no stamp is of a later scope.
+pub record Keeps (sizes stamps : List ℕ) (number : ℕ) (variables : List ℕ) (so_far : ℕ) : Type 0 where
+  pub domains : AreSizes sizes
+  pub each : length stamps ≡ length sizes
+  pub counted : 0 < number
+  pub earlier : (x : ℕ) → slice_index stamps x ≤ number
+  pub stamped : (x : ℕ) → list_any (λ y. y == x) variables ≡ (slice_index stamps x == number)
+  pub scope : IsScope sizes variables
+  pub cells : so_far ≡ cells (dims sizes variables)
