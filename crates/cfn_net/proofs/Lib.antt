@@ -1,0 +1,4 @@
+pub mod Cells
+pub mod Digits
+pub mod Costs
+pub mod Listings
