@@ -9,7 +9,7 @@ use Rattle.cfn_model.specs.Reading.{◌>>=◌, At, natural_at, tuple_at, check_v
 use Rattle.cfn_wcsp.specs.declared.fault.ReadFault.{ReadFault}
 use Rattle.cfn_wcsp.specs.declared.fault.ReadFault.TheVariants.{Refused, Memory}
 use Rattle.cfn_wcsp.specs.Giving.{Fails}
-use Rattle.cfn_wcsp.specs.Building.{AreSizes, IsScope}
+use Rattle.cfn_net.specs.Building.{AreSizes, IsScope}
 
 pub cells-push : (ds : List ℕ) (d : ℕ) → cells (ds ++ d ∷ []) ≡ cells ds * d
 cells-push [] d = omega arith

@@ -9,7 +9,7 @@ use Rattle.cfn_model.specs.declared.reading.Kind.{Kind}
 use Rattle.cfn_model.specs.declared.reading.Kind.TheVariants.{VariableOutOfRange, RepeatedVariable, TableTooWide}
 use Rattle.cfn_model.specs.Network.{cells, dims}
 use Rattle.cfn_model.specs.Reading.{check_variable}
-use Rattle.cfn_wcsp.specs.Building.{IsScope}
+use Rattle.cfn_net.specs.Building.{IsScope}
 use Rattle.cfn_wcsp.specs.Scopes.{Keeps}
 use Rattle.cfn_wcsp.proofs.Cells.{cells-more}
 

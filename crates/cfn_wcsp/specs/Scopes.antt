@@ -2,7 +2,7 @@
 use Rattle.std.specs.Prelude.{◌≡◌, ℕ, ◌<◌, ◌≤◌, List, length, slice_index, ◌==◌}
 use Rattle.std.specs.List.{list_any}
 use Rattle.cfn_model.specs.Network.{cells, dims}
-use Rattle.cfn_wcsp.specs.Building.{IsScope, AreSizes}
+use Rattle.cfn_net.specs.Building.{IsScope, AreSizes}
 
 -- The domain sizes of all variables, the variables of the scope so far, and which scope it is, counted from 1.
 pub record Partial : Type 0 where

@@ -7,8 +7,10 @@
 mod fault;
 mod field;
 mod numerals;
+mod reading;
 mod scope;
 mod sizes;
 mod tables;
 
 pub use fault::ReadFault;
+pub use reading::read;

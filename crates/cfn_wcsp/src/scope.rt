@@ -6,7 +6,7 @@
 ghost use Rattle.std.specs.Prelude.{◌≡◌, ◌+◌, ◌<◌, ◌^◌, [], ◌∷◌, ◌++◌, pos, None, Some, IfOk, IfErr, OnOk, OnErr};
 ghost use Rattle.cfn_model.specs.Network.{cells, dims};
 ghost use Rattle.cfn_model.specs.Reading.{check_variable};
-ghost use Rattle.cfn_wcsp.specs.Building.{IsScope, AreSizes};
+ghost use Rattle.cfn_net.specs.Building.{IsScope, AreSizes};
 
 use cfn_model::Kind;
 use std::alloc::{AllocError, Global};

@@ -3,7 +3,7 @@
 ghost use Rattle.std.specs.Prelude.{◌<◌, ◌≤◌, IfOk};
 ghost use Rattle.cfn_model.specs.Reading.{sizes_at};
 ghost use Rattle.cfn_wcsp.specs.Giving.{Gives, state};
-ghost use Rattle.cfn_wcsp.specs.Building.{AreSizes};
+ghost use Rattle.cfn_net.specs.Building.{AreSizes};
 
 use crate::fault::ReadFault;
 use crate::field::Field;

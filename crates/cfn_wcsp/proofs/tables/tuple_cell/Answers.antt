@@ -3,7 +3,7 @@ use Rattle.std.proofs.lemmas.Result.{err_from_is_err_and}
 use Rattle.std.proofs.lemmas.List.{length-map}
 use Rattle.std.specs.Prelude.{slice_index}
 use Rattle.cfn_model.specs.Network.{dims}
-use Rattle.cfn_wcsp.specs.Building.{IsScope}
+use Rattle.cfn_net.specs.Building.{IsScope}
 use Rattle.cfn_wcsp.specs.Giving.{state}
 use Rattle.cfn_wcsp.specs.Tables.{cell_at}
 use Rattle.cfn_wcsp.proofs.Cells.{go_on, end, done, within, below_all, size_at}
