@@ -1,12 +1,11 @@
 -- Adding one function at a time is reading them all.
 use Rattle.std.proofs.Common.{◌≡◌, ℕ, suc, ◌-◌, ◌+◌, ◌≤◌, ◌<◌, List, [], ◌∷◌, ◌++◌, length, Result, Ok, Err, refl, sym, ap, ◌∙◌, append_assoc, arith}
-use Rattle.std.specs.Prelude.{sum_by}
 use Rattle.std.proofs.lemmas.List.{append-nil, length_push}
 use Rattle.std.proofs.lemmas.List.Sums.{sum_by-append}
 use Rattle.cfn_model.specs.declared.reading.Refusal.{Refusal}
 use Rattle.cfn_model.specs.Network.{Function, Network, cells, dims}
 use Rattle.cfn_model.specs.Reading.{◌>>=◌, At, function_from, functions_from}
-use Rattle.cfn_net.specs.Building.{all_cells, new_network, with_function}
+use Rattle.cfn_net.specs.Building.{all_cells, with_function}
 use Rattle.cfn_wcsp.specs.declared.fault.ReadFault.{ReadFault}
 use Rattle.cfn_wcsp.specs.declared.fault.ReadFault.TheVariants.{Refused, Memory}
 use Rattle.cfn_wcsp.specs.Giving.{Fails}
@@ -58,9 +57,9 @@ go_on P count i s Q after total lt h so_far =
     let a = added P s Q after h in
     let step = one P.sizes P.upper (all_cells P) (count - (i + 1)) s after a.function a.read in
     sym (ap (λ m. functions_onto P m s) n ∙ ap (behind P) step
-        ∙ regroup P a.function (functions_from P.sizes P.upper (all_cells P + cells (dims P.sizes a.function.scope)) (count - (i + 1)) after)
-        ∙ ap (λ m. behind (with_function P a.function) (functions_from P.sizes P.upper m (count - (i + 1)) after)) (sym (more_cells P a.function))
-        ∙ ap (λ R. functions_onto R (count - (i + 1)) after) a.is) ∙ so_far
+    ∙ regroup P a.function (functions_from P.sizes P.upper (all_cells P + cells (dims P.sizes a.function.scope)) (count - (i + 1)) after)
+    ∙ ap (λ m. behind (with_function P a.function) (functions_from P.sizes P.upper m (count - (i + 1)) after)) (sym (more_cells P a.function))
+    ∙ ap (λ R. functions_onto R (count - (i + 1)) after) a.is) ∙ so_far
 
 pub end : (e : ReadFault) (P : Network) (count i : ℕ) (s : At) (total : Result (Network × At) Refusal) → i < count → Fails e (function_onto P s) → functions_onto P (count - i) s ≡ total → Fails e total
 end Memory P count i s total lt h so_far = tt
@@ -74,20 +73,3 @@ unfolding functions_from
 done P count i s total le so_far =
     let n : count - i ≡ 0 = omega arith in
     sym so_far ∙ ap (λ m. functions_onto P m s) n ∙ ap (λ fs. Ok (record P { functions = fs }, s)) (append-nil P.functions)
-
--- from a network with no functions
-abbrev pub network_of : List ℕ → List ℕ → ℕ → Result (List Function × At) Refusal → Result Network Refusal
-network_of name sizes upper read = read >>= λ fs. Ok (record { name = name; sizes = sizes; upper = upper; functions = fs.0 })
-
-pub complete : (name sizes : List ℕ) (upper count : ℕ) (s : At) (Q : Network) (after : At) → functions_onto (new_network name sizes upper) count s ≡ Ok (Q, after)
-    → network_of name sizes upper (functions_from sizes upper 0 count s) ≡ Ok Q
-complete name sizes upper count s Q after h =
-    let b = bind_ok (functions_from sizes upper 0 count s) (λ fs. Ok (record { name = name; sizes = sizes; upper = upper; functions = fs.0 }, fs.1)) (Q, after) h in
-    let e = ok_is (record { name = name; sizes = sizes; upper = upper; functions = b.0.0 }, b.0.1) (Q, after) b.2 in
-    rw b.1 (ap (λ (p : Network × At). Ok p.0) e)
-
-pub incomplete : (e : ReadFault) (name sizes : List ℕ) (upper count : ℕ) (s : At) → Fails e (functions_onto (new_network name sizes upper) count s) → Fails e (network_of name sizes upper (functions_from sizes upper 0 count s))
-incomplete Memory name sizes upper count s h = tt
-incomplete (Refused r) name sizes upper count s h =
-    let failed = bind_err (functions_from sizes upper 0 count s) (λ fs. (record { name = name; sizes = sizes; upper = upper; functions = fs.0 }, fs.1)) r h in
-    rw failed refl

@@ -1,5 +1,5 @@
 -- The cells of tuples, place by place.
-use Rattle.std.proofs.Common.{◌≡◌, ℕ, suc, ◌-◌, ◌+◌, ◌*◌, ◌≤◌, ◌<◌, List, [], ◌∷◌, ◌++◌, length, get_or, drop, map, Result, Ok, Err, refl, sym, ap, subst, ◌∙◌, arith}
+use Rattle.std.proofs.Common.{◌≡◌, ℕ, suc, ◌+◌, ◌*◌, ◌≤◌, ◌<◌, List, [], ◌∷◌, ◌++◌, length, get_or, drop, Result, Ok, Err, refl, sym, ap, ◌∙◌, arith}
 use Rattle.std.specs.Prelude.{slice_index}
 use Rattle.std.proofs.lemmas.List.{map_push, drop_more, drop_all, get_or-drop, get_or-map, length-drop, length-map}
 use Rattle.std.proofs.Math.Nat.{mul_assoc, mul-le-mul_right, mul-le-mul_left}
@@ -77,8 +77,8 @@ some_cells (d ∷ ds) each =
 pub some_left : (sizes variables : List ℕ) (i : ℕ) → AreSizes sizes → IsScope sizes variables → 0 < cells (drop i (dims sizes variables))
 some_left sizes variables i are is =
     some_cells (drop i (dims sizes variables)) (λ k lt.
-        let place : i + k < length variables = omega (arith, lt, length-drop i (dims sizes variables), length-map variables (slice_index sizes)) in
-        rw (get_or-drop, get_or-map (slice_index sizes) variables (i + k) 0 0 place) (are.each (slice_index variables (i + k)) (is.variables (i + k) place)).0)
+    let place : i + k < length variables = omega (arith, lt, length-drop i (dims sizes variables), length-map variables (slice_index sizes)) in
+    rw (get_or-drop, get_or-map (slice_index sizes) variables (i + k) 0 0 place) (are.each (slice_index variables (i + k)) (is.variables (i + k) place)).0)
 
 -- the domain size at a place
 pub size_at : (sizes variables : List ℕ) (i : ℕ) → i < length variables → slice_index sizes (slice_index variables i) ≡ get_or (dims sizes variables) i 0

@@ -73,7 +73,7 @@ go_on P ds count i s c mid amount after total lt some h k so_far =
     let t = tuple_of ds s mid c h in
     let step = one ds (count - (i + 1)) s mid after t.tuple amount t.read k in
     sym (ap (λ m. listings_into P ds m s) n ∙ ap (into_last P ds) step ∙ regroup P ds (t.tuple, amount) (listings_at ds (count - (i + 1)) after) some
-        ∙ ap (λ cell. listings_into (after_one P cell amount) ds (count - (i + 1)) after) t.is) ∙ so_far
+    ∙ ap (λ cell. listings_into (after_one P cell amount) ds (count - (i + 1)) after) t.is) ∙ so_far
 
 pub end : (e : ReadFault) (P : Network) (ds : List ℕ) (count i : ℕ) (s : At) (total : Result (Network × At) Refusal) → i < count → Fails e (cell_at ds s) → listings_into P ds (count - i) s ≡ total → Fails e total
 end Memory P ds count i s total lt h so_far = tt
@@ -103,8 +103,8 @@ listed_is : ListingLaw → (sizes : List ℕ) (upper : ℕ) (scope : List ℕ) (
 listed_is law sizes upper scope default before [] = ap (function_of sizes upper scope default) (sym (append-nil before))
 listed_is law sizes upper scope default before (listing ∷ listings) =
     ap (λ f. listed upper (dims sizes scope) f listings) (law.entry sizes upper scope default before listing)
-        ∙ listed_is law sizes upper scope default (before ++ listing ∷ []) listings
-        ∙ ap (function_of sizes upper scope default) (append_assoc before (listing ∷ []) listings)
+    ∙ listed_is law sizes upper scope default (before ++ listing ∷ []) listings
+    ∙ ap (function_of sizes upper scope default) (append_assoc before (listing ∷ []) listings)
 
 -- the function of listings that are read
 abbrev function_in : Network → List ℕ → ℕ → Result (List (List ℕ × ℕ) × At) Refusal → Result (Function × At) Refusal
@@ -119,8 +119,8 @@ whole law P scope default (Ok x) =
     let f = function_of P.sizes P.upper scope default [] in
     let g = listed P.upper (dims P.sizes scope) f x.0 in
     sym (ap (λ h. Ok (with_last (with_function P f) (listed P.upper (dims P.sizes scope) h x.0), x.1)) (law.at_end P f)
-        ∙ ap (λ Q. Ok (Q, x.1)) (law.replaced P f g)
-        ∙ ap (λ h. Ok (with_function P h, x.1)) (listed_is law P.sizes P.upper scope default [] x.0))
+    ∙ ap (λ Q. Ok (Q, x.1)) (law.replaced P f g)
+    ∙ ap (λ h. Ok (with_function P h, x.1)) (listed_is law P.sizes P.upper scope default [] x.0))
 whole law P scope default (Err e) = refl
 
 -- a function whose arity and scope were read, and then its default cost and its number of tuples, or not

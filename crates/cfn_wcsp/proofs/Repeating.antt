@@ -1,5 +1,5 @@
 -- Reading domain sizes one after the other, as a loop does.
-use Rattle.std.proofs.Common.{◌≡◌, ℕ, suc, ◌-◌, ◌+◌, ◌≤◌, ◌<◌, List, [], ◌∷◌, ◌++◌, length, get_or, Result, Ok, Err, refl, sym, ap, ◌∙◌, append_assoc, arith, inl, inr}
+use Rattle.std.proofs.Common.{◌≡◌, ℕ, suc, ◌-◌, ◌+◌, ◌≤◌, ◌<◌, List, [], ◌∷◌, ◌++◌, length, Result, Ok, Err, refl, sym, ap, ◌∙◌, append_assoc, arith, inl, inr}
 use Rattle.std.specs.Prelude.{slice_index}
 use Rattle.std.proofs.lemmas.Bool.{cases_lt}
 use Rattle.std.proofs.lemmas.List.{append-nil, get_or_append_left, get_or_push, length_push}
@@ -40,11 +40,6 @@ done front count i s total le so_far =
     let k : count - i ≡ 0 = omega arith in
     let one : with_front front (sizes_at (count - i) s) ≡ Ok (front, s) = rw k (ap (λ ns. Ok (ns, s)) (append-nil front)) in
     sym so_far ∙ one
-
--- nothing read yet
-pub begin : (read : Result (List ℕ × At) Refusal) → with_front [] read ≡ read
-begin (Ok x) = refl
-begin (Err f) = refl
 
 -- each size so far is in range
 abbrev pub SizesSoFar : List ℕ → Type 0

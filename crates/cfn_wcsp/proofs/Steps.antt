@@ -1,5 +1,5 @@
 -- What follows from a step of reading that did not fail, or that did.
-use Rattle.std.proofs.Common.{◌≡◌, Result, Ok, Err, refl, ap, subst}
+use Rattle.std.proofs.Common.{◌≡◌, Result, Ok, Err, refl, subst}
 use Rattle.cfn_model.specs.declared.reading.Refusal.{Refusal}
 use Rattle.cfn_model.specs.Reading.{◌>>=◌}
 use Rattle.cfn_wcsp.specs.declared.fault.ReadFault.{ReadFault}
@@ -18,9 +18,6 @@ succeeded x = Ok x
 
 pub ok_is : {A : Type 0} (x y : A) → succeeded x ≡ succeeded y → x ≡ y
 ok_is x y e = cc
-
-pub bound_err : {A B : Type 0} (r : Result A Refusal) (f : A → Result B Refusal) (e : Refusal) → r ≡ Err e → (r >>= f) ≡ Err e
-bound_err r f e h = rw h refl
 
 -- what is given is the same where two readings are
 pub gives_same : {X Y : Type 0} {a b : Result Y Refusal} (view : X → Y) (result : Result X ReadFault) → a ≡ b → Gives view result a → Gives view result b

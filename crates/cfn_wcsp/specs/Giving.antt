@@ -1,5 +1,5 @@
 -- What a function of the reader gives, against what reading defines.
-use Rattle.std.specs.Prelude.{◌≡◌, ℕ, ◌+◌, Result, Ok, Err}
+use Rattle.std.specs.Prelude.{◌≡◌, ◌+◌, Result, Ok, Err}
 use Rattle.cfn_model.specs.declared.reading.Refusal.{Refusal}
 use Rattle.cfn_model.specs.Reading.{At}
 use Rattle.cfn_words.specs.Splitting.{Place, left}

@@ -6,7 +6,7 @@ ghost use Rattle.cfn_wcsp.specs.Fields.{check_of};
 use cfn_model::Kind;
 
 /// What a number of the file says.
-#[derive(Clone, Copy, Debug, PartialEq, Eq)]
+#[derive(Clone, Copy)]
 pub(crate) enum Field {
     /// The number of variables.
     Variables,
@@ -20,7 +20,8 @@ pub(crate) enum Field {
     Domain,
     /// The number of variables of a scope.
     Arity,
-    /// The default cost of a function, where the functions so far, this one included, have so many cells.
+    /// The default cost of a function, where the functions so far, this one included, have so many
+    /// cells.
     Default { cells: u64 },
     /// The number of tuples that are listed.
     Tuples,

@@ -1,7 +1,7 @@
 //! Reads a wcsp file (toulbar2 user manual, wcsp format) as a network.
 //!
-//! The words of the file are read from left to right. The first that fails a check of its place decides how the
-//! file is refused.
+//! The words of the file are read from left to right, and the first that fails a check of its place
+//! decides how the file is refused.
 #![tactic(auto)]
 
 mod fault;
@@ -14,3 +14,6 @@ mod tables;
 
 pub use fault::ReadFault;
 pub use reading::read;
+
+#[cfg(test)]
+mod tests;

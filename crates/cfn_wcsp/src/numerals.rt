@@ -2,9 +2,10 @@
 
 ghost use Rattle.std.specs.Prelude.{◌≡◌, pos, None, IfOk};
 ghost use Rattle.cfn_model.specs.Words.{IsWord, number_of};
-ghost use Rattle.cfn_model.specs.Reading.{word_at, number_in, natural_at, check_variable};
+ghost use Rattle.cfn_model.specs.Reading.{word_at, number_in, natural_at};
 ghost use Rattle.cfn_wcsp.specs.Giving.{Gives, state};
 ghost use Rattle.cfn_wcsp.specs.Fields.{check_of, InRange};
+ghost use Rattle.cfn_wcsp.specs.Scopes.{check_next};
 
 use crate::fault::ReadFault;
 use crate::field::Field;
@@ -46,7 +47,8 @@ pub(crate) fn numeral(word: &[u8], ordinal: u64) -> Result<i64, ReadFault>
 /// The next number, which passes the checks of its field.
 #[tactic(auto, unfolding(cfn_model::specs::Reading::natural_at))]
 pub(crate) fn natural(words: &mut Words<'_>, field: Field) -> Result<u64, ReadFault>
-    ensures gives { Gives (λ n. (n, state words.new)) result (natural_at (check_of field) (state words.old)) }
+    ensures gives { Gives (λ n. (n, state words.new)) result
+        (natural_at (check_of field) (state words.old)) }
     ensures range { IfOk result (λ n. InRange field n) }
 {
     let (word, ordinal) = word(words)?;
@@ -60,8 +62,9 @@ pub(crate) fn natural(words: &mut Words<'_>, field: Field) -> Result<u64, ReadFa
 /// The next number as a scope's next variable.
 #[tactic(auto, unfolding(cfn_model::specs::Reading::natural_at))]
 pub(crate) fn variable(words: &mut Words<'_>, scope: &Scope<'_>) -> Result<u32, ReadFault>
-    ensures gives { Gives (λ x. (x, state words.new)) result (natural_at (check_variable scope.now.sizes scope.now.variables) (state words.old)) }
-    ensures passed { IfOk result (λ x. check_variable scope.now.sizes scope.now.variables (pos x) ≡ None) }
+    ensures gives { Gives (λ x. (x, state words.new)) result
+        (natural_at (check_next scope.now) (state words.old)) }
+    ensures passed { IfOk result (λ x. check_next scope.now (pos x) ≡ None) }
 {
     let (word, ordinal) = word(words)?;
     let number = numeral(word, ordinal)?;

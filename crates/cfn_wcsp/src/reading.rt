@@ -16,11 +16,17 @@ use cfn_words::Words;
 use std::alloc::Global;
 
 /// So many cost functions, which are added to the builder.
-fn functions(words: &mut Words<'_>, scope: &mut Scope<'_>, builder: &mut Builder, count: u32) -> Result<(), ReadFault>
+fn functions(
+    words: &mut Words<'_>,
+    scope: &mut Scope<'_>,
+    builder: &mut Builder,
+    count: u32,
+) -> Result<(), ReadFault>
     requires sizes { scope.old.sizes ≡ builder.old.sizes }
     requires number { scope.old.number + count < 2 ^ 32 }
     requires room { length builder.old.functions + count ≤ 1048576 }
-    ensures { Gives (λ _. (builder.new, state words.new)) result (functions_onto builder.old count (state words.old)) }
+    ensures { Gives (λ _. (builder.new, state words.new)) result
+        (functions_onto builder.old count (state words.old)) }
 {
     for _ in 0..count {
         function(words, scope, builder)?;
@@ -45,16 +51,17 @@ fn network(alloc: Global, words: &mut Words<'_>) -> Result<Network, ReadFault>
     Ok(builder.finish()?)
 }
 
-/// The network that a wcsp file says, or why the file is refused: the first word that fails a check, counted from
-/// 1, and the check (toulbar2 user manual, wcsp format).
+/// The network that a wcsp file says, or why the file is refused: the first word that fails a check,
+/// counted from 1, and the check (toulbar2 user manual, wcsp format).
 ///
-/// A file has its name, the number of variables, the greatest domain size (which is not used), the number of cost
-/// functions, the upper bound, the domain sizes and the cost functions. A cost function has its arity, its variables,
-/// its default cost, the number of its tuples, and the tuples, each with its cost. White space of any kind stands
-/// between words, and what follows the last function is not looked at.
+/// A file has its name, the number of variables, the greatest domain size (which is not used), the
+/// number of cost functions, the upper bound, the domain sizes and the cost functions. A cost function
+/// has its arity, its variables, its default cost, the number of its tuples, and the tuples, each with
+/// its cost. White space of any kind stands between words, and what follows the last function is not
+/// looked at. A missing word is refused at the number that it would have.
 ///
-/// The time is linear in the file and the cells of its tables. Memory is taken as words come, and for a table when
-/// its default cost has been read.
+/// The time is linear in the bytes and the cells of the tables. Memory is taken as words come, and for
+/// a table when its default cost has been read, so that a number that the file merely claims takes none.
 pub fn read(alloc: Global, bytes: &[u8]) -> Result<Network, ReadFault>
     ensures { Gives (λ network. network) result (reading bytes.now) }
 {

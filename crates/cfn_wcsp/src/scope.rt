@@ -1,11 +1,11 @@
 //! The scope that is being read.
 //!
-//! Each variable carries a stamp, the number of the last scope that it was in. So whether a scope repeats a
-//! variable is one comparison, also where a scope has very many variables, and no stamp is ever cleared.
+//! Each variable carries a stamp, the number of the last scope that it was in. So whether a scope
+//! repeats a variable is one comparison, also where a scope has very many variables, and no stamp is
+//! ever cleared.
 
 ghost use Rattle.std.specs.Prelude.{◌≡◌, ◌+◌, ◌<◌, ◌^◌, [], ◌∷◌, ◌++◌, pos, None, Some, IfOk, IfErr, OnOk, OnErr};
-ghost use Rattle.cfn_model.specs.Network.{cells, dims};
-ghost use Rattle.cfn_model.specs.Reading.{check_variable};
+ghost use Rattle.cfn_model.specs.Network.{cells};
 ghost use Rattle.cfn_net.specs.Building.{IsScope, AreSizes};
 
 use cfn_model::Kind;
@@ -33,6 +33,8 @@ impl<'a> Model for Scope<'a> {
 }
 
 impl<'a> Scope<'a> {
+    ghost use Rattle.cfn_wcsp.specs.Scopes.{scope_dims, check_next};
+
     /// An empty scope over variables with these domain sizes.
     pub(crate) fn new(alloc: Global, sizes: &'a [u32]) -> Result<Scope<'a>, AllocError>
         requires { AreSizes sizes.now }
@@ -57,11 +59,12 @@ impl<'a> Scope<'a> {
         self.cells = 1;
     }
 
-    /// The variable that a number is, where it can be the scope's next one, or else the first check that it fails.
+    /// The variable that a number is, where it can be the scope's next one, or else the first check
+    /// that it fails.
     pub(crate) fn check(&self, number: i64) -> Result<u32, Kind>
-        ensures passed { IfOk result (λ x. check_variable self.now.sizes self.now.variables number ≡ None) }
+        ensures passed { IfOk result (λ x. check_next self.now number ≡ None) }
         ensures value { IfOk result (λ x. number ≡ pos x) }
-        ensures failed { IfErr result (λ kind. check_variable self.now.sizes self.now.variables number ≡ Some kind) }
+        ensures failed { IfErr result (λ kind. check_next self.now number ≡ Some kind) }
     {
         if number < 0 || number.unsigned_abs() >= self.sizes.len() as u64 {
             return Err(Kind::VariableOutOfRange);
@@ -78,8 +81,9 @@ impl<'a> Scope<'a> {
 
     /// Adds a variable that passed the checks. Nothing changes where memory is refused.
     pub(crate) fn push(&mut self, x: u32) -> Result<(), AllocError>
-        requires { check_variable self.old.sizes self.old.variables (pos x) ≡ None }
-        ensures ok { OnOk result (self.new ≡ record self.old { variables = self.old.variables ++ x ∷ [] }) }
+        requires { check_next self.old (pos x) ≡ None }
+        ensures ok { OnOk result (self.new
+            ≡ record self.old { variables = self.old.variables ++ x ∷ [] }) }
         ensures err { OnErr result (self.new ≡ self.old) }
     {
         self.variables.push(x)?;
@@ -107,7 +111,7 @@ impl<'a> Scope<'a> {
 
     /// How many tuples the variables so far have: 1 to 4,194,304.
     pub(crate) fn cells(&self) -> u32
-        ensures { result ≡ cells (dims self.now.sizes self.now.variables) }
+        ensures { result ≡ cells (scope_dims self.now) }
     {
         self.cells
     }

@@ -12,10 +12,15 @@ use cfn_words::Words;
 use std::alloc::Global;
 
 /// The domain sizes of so many variables. Memory is taken as they come.
-pub(crate) fn domains(alloc: Global, words: &mut Words<'_>, variables: u32) -> Result<Vec<u32>, ReadFault>
+pub(crate) fn domains(
+    alloc: Global,
+    words: &mut Words<'_>,
+    variables: u32,
+) -> Result<Vec<u32>, ReadFault>
     requires some { 0 < variables }
     requires few { variables ≤ 1048576 }
-    ensures gives { Gives (λ v. (v.items, state words.new)) result (sizes_at variables (state words.old)) }
+    ensures gives { Gives (λ v. (v.items, state words.new)) result
+        (sizes_at variables (state words.old)) }
     ensures sizes { IfOk result (λ v. AreSizes v.items) }
 {
     let mut sizes = Vec::new(alloc);

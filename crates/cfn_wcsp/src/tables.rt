@@ -1,10 +1,11 @@
 //! One cost function of a file: its scope, its default cost and its tuples.
 
 ghost use Rattle.std.specs.Prelude.{◌≡◌, ◌+◌, ◌<◌, ◌^◌, length, IfOk, OnOk};
-ghost use Rattle.cfn_model.specs.Network.{cells, dims, dims_at};
+ghost use Rattle.cfn_model.specs.Network.{cells, dims_at};
 ghost use Rattle.cfn_model.specs.Reading.{scope_from};
 ghost use Rattle.cfn_wcsp.specs.Giving.{Gives, state};
 ghost use Rattle.cfn_net.specs.Building.{last};
+ghost use Rattle.cfn_wcsp.specs.Scopes.{scope_dims};
 ghost use Rattle.cfn_wcsp.specs.Tables.{cell_at, listings_into, function_onto};
 
 use crate::fault::ReadFault;
@@ -15,8 +16,13 @@ use cfn_net::{Builder, listing_law};
 use cfn_words::Words;
 
 /// So many more variables of a scope. Memory is taken as they come.
-pub(crate) fn variables(words: &mut Words<'_>, scope: &mut Scope<'_>, arity: u64) -> Result<(), ReadFault>
-    ensures gives { Gives (λ _. (scope.new.variables, state words.new)) result (scope_from scope.old.sizes scope.old.variables arity (state words.old)) }
+pub(crate) fn variables(
+    words: &mut Words<'_>,
+    scope: &mut Scope<'_>,
+    arity: u64,
+) -> Result<(), ReadFault>
+    ensures gives { Gives (λ _. (scope.new.variables, state words.new)) result
+        (scope_from scope.old.sizes scope.old.variables arity (state words.old)) }
     ensures sizes { scope.new.sizes ≡ scope.old.sizes }
     ensures number { scope.new.number ≡ scope.old.number }
 {
@@ -29,8 +35,9 @@ pub(crate) fn variables(words: &mut Words<'_>, scope: &mut Scope<'_>, arity: u64
 
 /// The cell of the next tuple, which has a value for each variable of the scope.
 pub(crate) fn tuple_cell(words: &mut Words<'_>, scope: &Scope<'_>) -> Result<u32, ReadFault>
-    ensures gives { Gives (λ cell. (cell, state words.new)) result (cell_at (dims scope.now.sizes scope.now.variables) (state words.old)) }
-    ensures below { IfOk result (λ cell. cell < cells (dims scope.now.sizes scope.now.variables)) }
+    ensures gives { Gives (λ cell. (cell, state words.new)) result
+        (cell_at (scope_dims scope.now) (state words.old)) }
+    ensures below { IfOk result (λ cell. cell < cells (scope_dims scope.now)) }
 {
     let sizes = scope.sizes();
     let variables = scope.variables();
@@ -43,12 +50,18 @@ pub(crate) fn tuple_cell(words: &mut Words<'_>, scope: &Scope<'_>) -> Result<u32
     Ok(cell)
 }
 
-/// So many listings, each written at its cell of the builder's last function, which has this scope. The last listing
-/// of a tuple counts. It takes no memory.
-pub(crate) fn listings(words: &mut Words<'_>, scope: &Scope<'_>, builder: &mut Builder, count: u64) -> Result<(), ReadFault>
+/// So many listings, each written at its cell of the builder's last function, which has this scope. The
+/// last listing of a tuple counts. It takes no memory.
+pub(crate) fn listings(
+    words: &mut Words<'_>,
+    scope: &Scope<'_>,
+    builder: &mut Builder,
+    count: u64,
+) -> Result<(), ReadFault>
     requires some { 0 < length builder.old.functions }
-    requires dims { dims_at builder.old (last builder.old) ≡ dims scope.now.sizes scope.now.variables }
-    ensures { Gives (λ _. (builder.new, state words.new)) result (listings_into builder.old (dims scope.now.sizes scope.now.variables) count (state words.old)) }
+    requires dims { dims_at builder.old (last builder.old) ≡ scope_dims scope.now }
+    ensures { Gives (λ _. (builder.new, state words.new)) result
+        (listings_into builder.old (scope_dims scope.now) count (state words.old)) }
 {
     for _ in 0..count {
         let cell = tuple_cell(words, scope)?;
@@ -60,11 +73,16 @@ pub(crate) fn listings(words: &mut Words<'_>, scope: &Scope<'_>, builder: &mut B
 
 /// The next cost function, which is added to the builder. Its table is made when its default cost is read.
 #[tactic(auto, unfolding(cfn_model::specs::Reading::function_from))]
-pub(crate) fn function(words: &mut Words<'_>, scope: &mut Scope<'_>, builder: &mut Builder) -> Result<(), ReadFault>
+pub(crate) fn function(
+    words: &mut Words<'_>,
+    scope: &mut Scope<'_>,
+    builder: &mut Builder,
+) -> Result<(), ReadFault>
     requires sizes { scope.old.sizes ≡ builder.old.sizes }
     requires number { scope.old.number + 1 < 2 ^ 32 }
     requires room { length builder.old.functions < 1048576 }
-    ensures gives { Gives (λ _. (builder.new, state words.new)) result (function_onto builder.old (state words.old)) }
+    ensures gives { Gives (λ _. (builder.new, state words.new)) result
+        (function_onto builder.old (state words.old)) }
     ensures sizes { scope.new.sizes ≡ scope.old.sizes }
     ensures number { OnOk result (scope.new.number ≡ scope.old.number + 1) }
 {

@@ -53,11 +53,14 @@ impl<'a> Words<'a> {
         ensures none { IsNone result ↔ (left self.old ≡ []) }
         ensures unchanged { IfNone result (self.new ≡ self.old) }
         // The word is the first of those that were left, and the others stay.
-        ensures first { IfSome result (λ word. left self.old ≡ slice_range self.old.text word.start word.end ∷ left self.new) }
+        ensures first { IfSome result (λ word. left self.old
+            ≡ slice_range self.old.text word.start word.end ∷ left self.new) }
         ensures word { IfSome result (λ word. IsWord (slice_range self.old.text word.start word.end)) }
         ensures from { IfSome result (λ word. self.old.at ≤ word.start) }
-        ensures within { IfSome result (λ word. (word.start < word.end) × (word.end ≤ length self.old.text)) }
-        ensures after { IfSome result (λ word. self.new ≡ record self.old { at = word.end; count = word.ordinal }) }
+        ensures within { IfSome result (λ word. (word.start < word.end)
+            × (word.end ≤ length self.old.text)) }
+        ensures after { IfSome result (λ word. self.new
+            ≡ record self.old { at = word.end; count = word.ordinal }) }
         ensures ordinal { IfSome result (λ word. word.ordinal ≡ self.old.count + 1) }
     {
         let start = self.at + word_start(&self.text[self.at..])?;

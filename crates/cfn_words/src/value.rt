@@ -34,7 +34,8 @@ fn are_digits(word: &[u8]) -> bool
 /// The number that decimal digits are, unless it is above the greatest.
 fn magnitude(digits: &[u8]) -> Option<u64>
     requires { IsTrue (list_all is_digit digits.now) }
-    ensures { result ≡ (if nat_lt greatest (digits_behind 0 digits.now) then None else Some (digits_behind 0 digits.now)) }
+    ensures { let n = digits_behind 0 digits.now in
+        result ≡ (if nat_lt greatest n then None else Some n) }
 {
     let mut value = 0;
     for byte in digits {

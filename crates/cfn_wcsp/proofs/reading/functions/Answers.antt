@@ -1,4 +1,4 @@
-use Rattle.std.proofs.Common.{◌≡◌, sym, ◌∙◌, arith}
+use Rattle.std.proofs.Common.{sym, ◌∙◌, arith}
 use Rattle.std.proofs.lemmas.Result.{err_from_is_err_and}
 use Rattle.cfn_wcsp.specs.Giving.{state}
 use Rattle.cfn_wcsp.specs.Tables.{functions_onto}
@@ -18,8 +18,9 @@ loop-preserved c =
     let P = c.loop.builder in
     let Q = c.function.new.builder in
     let s = state c.loop.words in
-    let after = state c.function.new.words in
-    (go_on P c.args.count c.loop.counter s Q after (functions_onto c.args.builder.now c.args.count (state c.args.words.now)) c.loop-test.true c.in_ok-function.ensures.gives c.loop.invariant.0,
-        c.in_ok-function.ensures.sizes ∙ c.loop.invariant.1 ∙ sym (keeps_sizes P s Q after c.in_ok-function.ensures.gives),
-        omega (arith, c.in_ok-function.ensures.number, c.loop.invariant.2),
-        omega (arith, one_more P s Q after c.in_ok-function.ensures.gives, c.loop.invariant.3))
+    let after = state c.function.new.words in (
+      go_on P c.args.count c.loop.counter s Q after (functions_onto c.args.builder.now c.args.count (state c.args.words.now)) c.loop-test.true c.in_ok-function.ensures.gives c.loop.invariant.0,
+      c.in_ok-function.ensures.sizes ∙ c.loop.invariant.1 ∙ sym (keeps_sizes P s Q after c.in_ok-function.ensures.gives),
+      omega (arith, c.in_ok-function.ensures.number, c.loop.invariant.2),
+      omega (arith, one_more P s Q after c.in_ok-function.ensures.gives, c.loop.invariant.3),
+    )

@@ -1,4 +1,4 @@
-use Rattle.std.proofs.Common.{◌≡◌, ◌++◌, ◌∷◌, [], ◌+◌, length, arith}
+use Rattle.std.proofs.Common.{◌≡◌, ◌++◌, ◌∷◌, [], arith}
 use Rattle.std.proofs.lemmas.Result.{err_from_is_err_and}
 use Rattle.std.proofs.lemmas.List.{length_push}
 use Rattle.cfn_model.specs.Reading.{sizes_at}
@@ -15,9 +15,11 @@ pub loop-preserved : goal.loop-preserved
 loop-preserved c =
     let n = c.in_ok-natural.field-0 in
     let e : c.push.new.self.items ≡ c.loop.sizes.items ++ n ∷ [] = c.in_ok-push.ensures.items in
-    rw e (go_on c.loop.sizes.items c.args.variables c.loop.counter (state c.loop.words) n (state c.natural.new.words) (sizes_at c.args.variables (state c.args.words.now)) c.loop-test.true c.in_ok-natural.ensures.gives c.loop.invariant.0,
-        omega (arith, length_push c.loop.sizes.items n, c.loop.invariant.1),
-        one_more c.loop.sizes.items n c.loop.invariant.2 c.in_ok-natural.ensures.range.0 c.in_ok-natural.ensures.range.1)
+    rw e (
+      go_on c.loop.sizes.items c.args.variables c.loop.counter (state c.loop.words) n (state c.natural.new.words) (sizes_at c.args.variables (state c.args.words.now)) c.loop-test.true c.in_ok-natural.ensures.gives c.loop.invariant.0,
+      omega (arith, length_push c.loop.sizes.items n, c.loop.invariant.1),
+      one_more c.loop.sizes.items n c.loop.invariant.2 c.in_ok-natural.ensures.range.0 c.in_ok-natural.ensures.range.1,
+    )
 
 pub returns-clause-gives : goal.returns-clause-gives
 returns-clause-gives c = done c.loop.sizes.items c.args.variables c.loop.counter (state c.loop.words) (sizes_at c.args.variables (state c.args.words.now)) c.loop-test.false c.loop.invariant.0

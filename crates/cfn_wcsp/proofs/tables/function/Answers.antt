@@ -1,7 +1,6 @@
-use Rattle.std.proofs.Common.{◌≡◌, ◌+◌, [], Ok, sym, ap, ◌∙◌, arith, subst}
+use Rattle.std.proofs.Common.{◌≡◌, ◌+◌, [], ap, ◌∙◌, arith}
 use Rattle.std.proofs.lemmas.Result.{err_from_is_err_and}
 use Rattle.cfn_model.specs.Network.{cells, dims, function_of}
-use Rattle.cfn_model.specs.Reading.{scope_from}
 use Rattle.cfn_net.specs.Building.{all_cells, with_function}
 use Rattle.cfn_wcsp.specs.Giving.{state}
 use Rattle.cfn_wcsp.specs.Tables.{listings_into, function_onto}
@@ -41,7 +40,7 @@ returns-clause-gives c =
     let all : c.cells_so_far.result + c.from.result ≡ all_cells P + cells (dims P.sizes variables) = omega (arith, c.cells_so_far.ensures, c.from.ensures, c.cells.ensures, ap (λ s. cells (dims s variables)) sizes) in
     let begun : c.begin.new.self ≡ with_function P (function_of P.sizes P.upper variables default []) = c.in_ok-begin.ensures.ok ∙ ap (λ v. with_function P (function_of P.sizes P.upper v default [])) c.variables-2.ensures.value in
     let same : listings_into c.begin.new.self (dims c.variables.new.scope.sizes variables) count s4 ≡ function_onto P (state c.args.words.now) =
-        ap (λ Q. listings_into Q (dims c.variables.new.scope.sizes variables) count s4) begun
-        ∙ ap (λ s. listings_into (with_function P (function_of P.sizes P.upper variables default [])) (dims s variables) count s4) sizes
-        ∙ function_is c.listing_law.ensures P (state c.args.words.now) (state c.natural.new.words) (state c.variables.new.words) (state c.natural-2.new.words) s4 c.in_ok-arity.arity variables (c.cells_so_far.result + c.from.result) default count c.in_ok-arity.ensures.gives (rw c.requires.sizes at scope) all c.in_ok-default.ensures.gives c.in_ok-count.ensures.gives in
+    ap (λ Q. listings_into Q (dims c.variables.new.scope.sizes variables) count s4) begun
+    ∙ ap (λ s. listings_into (with_function P (function_of P.sizes P.upper variables default [])) (dims s variables) count s4) sizes
+    ∙ function_is c.listing_law.ensures P (state c.args.words.now) (state c.natural.new.words) (state c.variables.new.words) (state c.natural-2.new.words) s4 c.in_ok-arity.arity variables (c.cells_so_far.result + c.from.result) default count c.in_ok-arity.ensures.gives (rw c.requires.sizes at scope) all c.in_ok-default.ensures.gives c.in_ok-count.ensures.gives in
     gives_same (λ _. (c.listings.new.builder, state c.listings.new.words)) c.listings.result same c.listings.ensures

@@ -1,4 +1,4 @@
-use Rattle.std.proofs.Common.{◌≡◌, sym, ◌∙◌, arith}
+use Rattle.std.proofs.Common.{◌∙◌}
 use Rattle.std.proofs.lemmas.Result.{err_from_is_err_and}
 use Rattle.cfn_model.specs.Network.{dims}
 use Rattle.cfn_wcsp.specs.Giving.{state}
@@ -23,9 +23,11 @@ loop-preserved c =
     let ds = dims c.args.scope.now.sizes c.args.scope.now.variables in
     let total = listings_into c.args.builder.now ds c.args.count (state c.args.words.now) in
     let some = c.loop.invariant.1 in
-    rw c.list.ensures (go_on c.loop.builder ds c.args.count c.loop.counter (state c.loop.words) c.in_ok-cell.cell (state c.tuple_cell.new.words) c.in_ok-cost.cost (state c.natural.new.words) total c.loop-test.true some c.in_ok-cell.ensures.gives c.in_ok-cost.ensures.gives c.loop.invariant.0,
-        still_some c.loop.builder c.in_ok-cell.cell c.in_ok-cost.cost some,
-        same_dims c.loop.builder c.in_ok-cell.cell c.in_ok-cost.cost some ∙ c.loop.invariant.2)
+    rw c.list.ensures (
+      go_on c.loop.builder ds c.args.count c.loop.counter (state c.loop.words) c.in_ok-cell.cell (state c.tuple_cell.new.words) c.in_ok-cost.cost (state c.natural.new.words) total c.loop-test.true some c.in_ok-cell.ensures.gives c.in_ok-cost.ensures.gives c.loop.invariant.0,
+      still_some c.loop.builder c.in_ok-cell.cell c.in_ok-cost.cost some,
+      same_dims c.loop.builder c.in_ok-cell.cell c.in_ok-cost.cost some ∙ c.loop.invariant.2,
+    )
 
 pub returns : goal.returns
 returns c =

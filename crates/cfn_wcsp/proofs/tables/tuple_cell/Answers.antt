@@ -1,4 +1,4 @@
-use Rattle.std.proofs.Common.{◌≡◌, ◌<◌, ◌≤◌, ◌+◌, ◌*◌, length, get_or, arith, sym, ap, ◌∙◌}
+use Rattle.std.proofs.Common.{◌<◌, ◌≤◌, length, arith}
 use Rattle.std.proofs.lemmas.Result.{err_from_is_err_and}
 use Rattle.std.proofs.lemmas.List.{length-map}
 use Rattle.std.specs.Prelude.{slice_index}
@@ -35,9 +35,10 @@ loop-x-preserved c =
     let i = c.loop-x.x-index in
     let size = slice_index sizes (slice_index variables i) in
     let place : i < length (dims sizes variables) = omega (arith, length-map variables (slice_index sizes), c.loop-x-test.true) in
-    let is = size_at sizes variables i c.loop-x-test.true in
-    (go_on c.loop-x.cell (dims sizes variables) i size c.in_ok-value.field-0 (state c.loop-x.words) (state c.natural.new.words) (cell_at (dims sizes variables) (state c.args.words.now)) place is c.in_ok-value.ensures.gives c.loop-x.invariant.0,
-        within c.loop-x.cell (dims sizes variables) i size c.in_ok-value.field-0 place is c.in_ok-value.ensures.range c.loop-x.invariant.1)
+    let is = size_at sizes variables i c.loop-x-test.true in (
+      go_on c.loop-x.cell (dims sizes variables) i size c.in_ok-value.field-0 (state c.loop-x.words) (state c.natural.new.words) (cell_at (dims sizes variables) (state c.args.words.now)) place is c.in_ok-value.ensures.gives c.loop-x.invariant.0,
+      within c.loop-x.cell (dims sizes variables) i size c.in_ok-value.field-0 place is c.in_ok-value.ensures.range c.loop-x.invariant.1,
+    )
 
 pub returns-clause-gives : goal.returns-clause-gives
 returns-clause-gives c =

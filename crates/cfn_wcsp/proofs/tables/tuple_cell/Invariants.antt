@@ -1,4 +1,4 @@
-use Rattle.std.proofs.Common.{◌≡◌, ◌-◌, ◌+◌, ◌*◌, ◌≤◌, drop}
+use Rattle.std.proofs.Common.{◌≡◌, ◌+◌, ◌*◌, ◌≤◌, drop}
 use Rattle.cfn_model.specs.Network.{cells, dims}
 use Rattle.cfn_model.specs.Reading.{tuple_at}
 use Rattle.cfn_wcsp.specs.Giving.{state}

@@ -1,4 +1,3 @@
-use Rattle.std.proofs.Common.{◌≡◌, ap}
 use Rattle.std.proofs.lemmas.Result.{err_from_is_err_and}
 use Rattle.cfn_model.specs.Reading.{scope_from}
 use Rattle.cfn_wcsp.specs.Giving.{state}

@@ -1,5 +1,3 @@
-use Rattle.std.proofs.Common.{◌≡◌, pos, None, subst}
-use Rattle.cfn_model.specs.Reading.{check_variable}
 use Rattle.cfn_wcsp.proofs.Stamps.{stamped}
 use Rattle.cfn_wcsp.proofs.scope.Scope.push.Goals as goal
 
