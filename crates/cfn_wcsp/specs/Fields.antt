@@ -5,6 +5,7 @@ use Rattle.cfn_model.specs.Reading.{check_variables, check_size, check_functions
 use Rattle.cfn_wcsp.specs.declared.field.Field.{Field}
 use Rattle.cfn_wcsp.specs.declared.field.Field.TheVariants.{Variables, Widest, Functions, Cost, Domain, Arity, Default, Tuples, Value}
 
+-- The checks of a field.
 abbrev pub check_of : Field → ℤ → Option Kind
 check_of Variables z = check_variables z
 check_of Widest z = check_size z
@@ -16,6 +17,7 @@ check_of (Default all_cells) z = check_default all_cells z
 check_of Tuples z = check_count z
 check_of (Value size) z = check_value size z
 
+-- Where numbers lie that pass the checks of their field, and the cells that a default cost is checked with.
 abbrev pub InRange : Field → ℕ → Type 0
 InRange Variables n = (0 < n) × (n ≤ 1048576)
 InRange Widest n = 0 < n

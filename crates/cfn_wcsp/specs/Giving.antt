@@ -10,11 +10,12 @@ use Rattle.cfn_wcsp.specs.declared.fault.ReadFault.TheVariants.{Refused, Memory}
 abbrev pub state : Place → At
 state w = record { words = left w; next = w.count + 1 }
 
--- What a function returned, seen by view, is what reading gives, unless memory was refused.
+-- The fault that a function returned is the refusal that reading gives, unless memory was refused.
 abbrev pub Fails : {Y : Type 0} → ReadFault → Result Y Refusal → Type 0
 Fails (Refused refusal) read = read ≡ Err refusal
 Fails Memory read = Unit {0}
 
+-- What a function returned, seen by view, is what reading gives, unless memory was refused.
 abbrev pub Gives : {X Y : Type 0} → (X → Y) → Result X ReadFault → Result Y Refusal → Type 0
 Gives view (Ok x) read = read ≡ Ok (view x)
 Gives view (Err e) read = Fails e read

@@ -71,7 +71,8 @@ pub(crate) fn listings(
     Ok(())
 }
 
-/// The next cost function, which is added to the builder. Its table is made when its default cost is read.
+/// The next cost function, which is added to the builder. Its table is made when its default cost has
+/// been read.
 #[tactic(auto, unfolding(cfn_model::specs::Reading::function_from))]
 pub(crate) fn function(
     words: &mut Words<'_>,
