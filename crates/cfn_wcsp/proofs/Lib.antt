@@ -1,0 +1,6 @@
+pub mod Repeating
+pub mod Stamps
+pub mod Cells
+pub mod Steps
+pub mod Listing
+pub mod Adding

@@ -1,0 +1,4 @@
+pub mod Giving
+pub mod Fields
+pub mod Scopes
+pub mod Tables

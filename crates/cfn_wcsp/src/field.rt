@@ -1,0 +1,60 @@
+//! The numbers of a wcsp file, apart from the variables of a scope, and the checks of each.
+
+ghost use Rattle.std.specs.Prelude.{◌≡◌};
+ghost use Rattle.cfn_wcsp.specs.Fields.{check_of};
+
+use cfn_model::Kind;
+
+/// What a number of the file says.
+#[derive(Clone, Copy)]
+pub(crate) enum Field {
+    /// The number of variables.
+    Variables,
+    /// The greatest domain size.
+    Widest,
+    /// The number of cost functions.
+    Functions,
+    /// A cost, which the upper bound is too.
+    Cost,
+    /// A domain size.
+    Domain,
+    /// The number of variables of a scope.
+    Arity,
+    /// The default cost of a function, where the functions so far, this one included, have so many
+    /// cells.
+    Default { cells: u64 },
+    /// The number of tuples that are listed.
+    Tuples,
+    /// A value of a tuple, where its variable has so many values.
+    Value { size: u32 },
+}
+
+impl Field {
+    /// The first check that a number fails in this field.
+    pub(crate) fn check(self, number: i64) -> Option<Kind>
+        ensures { result ≡ check_of self number }
+    {
+        match self {
+            Field::Variables if number < 1 => Some(Kind::NoVariables),
+            Field::Variables if number > 1_048_576 => Some(Kind::TooMany),
+            Field::Widest if number < 0 => Some(Kind::IntervalDomain),
+            Field::Widest if number < 1 => Some(Kind::EmptyDomain),
+            Field::Functions if number < 0 => Some(Kind::NegativeCount),
+            Field::Functions if number > 1_048_576 => Some(Kind::TooMany),
+            Field::Cost if number < 0 => Some(Kind::NegativeCost),
+            Field::Domain if number < 0 => Some(Kind::IntervalDomain),
+            Field::Domain if number < 1 => Some(Kind::EmptyDomain),
+            Field::Domain if number > 4_096 => Some(Kind::DomainTooLarge),
+            Field::Arity if number < 0 => Some(Kind::SharedTable),
+            Field::Default { .. } if number == -1 => Some(Kind::Keyword),
+            Field::Default { .. } if number < 0 => Some(Kind::NegativeCost),
+            Field::Default { cells } if cells > 67_108_864 => Some(Kind::TooMany),
+            Field::Tuples if number < 0 => Some(Kind::SharedTable),
+            Field::Tuples if number > 67_108_864 => Some(Kind::TooMany),
+            Field::Value { size } if number < 0 || number >= i64::from(size) => {
+                Some(Kind::ValueOutOfRange)
+            }
+            _ => None,
+        }
+    }
+}
