@@ -131,7 +131,7 @@ split_case values true first second m n t left right = let l = left refl in (l.0
 split_case values false first second m n t left right = let r = right refl in (r.0, omega (arith, r.1))
 
 -- the bound is at most the threshold
-bound_low : (P : Network) (history : List Event) (tree : Tree) (k : ℕ) → bound P history tree k ≤ k
+pub bound_low : (P : Network) (history : List Event) (tree : Tree) (k : ℕ) → bound P history tree k ≤ k
 bound_low P history (Open block) k = omega arith
 bound_low P history (Closed block) k = omega arith
 bound_low P history (Split block x a first second) k = let l = bound_low P (Is x a ∷ after block history) first k in omega (arith, l)

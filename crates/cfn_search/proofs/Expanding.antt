@@ -1,26 +1,25 @@
 -- Splitting a leaf on the domains that were read, and closing the leaf of one assignment.
-use Rattle.std.proofs.Common.{◌≡◌, ◌≢◌, ℕ, zero, suc, ◌+◌, ◌-◌, ◌<◌, ◌≤◌, ◌^◌, inl, inr, min, max, List, [], ◌∷◌, ◌++◌, length, refl, sym, ap, ◌∙◌, subst, arith, eq-eqb}
+use Rattle.std.proofs.Common.{◌≡◌, ℕ, suc, ◌+◌, ◌-◌, ◌<◌, ◌≤◌, ◌^◌, inl, inr, min, max, List, [], ◌∷◌, ◌++◌, length, sym, ap, ◌∙◌, subst, arith}
 use Rattle.std.proofs.lemmas.Bool.{cases_eq}
-use Rattle.std.specs.Prelude.{slice_index, Bool, true, false, ◌==◌, if◌then◌else◌, IsTrue, Option, Some, None}
+use Rattle.std.specs.Prelude.{slice_index, ◌==◌, Option, Some, None}
 use Rattle.cfn_model.specs.declared.step.Step.{Step}
 use Rattle.cfn_model.specs.declared.step.Event.{Event}
 use Rattle.cfn_model.specs.declared.step.Event.TheVariants.{Did, Is, IsNot}
 use Rattle.cfn_model.specs.Network.{Network, IsNetwork, Fits, cost, total}
-use Rattle.cfn_model.specs.Sums.{constant, floor, is_live}
+use Rattle.cfn_model.specs.Sums.{floor}
 use Rattle.cfn_model.specs.Steps.{Run, after}
-use Rattle.cfn_model.specs.Certificate.{Solution, IsSolution, IsBest, threshold_of}
+use Rattle.cfn_model.specs.Certificate.{Solution, IsBest, threshold_of}
 use Rattle.cfn_net.specs.Scoring.{Scoring}
 use Rattle.cfn_proof.specs.declared.tree.NodeId.{NodeId}
 use Rattle.cfn_proof.specs.declared.tree.Node.{Node}
-use Rattle.cfn_proof.specs.Nodes.{node_at, IsTree, IsFree, Before, split_at, close_at}
+use Rattle.cfn_proof.specs.Nodes.{IsTree, Before, split_at, close_at}
 use Rattle.cfn_proof.proofs.Histories.{before_some}
 use Rattle.cfn_search.specs.Closing.{Leaves}
 use Rattle.cfn_search.specs.Decisions.{low, high, InOrder, AreDomains, AllDecided, IsFewest}
 use Rattle.cfn_search.specs.Sound.{Sound, price_of}
-use Rattle.cfn_search.specs.Shifting.{varying}
 use Rattle.cfn_search.proofs.Walk.{high_le}
 use Rattle.cfn_search.proofs.Live.{from_live, no_steps, same_test, other_test, if_true, if_false}
-use Rattle.cfn_search.proofs.Growing.{lowered, closed, divided, last_there, last_free}
+use Rattle.cfn_search.proofs.Growing.{lowered, closed, divided, last_there}
 use Rattle.cfn_search.proofs.Shifts.{total_split}
 
 pub halved : (P : Network) (nodes : List Node) (ids : List NodeId) (id one two : NodeId) (best : Scoring) (spent x a : ℕ) (lows highs : List ℕ) → IsNetwork P → IsTree nodes → length nodes + 2 ≤ 2 ^ 32 → Sound P nodes (ids ++ id ∷ []) best spent → one.number ≡ length nodes → two.number ≡ length nodes + 1 → length lows ≡ length P.sizes → ((history : List Event) → Before nodes id.number history → AreDomains P.sizes history lows highs) → IsFewest lows highs x → a ≡ slice_index lows x → Sound P (split_at nodes id.number x a) (ids ++ two ∷ one ∷ []) best (spent + 1)

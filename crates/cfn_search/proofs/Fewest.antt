@@ -1,5 +1,5 @@
 -- The search for the variable with the fewest values.
-use Rattle.std.proofs.Common.{◌≡◌, ℕ, ◌+◌, ◌-◌, ◌<◌, ◌≤◌, List, length}
+use Rattle.std.proofs.Common.{◌≡◌, ℕ, ◌+◌, ◌-◌, ◌<◌, ◌≤◌, List}
 use Rattle.std.specs.Prelude.{slice_index}
 
 -- none of the variables below n has two values

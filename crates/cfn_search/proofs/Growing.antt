@@ -1,15 +1,15 @@
 -- What an expansion leaves of what holds between expansions.
-use Rattle.std.proofs.Common.{◌≡◌, ◌≢◌, ℕ, zero, suc, ◌+◌, ◌-◌, ◌<◌, ◌≤◌, ◌^◌, ◌⊎◌, inl, inr, List, [], ◌∷◌, ◌++◌, length, Some, refl, sym, ap, ◌∙◌, subst, arith}
+use Rattle.std.proofs.Common.{◌≡◌, ◌≢◌, ℕ, ◌+◌, ◌-◌, ◌<◌, ◌≤◌, ◌^◌, ◌⊎◌, inl, inr, List, [], ◌∷◌, ◌++◌, length, Some, refl, sym, ap, ◌∙◌, subst, arith}
 use Rattle.std.proofs.lemmas.Bool.{cases_eq, cases_lt}
 use Rattle.std.proofs.lemmas.List.{get_or_append_left, get_or-append_right, length-append}
-use Rattle.std.specs.Prelude.{slice_index, slice_index_or, true}
+use Rattle.std.specs.Prelude.{slice_index, slice_index_or}
 use Rattle.cfn_model.specs.declared.step.Step.{Step}
 use Rattle.cfn_model.specs.declared.step.Event.{Event}
 use Rattle.cfn_model.specs.declared.step.Event.TheVariants.{Is, IsNot}
 use Rattle.cfn_model.specs.Network.{Network, IsNetwork}
-use Rattle.cfn_model.specs.Sums.{floor, is_live}
+use Rattle.cfn_model.specs.Sums.{floor}
 use Rattle.cfn_model.specs.Steps.{IsValue, Run, after}
-use Rattle.cfn_model.specs.Tree.{CanClose, IsStrictSplit, count}
+use Rattle.cfn_model.specs.Tree.{CanClose, IsStrictSplit}
 use Rattle.cfn_model.specs.Certificate.{IsBest}
 use Rattle.cfn_model.proofs.Lowering.{run_lower, close_lower}
 use Rattle.cfn_net.specs.Scoring.{Scoring}
@@ -17,12 +17,11 @@ use Rattle.cfn_proof.specs.declared.tree.NodeId.{NodeId}
 use Rattle.cfn_proof.specs.declared.tree.End.{End}
 use Rattle.cfn_proof.specs.declared.tree.End.TheVariants.{Free, Shut, Split}
 use Rattle.cfn_proof.specs.declared.tree.Node.{Node}
-use Rattle.cfn_proof.specs.Nodes.{node_at, open_node, tree_of, IsLinked, IsTree, IsFree, Before, split_at, split_end, close_at}
-use Rattle.cfn_proof.specs.Local.{ValidNode, ValidNodes, StrictNode, StrictNodes, IsNewChild}
+use Rattle.cfn_proof.specs.Nodes.{node_at, open_node, IsTree, IsFree, Before, split_at, split_end, close_at}
+use Rattle.cfn_proof.specs.Local.{ValidNode, StrictNode}
 use Rattle.cfn_proof.proofs.Growth.{length-split_at, split_at-same, split_at-other, split_at-first, split_at-second, split_numbers, length-close_at, close_at-same, close_at-other}
 use Rattle.cfn_proof.proofs.Histories.{before_split, before_close, before_some, count_split, count_close}
 use Rattle.cfn_search.specs.Decisions.{low, high, InOrder}
-use Rattle.cfn_search.specs.Trees.{SplitsInRange}
 use Rattle.cfn_search.specs.Sound.{Sound, AreOpen, number_at, price_of}
 use Rattle.cfn_search.proofs.Live.{live_from, no_steps}
 use Rattle.cfn_search.proofs.Shifts.{decisions_floor}

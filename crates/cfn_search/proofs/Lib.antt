@@ -4,3 +4,4 @@ pub mod Shifts
 pub mod Live
 pub mod Growing
 pub mod Expanding
+pub mod Finished

@@ -1,7 +1,7 @@
 -- Decisions in order leave exactly the values from the least one to the greatest one.
-use Rattle.std.proofs.Common.{◌≡◌, ◌≢◌, ℕ, ◌+◌, ◌<◌, ◌≤◌, inl, inr, min, max, List, [], ◌∷◌, length, refl, sym, ap, ◌∙◌, subst, arith, eq-eqb}
+use Rattle.std.proofs.Common.{◌≡◌, ◌≢◌, ℕ, ◌+◌, ◌<◌, ◌≤◌, inl, inr, min, max, List, [], ◌∷◌, refl, ap, ◌∙◌, subst, arith, eq-eqb}
 use Rattle.std.proofs.lemmas.Bool.{cases_eq}
-use Rattle.std.specs.Prelude.{Bool, true, false, not, ◌&&◌, ◌==◌, if◌then◌else◌, slice_index, IsTrue}
+use Rattle.std.specs.Prelude.{Bool, true, false, not, ◌&&◌, ◌==◌, if◌then◌else◌, slice_index}
 use Rattle.cfn_model.specs.declared.step.Event.{Event}
 use Rattle.cfn_model.specs.declared.step.Event.TheVariants.{Did, Is, IsNot}
 use Rattle.cfn_model.specs.Sums.{is_live}

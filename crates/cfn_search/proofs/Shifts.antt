@@ -1,16 +1,16 @@
 -- What one shift of a function's cost to the floor does.
-use Rattle.std.proofs.Common.{◌≡◌, ◌≢◌, ℕ, zero, suc, ◌+◌, ◌-◌, ◌<◌, ◌≤◌, ◌⊎◌, inl, inr, min, List, [], ◌∷◌, ◌++◌, length, map, take, refl, sym, ap, ◌∙◌, subst, arith, eq-eqb}
+use Rattle.std.proofs.Common.{◌≡◌, ℕ, zero, suc, ◌+◌, ◌-◌, ◌<◌, ◌≤◌, inl, inr, min, List, [], ◌∷◌, ◌++◌, length, take, refl, sym, ap, ◌∙◌, subst, arith, eq-eqb}
 use Rattle.std.proofs.lemmas.Bool.{cases_eq}
 use Rattle.std.proofs.lemmas.Int.{ints}
 use Rattle.std.proofs.lemmas.List.Sums.{sum_by-cons, sum_by_more}
-use Rattle.std.specs.Prelude.{ℤ, pos, ◌+ℤ◌, ◌≤ℤ◌, neg_ℤ, Bool, true, false, not, ◌&&◌, ◌||◌, ◌==◌, IsTrue, sum_by, slice_index, slice_index_or, nat_lt}
+use Rattle.std.specs.Prelude.{ℤ, pos, ◌+ℤ◌, neg_ℤ, Bool, true, false, not, ◌&&◌, ◌==◌, IsTrue, sum_by, slice_index, nat_lt}
 use Rattle.cfn_model.specs.declared.step.Step.{Step}
-use Rattle.cfn_model.specs.declared.step.Step.TheVariants.{Project, Extend, Lift, CutValue, CutTuple}
+use Rattle.cfn_model.specs.declared.step.Step.TheVariants.{Project, Lift}
 use Rattle.cfn_model.specs.declared.step.Event.{Event}
 use Rattle.cfn_model.specs.declared.step.Event.TheVariants.{Did, Is, IsNot}
-use Rattle.cfn_model.specs.Network.{Function, Network, IsNetwork, Fits, restrict, scope_at, arity, variable_at, function_at, no_function, entry, entry_at, dims, dims_at, cell, total, cost}
-use Rattle.cfn_model.specs.Sums.{when, constant, constant_of, lifted, floor, unary_by, unary, residual_by, residual, is_live, is_cut, all_live, is_live_tuple}
-use Rattle.cfn_model.specs.Steps.{IsPlace, CanProject, CanLift, Allowed, Run, after}
+use Rattle.cfn_model.specs.Network.{Function, Network, IsNetwork, Fits, restrict, scope_at, arity, variable_at, function_at, no_function, entry, entry_at, dims, dims_at, cell, cost}
+use Rattle.cfn_model.specs.Sums.{when, constant, constant_of, floor, unary, residual, is_live, is_cut, all_live}
+use Rattle.cfn_model.specs.Steps.{CanProject, CanLift, Allowed, Run, after}
 use Rattle.cfn_model.proofs.Equivalence.{restrict_at, when_true, when_false}
 use Rattle.cfn_model.proofs.Bounding.{fits_at}
 use Rattle.cfn_search.specs.Closing.{NoSteps, Leaves}

@@ -1,7 +1,7 @@
 -- The walk from a leaf to the root, which meets the decisions from the newest to the oldest.
-use Rattle.std.proofs.Common.{◌≡◌, ◌≢◌, ℕ, zero, suc, ◌+◌, ◌-◌, ◌<◌, ◌≤◌, inl, inr, min, max, List, [], ◌∷◌, length, get_or, set, Option, Some, None, refl, sym, ap, ◌∙◌, subst, arith, eq-eqb}
+use Rattle.std.proofs.Common.{◌≡◌, ◌≢◌, ℕ, ◌+◌, ◌<◌, ◌≤◌, inl, inr, min, max, List, [], ◌∷◌, length, set, Option, Some, None, refl, sym, ap, ◌∙◌, subst, arith, eq-eqb}
 use Rattle.std.proofs.lemmas.Bool.{cases_eq}
-use Rattle.std.proofs.lemmas.List.{get_or-set_same, get_or-set_other, length-set}
+use Rattle.std.proofs.lemmas.List.{get_or-set_same, get_or-set_other}
 use Rattle.std.specs.Prelude.{slice_index, ◌==◌, Bool, true, false, if◌then◌else◌}
 use Rattle.cfn_model.specs.declared.step.Step.{Step}
 use Rattle.cfn_model.specs.declared.step.Event.{Event}
@@ -9,10 +9,10 @@ use Rattle.cfn_model.specs.declared.step.Event.TheVariants.{Did, Is, IsNot}
 use Rattle.cfn_model.specs.Steps.{after}
 use Rattle.cfn_proof.specs.declared.tree.NodeId.{NodeId}
 use Rattle.cfn_proof.specs.declared.tree.End.{End}
-use Rattle.cfn_proof.specs.declared.tree.End.TheVariants.{Free, Shut, Split}
+use Rattle.cfn_proof.specs.declared.tree.End.TheVariants.{Split}
 use Rattle.cfn_proof.specs.declared.tree.Node.{Node}
-use Rattle.cfn_proof.specs.Nodes.{node_at, IsLinked, IsFamily, Before}
-use Rattle.cfn_proof.proofs.Histories.{Side, side_of}
+use Rattle.cfn_proof.specs.Nodes.{node_at, IsLinked, Before}
+use Rattle.cfn_proof.proofs.Histories.{side_of}
 use Rattle.cfn_search.specs.Decisions.{low, high, AreDomains}
 
 pub low-after : (block : List Step) (history : List Event) (x : ℕ) → low (after block history) x ≡ low history x

@@ -1,7 +1,8 @@
 -- What every search owes.
-use Rattle.std.specs.Prelude.{◌≡◌, ℕ, ◌<◌, ◌≤◌, min, List, [], ◌∷◌, length, None}
+use Rattle.std.specs.Prelude.{◌≡◌, ℕ, ◌<◌, ◌≤◌, min, List, [], ◌∷◌, None, IfSome, IsSomeAnd}
+use Rattle.std.specs.List.{AllByRecursion}
 use Rattle.cfn_model.specs.declared.report.Row.{Row}
-use Rattle.cfn_model.specs.Network.{Network}
+use Rattle.cfn_model.specs.Network.{Network, Fits, cost}
 use Rattle.cfn_model.specs.Sums.{floor}
 use Rattle.cfn_model.specs.Tree.{count, open_leaves, Strict, OpenBelow, bound}
 use Rattle.cfn_model.specs.Certificate as model
@@ -21,9 +22,22 @@ HasCause Memory leaves nodes budget = (0 < leaves) × (nodes < budget)
 abbrev pub opening : Network → Row
 opening P = record { lower = min P.upper (floor P []); upper = None }
 
+-- A row's lower number is a bound on the cost of every assignment, and no greater than the certificate's; where it
+-- has an upper number, the certificate has a best of at most that.
+pub record RowHolds (P : Network) (c : model.Certificate) (row : Row) : Type 0 where
+  pub bound : (values : List ℕ) → Fits P.sizes values → row.lower ≤ cost P values
+  pub below : row.lower ≤ c.lower
+  pub known : IfSome row.upper (λ u. IsSomeAnd c.best (λ best. best.cost ≤ u))
+
+-- The rows begin with the opening's, and all of them hold.
+pub record RowsHold (P : Network) (c : model.Certificate) (rows : List Row) : Type 0 where
+  pub others : List Row
+  pub begin : rows ≡ opening P ∷ others
+  pub each : AllByRecursion (RowHolds P c) rows
+
 -- The certificate is good and has a spelling; its lower bound is its tree's bound; its open leaves have floors below
 -- the threshold; its tree is strict; no more nodes are counted than the tree has and the budget allows; the rows
--- begin with the opening's and go no further.
+-- hold; and the search stopped for a reason.
 pub record IsSearched (P : Network) (budget nodes : ℕ) (c : model.Certificate) (rows : List Row) (stop : Stop) : Type 0 where
   pub good : model.Good P c
   pub spelled : IsSpelled c
@@ -32,7 +46,7 @@ pub record IsSearched (P : Network) (budget nodes : ℕ) (c : model.Certificate)
   pub strict : Strict P [] c.tree
   pub counted : nodes ≤ count c.tree
   pub allowed : nodes ≤ budget
-  pub begins : rows ≡ opening P ∷ []
+  pub rows_hold : RowsHold P c rows
   pub cause : HasCause stop (open_leaves c.tree) nodes budget
 
 abbrev pub IsOutcome : Network → ℕ → Outcome → Type 0

@@ -1,5 +1,5 @@
 -- What holds between two expansions of a search.
-use Rattle.std.specs.Prelude.{◌≡◌, ◌≢◌, ℕ, ◌<◌, ◌≤◌, List, [], ◌∷◌, length, slice_index_or}
+use Rattle.std.specs.Prelude.{◌≡◌, ◌≢◌, ℕ, ◌<◌, ◌≤◌, List, [], length, slice_index_or}
 use Rattle.cfn_model.specs.declared.step.Event.{Event}
 use Rattle.cfn_model.specs.Network.{Network}
 use Rattle.cfn_model.specs.Tree.{count}
@@ -8,7 +8,7 @@ use Rattle.cfn_net.specs.Scoring.{Scoring}
 use Rattle.cfn_proof.specs.declared.tree.NodeId.{NodeId}
 use Rattle.cfn_proof.specs.declared.tree.End.TheVariants.{Shut}
 use Rattle.cfn_proof.specs.declared.tree.Node.{Node}
-use Rattle.cfn_proof.specs.Nodes.{node_at, tree_of, IsTree, IsFree, Before}
+use Rattle.cfn_proof.specs.Nodes.{node_at, tree_of, IsFree, Before}
 use Rattle.cfn_proof.specs.Local.{ValidNodes, StrictNodes}
 use Rattle.cfn_search.specs.Decisions.{InOrder}
 use Rattle.cfn_search.specs.Trees.{SplitsInRange}

@@ -10,4 +10,4 @@ mod outcome;
 mod search;
 
 pub use outcome::{Outcome, Stop};
-pub use search::State;
+pub use search::solve;

@@ -1,9 +1,11 @@
 //! The search: a stack of open leaves, of which the newest is expanded.
 
-ghost use Rattle.std.specs.Prelude.{◌≡◌, ℕ, ◌+◌, ◌<◌, ◌≤◌, min, List, [], length, IfOk, OnOk, OnErr, vec_capacity};
+ghost use Rattle.std.specs.Prelude.{◌≡◌, ℕ, ◌+◌, ◌<◌, ◌≤◌, min, List, [], ◌∷◌, length, IsTrue, is_some, IfOk, OnOk, OnErr, vec_capacity};
+ghost use Rattle.std.specs.Option.{ForSome};
 ghost use Rattle.cfn_model.specs.Certificate.{IsBest};
 ghost use Rattle.cfn_model.specs.Network.{Fits, cost, function_at};
 ghost use Rattle.cfn_model.specs.Sums.{constant, floor};
+ghost use Rattle.cfn_proof.specs.Certificates.{solution_of};
 ghost use Rattle.cfn_search.specs.Decisions.{AllDecided, IsFewest};
 ghost use Rattle.cfn_search.specs.Outcome.{IsOutcome, opening};
 ghost use Rattle.cfn_search.specs.Sound.{price_of};
@@ -32,7 +34,8 @@ impl State {
 
     /// One open root leaf, and no assignment.
     fn new(alloc: Global, network: &Network) -> Result<State, AllocError>
-        ensures { IfOk result (λ state. IsSearching network.now state) }
+        ensures sound { IfOk result (λ state. IsSearching network.now state) }
+        ensures nodes { IfOk result (λ state. state.nodes ≡ 0) }
     {
         let mut leaves = Vec::new(alloc);
         leaves.push(Tree::ROOT)?;
@@ -60,6 +63,65 @@ impl State {
         while let Some(leaf) = self.leaves.pop() {
             self.tree.linked();
             self.tree.shut(leaf);
+        }
+    }
+
+    /// Expands leaves until none is open, the budget is spent, or memory is refused.
+    fn expand_all(&mut self, alloc: Global, network: &Network, lowest: u64, budget: u64)
+        requires sound { IsSearching network.now self.old }
+        requires lowest { lowest ≡ min network.now.upper (floor network.now []) }
+        requires allowed { self.old.nodes ≤ budget }
+        requires budget { budget ≤ 9223372036854775807 }
+        ensures sound { IsSearching network.now self.new }
+        ensures allowed { self.new.nodes ≤ budget }
+    {
+        while self.nodes < budget && !self.leaves.is_empty() {
+            if self.expand(alloc, network, lowest).is_err() {
+                return;
+            }
+        }
+    }
+
+    /// Hands out what a search that stopped has, after its last sweep. It takes no memory.
+    fn finish(self, network: &Network, lowest: u64, budget: u64, rows: Vec<Row>) -> Outcome
+        requires sound { IsSearching network.now self }
+        requires lowest { lowest ≡ min network.now.upper (floor network.now []) }
+        requires swept { price_of self.best ≤ lowest → length self.leaves.items ≡ 0 }
+        requires allowed { self.nodes ≤ budget }
+        requires rows { rows.items ≡ opening network.now ∷ [] }
+        ensures { IsOutcome network.now budget result }
+    {
+        network.limits();
+        self.tree.linked();
+        let price = self.best.price();
+        let is_done = self.leaves.is_empty();
+        let State {
+            tree,
+            leaves: _,
+            domains: _,
+            best,
+            nodes,
+        } = self;
+        let lower = if is_done { price } else { lowest };
+        let stop = if is_done {
+            Stop::Done
+        } else if nodes == budget {
+            Stop::Budget
+        } else {
+            Stop::Memory
+        };
+        Outcome {
+            certificate: Certificate {
+                variables: network.variables(),
+                functions: network.functions(),
+                upper: network.ub(),
+                best: held(best),
+                lower,
+                tree,
+            },
+            rows,
+            nodes,
+            stop,
         }
     }
 
@@ -166,6 +228,27 @@ impl State {
     }
 }
 
+/// Searches a network for an assignment of least cost, expanding at most `budget` leaves.
+///
+/// The newest open leaf is expanded first, and of two new children the first. Where memory is refused the search
+/// stops with the leaf still open, and hands out what it has; an `Err` is want of memory before the search stands.
+pub fn solve(alloc: Global, network: &Network, budget: u64) -> Result<Outcome, AllocError>
+    requires { budget ≤ 9223372036854775807 }
+    ensures { IfOk result (IsOutcome network.now budget) }
+{
+    let lowest = opening_floor(network);
+    let mut rows = Vec::new(alloc);
+    rows.push(Row {
+        lower: lowest,
+        upper: None,
+    })?;
+    let mut state = State::new(alloc, network)?;
+    state.sweep(lowest);
+    state.expand_all(alloc, network, lowest, budget);
+    state.sweep(lowest);
+    Ok(state.finish(network, lowest, budget, rows))
+}
+
 /// Takes an assignment over where it costs less than what is held.
 fn offer(best: &mut Scored, network: &Network, values: &[u32])
     requires same { best.old.network ≡ network.now }
@@ -204,5 +287,17 @@ fn constant(network: &Network, f: u32) -> u64
         network.entry(f, 0)
     } else {
         0
+    }
+}
+
+/// A buffer that holds an assignment, or nothing where it is empty. It takes no memory.
+fn held(best: Scored) -> Option<Scored>
+    ensures solution { solution_of result ≡ best.held }
+    ensures held { ForSome result (λ scored. IsTrue (is_some scored.held)) }
+{
+    if best.values().is_some() {
+        Some(best)
+    } else {
+        None
     }
 }

@@ -1,4 +1,4 @@
-use Rattle.std.proofs.Common.{◌≡◌, ◌<◌, ◌≤◌, [], sym, subst, arith}
+use Rattle.std.proofs.Common.{sym, subst, arith}
 use Rattle.cfn_search.specs.Shifting.{Shifted}
 use Rattle.cfn_search.proofs.Shifts.{unshifted, none_lacks, all_shifted}
 use Rattle.cfn_search.proofs.closing.closing_block.Goals as goal

@@ -1,4 +1,4 @@
-use Rattle.std.proofs.Common.{◌≡◌, ◌≤◌, List}
+use Rattle.std.proofs.Common.{◌≤◌, List}
 use Rattle.cfn_model.specs.declared.step.Event.{Event}
 use Rattle.cfn_search.specs.Closing.{Leaves}
 use Rattle.cfn_search.specs.Shifting.{Shifted}

@@ -1,10 +1,8 @@
 -- The walk's goals: a parent stands before its children, its split names a value, and what was met stays right.
 use Rattle.std.proofs.Common.{◌≡◌, ◌≢◌, ℕ, ◌+◌, ◌<◌, ◌≤◌, List, length, slice_index, min, max, sym, ap, ◌∙◌, subst, arith, Some, Fits, w32}
-use Rattle.cfn_model.specs.declared.step.Event.{Event}
 use Rattle.cfn_proof.specs.declared.tree.Node.{Node}
-use Rattle.cfn_proof.specs.declared.tree.NodeId.{NodeId}
 use Rattle.cfn_proof.specs.declared.tree.End.TheVariants.{Split}
-use Rattle.cfn_proof.specs.Nodes.{node_at, Before}
+use Rattle.cfn_proof.specs.Nodes.{node_at}
 use Rattle.cfn_proof.proofs.Histories.{named}
 use Rattle.cfn_search.proofs.Walk.{Rest, rest_first, rest_second, at_root_is, at_leaf_is, still_small, same_from, other_from}
 use Rattle.cfn_search.proofs.domains.restrict_along.Goals as goal

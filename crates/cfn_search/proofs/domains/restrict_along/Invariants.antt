@@ -1,4 +1,4 @@
-use Rattle.std.proofs.Common.{◌≡◌, ℕ, ◌<◌, ◌≤◌, List, length, slice_index}
+use Rattle.std.proofs.Common.{ℕ, ◌<◌, ◌≤◌, List, length, slice_index}
 use Rattle.cfn_model.specs.declared.step.Event.{Event}
 use Rattle.cfn_proof.specs.Nodes.{Before}
 use Rattle.cfn_search.proofs.Walk.{Rest}

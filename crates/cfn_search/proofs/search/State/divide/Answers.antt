@@ -1,4 +1,4 @@
-use Rattle.std.proofs.Common.{◌≡◌, ◌∙◌, ℕ, ◌+◌, ◌≤◌, ◌^◌, [], ◌∷◌, ◌++◌, length, slice_index, sym, ap, subst, arith, append_assoc}
+use Rattle.std.proofs.Common.{◌≡◌, ◌∙◌, ◌+◌, ◌≤◌, ◌^◌, [], ◌∷◌, ◌++◌, length, slice_index, sym, ap, subst, arith, append_assoc}
 use Rattle.std.proofs.lemmas.List.{get_or_read}
 use Rattle.cfn_proof.specs.Nodes.{split_at}
 use Rattle.cfn_proof.proofs.Growth.{length-split_at}

@@ -1,4 +1,4 @@
-use Rattle.std.proofs.Common.{◌≡◌, ◌∙◌, ℕ, ◌+◌, ◌≤◌, [], ◌∷◌, ◌++◌, sym, subst, arith}
+use Rattle.std.proofs.Common.{◌+◌, ◌≤◌, [], sym, subst, arith}
 use Rattle.cfn_model.specs.Sums.{floor}
 use Rattle.cfn_search.specs.Sound.{Sound, price_of}
 use Rattle.cfn_search.proofs.Growing.{last_there, last_free, swept}

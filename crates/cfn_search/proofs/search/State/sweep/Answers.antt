@@ -1,6 +1,5 @@
-use Rattle.std.proofs.Common.{◌≡◌, ◌≤◌, [], ◌∷◌, ◌++◌, min, sym, ap, ◌∙◌, subst, arith}
+use Rattle.std.proofs.Common.{◌≤◌, [], ◌∷◌, ◌++◌, sym, ap, subst, arith}
 use Rattle.cfn_model.specs.Sums.{floor}
-use Rattle.cfn_proof.specs.Nodes.{close_at, node_at}
 use Rattle.cfn_search.specs.Sound.{Sound, price_of}
 use Rattle.cfn_search.proofs.Growing.{swept}
 use Rattle.cfn_search.proofs.search.State.sweep.Goals as goal
