@@ -1,9 +1,9 @@
 -- What puts in a row put together.
-use Rattle.std.proofs.Common.{◌≡◌, ℕ, ◌<◌, Bool, List, [], ◌∷◌, ◌++◌, Option, Some, None, Result, Ok, Err, refl, sym, ap, ◌∙◌, subst, append_assoc}
+use Rattle.std.proofs.Common.{◌≡◌, ℕ, Bool, List, [], ◌++◌, Option, Some, None, Result, Ok, Err, refl, sym, ap, ◌∙◌, subst, append_assoc}
 use Rattle.std.specs.Prelude.{IsTrue, IsErr}
 use Rattle.std.proofs.lemmas.Bool.{false≢true}
 use Rattle.std.proofs.lemmas.List.{append-nil}
-use Rattle.cfn_desk.specs.Desk.{Files, Rose, GainsFront, PutsPiece, PutsFront}
+use Rattle.cfn_desk.specs.Desk.{Files, Rose, PutsPiece, PutsFront}
 use Rattle.cfn_certtext.specs.Writing.{Puts}
 
 piece_then : (told mid now : Option (List ℕ × List ℕ)) (p q : List ℕ) → PutsPiece told p mid → PutsPiece mid q now → PutsPiece told (p ++ q) now
@@ -16,24 +16,28 @@ front_then : (told mid now : Option (List ℕ × List ℕ)) (p q : List ℕ) →
 front_then None mid now p q first second = tt
 front_then (Some b) mid None p q first second = subst (λ (m : Option (List ℕ × List ℕ)). PutsFront m q None) first second
 front_then (Some b) mid (Some a) p q first second =
-    let behind = subst (λ (m : Option (List ℕ × List ℕ)). PutsFront m q (Some a)) first second in
-    (behind.0, record {
-      front = p ++ behind.1.front;
-      rest = behind.1.rest;
-      split = append_assoc p behind.1.front behind.1.rest ∙ ap (λ t. p ++ t) behind.1.split;
-      gained = behind.1.gained ∙ append_assoc b.1 p behind.1.front;
-    })
+    let behind = subst (λ (m : Option (List ℕ × List ℕ)). PutsFront m q (Some a)) first second in (
+      behind.0,
+      record {
+        front = p ++ behind.1.front;
+        rest = behind.1.rest;
+        split = append_assoc p behind.1.front behind.1.rest ∙ ap (λ t. p ++ t) behind.1.split;
+        gained = behind.1.gained ∙ append_assoc b.1 p behind.1.front;
+      },
+    )
 
 front_more : (told now : Option (List ℕ × List ℕ)) (p q : List ℕ) → PutsFront told p now → PutsFront told (p ++ q) now
 front_more None now p q cut = tt
 front_more (Some b) None p q cut = cut
-front_more (Some b) (Some a) p q cut =
-    (cut.0, record {
-      front = cut.1.front;
-      rest = cut.1.rest ++ q;
-      split = sym (append_assoc cut.1.front cut.1.rest q) ∙ ap (λ t. t ++ q) cut.1.split;
-      gained = cut.1.gained;
-    })
+front_more (Some b) (Some a) p q cut = (
+  cut.0,
+  record {
+    front = cut.1.front;
+    rest = cut.1.rest ++ q;
+    split = sym (append_assoc cut.1.front cut.1.rest q) ∙ ap (λ t. t ++ q) cut.1.split;
+    gained = cut.1.gained;
+  },
+)
 
 piece_none : (told : Option (List ℕ × List ℕ)) → PutsPiece told [] told
 piece_none None = tt

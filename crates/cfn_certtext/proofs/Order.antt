@@ -1,10 +1,9 @@
 -- What stands behind a node in the lines of its tree.
-use Rattle.std.proofs.Common.{◌≡◌, ℕ, zero, suc, ◌+◌, ◌<◌, ◌≤◌, Bool, true, false, List, [], ◌∷◌, ◌++◌, length, map, Option, Some, None, cond, eqb, refl, sym, ap, ◌∙◌, subst, inl, inr, ◌⊎◌, eq-eqb, append_assoc, arith}
+use Rattle.std.proofs.Common.{◌≡◌, ℕ, zero, suc, ◌<◌, ◌≤◌, Bool, true, false, List, [], ◌∷◌, ◌++◌, length, map, Option, Some, None, cond, eqb, refl, sym, ap, ◌∙◌, subst, inl, inr, ◌⊎◌, eq-eqb, append_assoc, arith}
 use Rattle.std.proofs.lemmas.List.{append-nil}
 use Rattle.std.proofs.lemmas.Bool.{ne_eqb, false≢true}
 use Rattle.std.specs.Prelude.{IfSome, is_some}
 use Rattle.cfn_model.specs.Text.{step_words, text, tree_lines}
-use Rattle.cfn_model.specs.Tree as trees
 use Rattle.cfn_proof.specs.declared.tree.NodeId.{NodeId}
 use Rattle.cfn_proof.specs.declared.tree.End.{End}
 use Rattle.cfn_proof.specs.declared.tree.End.TheVariants.{Free, Shut, Split}
@@ -31,8 +30,8 @@ deep_enough nodes zero n i linked there low high = sym (at_top nodes n i linked 
 deep_enough nodes (suc m) zero i linked there low high = at_top nodes (suc m) i linked (omega arith)
 deep_enough nodes (suc m) (suc n) i linked there low high =
     above_ext nodes i (node_at nodes i).parent (lines_within nodes m) (lines_within nodes n) (λ p is.
-      let before : p.number < i = (linked.parents i p there is).0 in
-      deep_enough nodes m n p.number linked (omega arith) (omega arith) (omega arith))
+    let before : p.number < i = (linked.parents i p there is).0 in
+    deep_enough nodes m n p.number linked (omega arith) (omega arith) (omega arith))
 
 behind_within : (nodes : List Node) (depth i : ℕ) (p : NodeId) → IsLinked nodes → i ≡ suc depth → i < length nodes → (node_at nodes i).parent ≡ Some p → lines_within nodes (suc depth) i ≡ sibling_lines nodes (second_after (node_at nodes p.number).end i) (lines_within nodes p.number p.number)
 behind_within nodes depth i p linked deep there is =
@@ -81,9 +80,10 @@ behind_sibling nodes i p parent (Some s) linked there is same found some =
 
 -- behind another child stands what stands behind its parent
 pub behind_parent : (nodes : List Node) (i : ℕ) (p : NodeId) (parent : Node) (s : Option NodeId) → IsLinked nodes → i < length nodes → (node_at nodes i).parent ≡ Some p → parent ≡ node_at nodes p.number → s ≡ second_after parent.end i → is_some s ≡ false → (p.number < i) × (lines_behind nodes i ≡ lines_behind nodes p.number)
-behind_parent nodes i p parent None linked there is same found none =
-    ((linked.parents i p there is).0,
-     behind_child nodes i p linked there is ∙ ap (λ o. sibling_lines nodes o (lines_behind nodes p.number)) (ap (λ n. second_after n.end i) (sym same) ∙ sym found))
+behind_parent nodes i p parent None linked there is same found none = (
+  (linked.parents i p there is).0,
+  behind_child nodes i p linked there is ∙ ap (λ o. sibling_lines nodes o (lines_behind nodes p.number)) (ap (λ n. second_after n.end i) (sym same) ∙ sym found),
+)
 behind_parent nodes i p parent (Some s) linked there is same found none = absurd (false≢true (sym none))
 
 tree_lines_at : (nodes : List Node) (i : ℕ) (e : End) → IsLinked nodes → i < length nodes → (node_at nodes i).end ≡ e → tree_lines (tree_at nodes i) ≡ tree_lines (with_children (node_at nodes i).block e (tree_at nodes))

@@ -14,3 +14,5 @@ mod walk;
 
 pub use certificate::write;
 
+#[cfg(test)]
+mod tests;

@@ -58,12 +58,7 @@ fn put_numbers<D: Desk>(front: &[u32], last: u64, desk: &mut D) -> Result<(), Fa
 }
 
 /// Puts a line: its first word, given with its space, then the numbers of `front`, and the last one.
-pub fn put_line<D: Desk>(
-    word: &[u8],
-    front: &[u32],
-    last: u64,
-    desk: &mut D,
-) -> Result<(), Failed>
+pub fn put_line<D: Desk>(word: &[u8], front: &[u32], last: u64, desk: &mut D) -> Result<(), Failed>
     requires { IsTrue (D.writing desk.old) }
     ensures { Puts D.files D.said D.out D.writing D.faults desk.old
         (word.now ++ line (map decimal front.now ++ decimal last ∷ [])) result desk.new }

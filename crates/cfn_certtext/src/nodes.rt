@@ -69,7 +69,9 @@ fn put_end<D: Desk>(end: End, desk: &mut D) -> Result<(), Failed>
         End::Free => put_bytes(b"open\n", desk),
         End::Shut => put_bytes(b"closed\n", desk),
         End::Split {
-            variable, value, ..
+            variable,
+            value,
+            ..
         } => put_line(b"split ", &[variable], u64::from(value), desk),
     }
 }

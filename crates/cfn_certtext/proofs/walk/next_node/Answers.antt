@@ -8,7 +8,7 @@ pub returns-in-Free : goal.returns-in-Free
 returns-in-Free c = record {
   there = c.next_second.ensures.there;
   lines = from_leaf c.args.tree.now c.args.id.number c.node.result.now c.linked.ensures.linked c.requires c.node.ensures c.in-Free.is
-    ∙ ap (λ t. node_lines (node_at c.args.tree.now c.args.id.number) ++ t) c.next_second.ensures.lines;
+      ∙ ap (λ t. node_lines (node_at c.args.tree.now c.args.id.number) ++ t) c.next_second.ensures.lines;
 }
 
 pub returns-in-Split-clause-there : goal.returns-in-Split-clause-there

@@ -10,7 +10,7 @@ abbrev pub invariant-loop-next : goal.invariant-loop-next
 invariant-loop-next g l = let d = g.D.Desk in record {
   there : IfSome l.next (λ id. id.number < length l.tree);
   left : Midway d.files d.said d.out d.writing d.faults l.initial.desk
-    (text (tree_lines (tree_of l.tree))) (text (lines_left l.tree l.next)) l.desk;
+      (text (tree_lines (tree_of l.tree))) (text (lines_left l.tree l.next)) l.desk;
 }
 
 abbrev pub decreases-loop-next : goal.decreases-loop-next
