@@ -1,0 +1,18 @@
+//! The writer of certificates: the text of a certificate, put into the file that a desk is writing.
+//!
+//! - `write` puts a certificate, a word at a time. What its text is, is defined in cfn_model's specs/Text.antt.
+//! - `line` has the words and lines that the other parts are made of.
+//! - `walk` goes over the nodes of a tree in the order of their lines, with no recursion and no memory.
+//!
+//! No call takes memory. Each word is one put, together with the space or LF behind it.
+#![tactic(auto)]
+
+mod certificate;
+mod line;
+mod nodes;
+mod walk;
+
+pub use certificate::write;
+
+#[cfg(test)]
+mod tests;
