@@ -15,3 +15,6 @@ pub use certificate::Certificate;
 pub use cfn_model::{Event, Row, Step};
 pub use path::Path;
 pub use tree::{End, Node, NodeId, Tree};
+
+#[cfg(test)]
+mod tests;

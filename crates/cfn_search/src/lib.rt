@@ -11,3 +11,6 @@ mod search;
 
 pub use outcome::{Outcome, Stop};
 pub use search::solve;
+
+#[cfg(test)]
+mod tests;
