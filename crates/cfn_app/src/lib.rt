@@ -7,6 +7,9 @@
 mod command;
 mod gate;
 mod output;
+mod run;
 mod solving;
+mod status;
 
 pub use gate::{Gate, OpenGate, Point};
+pub use run::run_program as run;

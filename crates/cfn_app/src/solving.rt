@@ -4,6 +4,7 @@ ghost use Rattle.std.specs.Prelude.{◌≡◌, ◌≤◌, false};
 ghost use Rattle.cfn_app.specs.Command.{Task as SpokenTask};
 ghost use Rattle.cfn_app.specs.Headline.{Solves};
 ghost use Rattle.cfn_app.specs.Outside.{outside_of};
+ghost use Rattle.cfn_app.specs.Output.{Searches};
 
 use crate::command::Task;
 use crate::output::put_out;
@@ -11,7 +12,8 @@ use crate::status::{ending, FAULT, MEMORY, REFUSED};
 use cfn_desk::{Desk, LoadFault};
 use cfn_net::Network;
 use cfn_wcsp::ReadFault;
-use std::alloc::Global;
+use cfn_search::solve;
+use std::alloc::{AllocError, Global};
 
 /// Loads and reads the task's file, searches it, writes its certificate and says its report. The first fault decides.
 pub fn solve_task<D: Desk>(
@@ -41,11 +43,32 @@ pub fn solve_task<D: Desk>(
     match cfn_wcsp::read(alloc, &bytes) {
         Ok(network) => {
             drop(bytes);
-            solve_network(alloc, &network, task, workers, budget, desk)
+            solve_network(alloc, &network, task.certificate, workers, budget, desk)
         }
         Err(ReadFault::Memory) => ending(cfn_report::write_memory_fault(desk), MEMORY),
         Err(ReadFault::Refused(refusal)) => {
-            ending(cfn_report::write_refusal(refusal, desk), REFUSED)
+            ending(cfn_report::write_refusal(&refusal, desk), REFUSED)
         }
+    }
+}
+
+/// Searches a network, writes its certificate and says its report.
+fn solve_network<D: Desk>(
+    alloc: Global,
+    network: &Network,
+    certificate: &str,
+    workers: u64,
+    budget: u64,
+    desk: &mut D,
+) -> u8
+    requires idle { D.writing desk.old ≡ false }
+    requires budget { budget ≤ 9223372036854775807 }
+    ensures { Searches network.now workers budget certificate.now
+        (outside_of D.files D.said D.out D.writing D.faults desk.old)
+        (outside_of D.files D.said D.out D.writing D.faults desk.new) result }
+{
+    match solve(alloc, network, budget) {
+        Ok(outcome) => put_out(&outcome, workers, certificate, desk),
+        Err(AllocError) => ending(cfn_report::write_memory_fault(desk), MEMORY),
     }
 }
