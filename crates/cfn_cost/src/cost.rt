@@ -34,7 +34,7 @@ impl Cost {
         Cost { value, top }
     }
 
-    /// Both costs together: their sum, or the top where that is less (Cooper et al. 2010, section 2).
+    /// Both costs together: their sum, or the top where that is less (Cooper et al. 2010).
     pub fn plus(self, other: Cost) -> Cost
         requires { self.top ≡ other.top }
         ensures value { result.value ≡ min self.top (self.value + other.value) }

@@ -1,7 +1,7 @@
 //! Costs that are capped: a value from 0 to a top, added with `min(top, a + b)`.
 //!
-//! The top stands for "forbidden": it is what a sum that reaches it stays at (the valuation structure of Cooper
-//! et al. 2010, "Soft arc consistency revisited", section 2). Nothing here takes memory.
+//! The top stands for "forbidden": a sum that reaches it stays at it (Cooper et al. 2010, "Soft arc consistency
+//! revisited"). Nothing here takes memory.
 #![tactic(auto)]
 
 mod cost;

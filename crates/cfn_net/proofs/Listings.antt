@@ -8,7 +8,7 @@ use Rattle.std.proofs.lemmas.List.{ext_get_or, get_or_past, get_or-set_same, get
 use Rattle.std.proofs.lemmas.List.Sums.{sum_by_push}
 use Rattle.std.proofs.lemmas.List.FromFn.{length-map-range_with_len, get_or-map-range_with_len}
 use Rattle.cfn_model.specs.Network.{Function, Network, IsFunction, cells, cell, dims, dims_at, last_listed, function_of, function_at, no_function}
-use Rattle.cfn_net.specs.Building.{IsScope, ListingLaw, all_cells, last, listings_of, with_entry, with_function, with_last}
+use Rattle.cfn_net.specs.Building.{IsScope, ListingLaw, all_cells, last, list_at_end, listings_of, with_entry, with_function, with_last}
 
 -- a function of listings keeps the limits of functions
 pub IsFunction-function_of : (sizes : List ℕ) (upper : ℕ) (scope : List ℕ) (default : ℕ) (listings : List (List ℕ × ℕ)) → IsScope sizes scope → IsFunction sizes upper (function_of sizes upper scope default listings)
@@ -80,8 +80,20 @@ with_last-with_function P f g =
 pub function_at-with_function : (P : Network) (f : Function) → function_at (with_function P f) (last (with_function P f)) ≡ f
 function_at-with_function P f = get_or_at P.functions f [] no_function (last (with_function P f)) (sym (last-with_function P f))
 
+pub list_at_end-with_function : (P : Network) (scope : List ℕ) (default : ℕ) (listings : List (List ℕ × ℕ)) (listing : List ℕ × ℕ) → list_at_end (with_function P (function_of P.sizes P.upper scope default listings)) (cell (dims P.sizes scope) listing.0) listing.1 ≡ with_function P (function_of P.sizes P.upper scope default (listings ++ listing ∷ []))
+list_at_end-with_function P scope default listings listing =
+    let f : Function = function_of P.sizes P.upper scope default listings in
+    let k = cell (dims P.sizes scope) listing.0 in
+    let put : Function → Network = λ g. with_last (with_function P f) (with_entry P.upper k listing.1 g) in
+    ap put (function_at-with_function P f) ∙ with_last-with_function P f (with_entry P.upper k listing.1 f) ∙ ap (λ (g : Function). with_function P g) (with_entry-function_of P.sizes P.upper scope default listings listing)
+
 pub the_listing_law : ListingLaw
-the_listing_law = record { entry = with_entry-function_of; replaced = with_last-with_function; at_end = function_at-with_function }
+the_listing_law = record {
+  entry = with_entry-function_of;
+  replaced = with_last-with_function;
+  at_end = function_at-with_function;
+  listed = list_at_end-with_function;
+}
 
 pub all_cells-with_function : (P : Network) (f : Function) → all_cells (with_function P f) ≡ all_cells P + cells (dims P.sizes f.scope)
 all_cells-with_function P f = sum_by_push (λ g. cells (dims P.sizes g.scope)) P.functions f
@@ -95,14 +107,11 @@ all_cells-added P Q N f scope default entries n same s is are added count =
     omega arith
 
 -- a loop that lists a tuple has one more listing
-pub listed_more : (P S Q N : Network) (scope : List ℕ) (default : ℕ) (listed : List (Bor (List ℕ) × ℕ)) (i : ℕ) (d : Bor (List ℕ) × ℕ) (k place : ℕ) → Q ≡ S → S ≡ with_function P (function_of P.sizes P.upper scope default (listings_of (take i listed))) → i < length listed → place ≡ length P.functions → k ≡ cell (dims_at Q place) (get_or listed i d).0.now → N ≡ with_last S (with_entry S.upper k (get_or listed i d).1 (function_at S (last S))) → N ≡ with_function P (function_of P.sizes P.upper scope default (listings_of (take (i + 1) listed)))
+pub listed_more : (P S Q N : Network) (scope : List ℕ) (default : ℕ) (listed : List (Bor (List ℕ) × ℕ)) (i : ℕ) (d : Bor (List ℕ) × ℕ) (k place : ℕ) → Q ≡ S → S ≡ with_function P (function_of P.sizes P.upper scope default (listings_of (take i listed))) → i < length listed → place ≡ length P.functions → k ≡ cell (dims_at Q place) (get_or listed i d).0.now → N ≡ list_at_end S k (get_or listed i d).1 → N ≡ with_function P (function_of P.sizes P.upper scope default (listings_of (take (i + 1) listed)))
 listed_more P S Q N scope default listed i d k place same built l at is_cell written =
     let x = get_or listed i d in
     let f : Function = function_of P.sizes P.upper scope default (listings_of (take i listed)) in
     let here : function_at (with_function P f) place ≡ f = get_or_at P.functions f [] no_function place (sym at) in
     let key : k ≡ cell (dims P.sizes scope) x.0.now = is_cell ∙ ap (λ (R : Network). cell (dims_at R place) x.0.now) (same ∙ built) ∙ ap (λ (g : Function). cell (dims P.sizes g.scope) x.0.now) here in
-    let write : Network → Network = λ R. with_last R (with_entry R.upper k x.1 (function_at R (last R))) in
-    let put : Function → Network = λ g. with_last (with_function P f) (with_entry P.upper k x.1 g) in
-    let entry : ℕ → Network = λ n. with_function P (with_entry P.upper n x.1 f) in
     let listings : List (List ℕ × ℕ) → Network = λ ls. with_function P (function_of P.sizes P.upper scope default ls) in
-    written ∙ ap write built ∙ ap put (function_at-with_function P f) ∙ with_last-with_function P f (with_entry P.upper k x.1 f) ∙ ap entry key ∙ ap (λ (g : Function). with_function P g) (with_entry-function_of P.sizes P.upper scope default (listings_of (take i listed)) (x.0.now, x.1)) ∙ ap listings (sym (map_more (λ (y : Bor (List ℕ) × ℕ). (y.0.now, y.1)) listed i d l))
+    written ∙ ap (λ (R : Network). list_at_end R k x.1) built ∙ ap (λ n. list_at_end (with_function P f) n x.1) key ∙ list_at_end-with_function P scope default (listings_of (take i listed)) (x.0.now, x.1) ∙ ap listings (sym (map_more (λ (y : Bor (List ℕ) × ℕ). (y.0.now, y.1)) listed i d l))

@@ -44,13 +44,19 @@ with_last P f = record P { functions = slice_set P.functions (last P) f }
 abbrev pub with_entry : ℕ → ℕ → ℕ → Function → Function
 with_entry upper c amount f = record f { entries = slice_set f.entries c (min upper amount) }
 
+-- The network with a cost written at a cell of its last function.
+abbrev pub list_at_end : Network → ℕ → ℕ → Network
+list_at_end P c amount = with_last P (with_entry P.upper c amount (function_at P (last P)))
+
 -- The listings that tuples with their costs are.
 abbrev pub listings_of : List (Bor (List ℕ) × ℕ) → List (List ℕ × ℕ)
 listings_of listed = map (λ listing. (listing.0.now, listing.1)) listed
 
--- Writing a listing's cost at its cell is the same as one more listing, and writing into the function at the end
--- leaves the network that has the written function there.
+-- Writing a listing's cost at its cell is the same as one more listing; writing into the function at the end leaves the
+-- network that has the written function there; and so a network whose last function is that of some listings becomes,
+-- where a tuple's cost is written, the network whose last function is that of one more listing.
 pub record ListingLaw : Type 0 where
   pub entry : (sizes : List ℕ) (upper : ℕ) (scope : List ℕ) (default : ℕ) (listings : List (List ℕ × ℕ)) (listing : List ℕ × ℕ) → with_entry upper (cell (dims sizes scope) listing.0) listing.1 (function_of sizes upper scope default listings) ≡ function_of sizes upper scope default (listings ++ listing ∷ [])
   pub replaced : (P : Network) (f g : Function) → with_last (with_function P f) g ≡ with_function P g
   pub at_end : (P : Network) (f : Function) → function_at (with_function P f) (last (with_function P f)) ≡ f
+  pub listed : (P : Network) (scope : List ℕ) (default : ℕ) (listings : List (List ℕ × ℕ)) (listing : List ℕ × ℕ) → list_at_end (with_function P (function_of P.sizes P.upper scope default listings)) (cell (dims P.sizes scope) listing.0) listing.1 ≡ with_function P (function_of P.sizes P.upper scope default (listings ++ listing ∷ []))

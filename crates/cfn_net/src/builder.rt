@@ -2,7 +2,7 @@
 ghost use Rattle.std.specs.Prelude.{◌≡◌, ℕ, ◌+◌, ◌-◌, ◌<◌, ◌≤◌, ◌^◌, [], ◌∷◌, length, slice_index, All, IfOk, OnOk, OnErr};
 ghost use Rattle.cfn_model.specs.Words.{IsWord};
 ghost use Rattle.cfn_model.specs.Network.{Fits, cells, cell, dims, function_of, dims_at, function_at};
-ghost use Rattle.cfn_net.specs.Building.{AreSizes, CanTake, ListingLaw, all_cells, last, listings_of, new_network, with_entry, with_function, with_last};
+ghost use Rattle.cfn_net.specs.Building.{AreSizes, CanTake, ListingLaw, all_cells, last, list_at_end, listings_of, new_network, with_function};
 
 use crate::function::Function;
 use crate::network::Network;
@@ -107,8 +107,7 @@ impl Builder {
     pub fn list(&mut self, cell: u32, cost: u64)
         requires some { 0 < length self.old.functions }
         requires cell { cell < cells (dims_at self.old (last self.old)) }
-        ensures { self.new ≡ with_last self.old
-            (with_entry self.old.upper cell cost (function_at self.old (last self.old))) }
+        ensures { self.new ≡ list_at_end self.old cell cost }
     {
         self.network.set_last(cell, cost);
     }

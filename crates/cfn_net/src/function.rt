@@ -96,6 +96,7 @@ impl Function {
             → cell (dims sizes.now self.now.scope) tuple ≡ number → result ≡ slice_index tuple place }
         ensures exists { (tuple : List ℕ) × Fits (dims sizes.now self.now.scope) tuple
             × (cell (dims sizes.now self.now.scope) tuple ≡ number) }
+        ensures below { result < slice_index (dims sizes.now self.now.scope) place }
     {
         let scope = self.scope();
         let behind = &scope[place as usize + 1..];

@@ -2,7 +2,7 @@
 ghost use Rattle.std.specs.Prelude.{◌≡◌, ◌≢◌, ℕ, ◌+◌, ◌-◌, ◌*◌, ◌^◌, ◌<◌, ◌≤◌, ◌↔◌, List, [], length, slice_index, IfOk, OnOk, OnErr};
 ghost use Rattle.cfn_model.specs.Words.{IsWord};
 ghost use Rattle.cfn_model.specs.Network.{Fits, IsFunction, IsNetwork, function_at, scope_at, arity, dims_at, entry_at, restrict, cells, cell, cost, function_of};
-ghost use Rattle.cfn_net.specs.Building.{AreSizes, CanTake, IsScope, last, new_network, with_entry, with_function, with_last};
+ghost use Rattle.cfn_net.specs.Building.{AreSizes, CanTake, IsScope, last, list_at_end, new_network, with_function};
 ghost use Rattle.cfn_net.specs.Fitting.{IsFirstMisfit};
 
 use crate::fit::Fit;
@@ -131,6 +131,7 @@ impl Network {
             → cell (dims_at self.now f) tuple ≡ number → result ≡ slice_index tuple place }
         ensures exists { (tuple : List ℕ) × Fits (dims_at self.now f) tuple
             × (cell (dims_at self.now f) tuple ≡ number) }
+        ensures below { result < slice_index (dims_at self.now f) place }
     {
         self.function(f)
             .value_at(self.sizes.as_slice(), number, place)
@@ -154,7 +155,7 @@ impl Network {
     }
 
     /// The cost of an assignment: the sum of all functions' entries, or the upper bound where that is less
-    /// (toulbar2 user manual, wcsp format; Cooper et al. 2010, section 2).
+    /// (toulbar2 user manual, wcsp format; Cooper et al. 2010).
     pub fn cost(&self, values: &[u32]) -> Cost
         requires { Fits self.now.sizes values.now }
         ensures value { result.value ≡ cost self.now values.now }
@@ -224,8 +225,7 @@ impl Network {
     pub(crate) fn set_last(&mut self, cell: u32, cost: u64)
         requires some { 0 < length self.old.functions }
         requires cell { cell < cells (dims_at self.old (last self.old)) }
-        ensures { self.new ≡ with_last self.old
-            (with_entry self.old.upper cell cost (function_at self.old (last self.old))) }
+        ensures { self.new ≡ list_at_end self.old cell cost }
     {
         let upper = self.upper;
         let place = self.functions.len() - 1;
