@@ -1,18 +1,18 @@
 -- Each result of a search comes exactly with its cause.
-use Rattle.std.proofs.Common.{◌≡◌, ◌≢◌, ℕ, ◌+◌, ◌<◌, ◌≤◌, ◌⊎◌, inl, inr, min, List, [], ◌∷◌, refl, sym, ap, ◌∙◌, subst, arith}
+use Rattle.std.proofs.Common.{◌≡◌, ℕ, ◌<◌, inl, inr, List, [], ◌∷◌, refl, sym, ap, ◌∙◌, subst, arith}
 use Rattle.std.proofs.lemmas.Bool.{cases_eq}
-use Rattle.std.specs.Prelude.{Option, Some, None, ◌↔◌, IsSomeAnd}
+use Rattle.std.specs.Prelude.{Option, Some, None, IsSomeAnd, IsTrue, is_some}
+use Rattle.cfn_net.specs.Scoring.{Scoring}
+use Rattle.cfn_proof.specs.Certificates.{solution_of}
 use Rattle.cfn_model.specs.declared.step.Event.{Event}
 use Rattle.cfn_model.specs.declared.step.Event.TheVariants.{Is, IsNot}
 use Rattle.cfn_model.specs.declared.report.Row.{Row}
-use Rattle.cfn_model.specs.declared.report.ResultWord.{ResultWord}
 use Rattle.cfn_model.specs.declared.report.ResultWord.TheVariants as words
-use Rattle.cfn_model.specs.Network.{Network}
-use Rattle.cfn_model.specs.Sums.{floor}
+use Rattle.cfn_model.specs.Network.{Network, IsNetwork, Least}
 use Rattle.cfn_model.specs.Steps.{after}
 use Rattle.cfn_model.specs.Tree.{Tree, Open, Closed, Split, OpenBelow, open_leaves, bound}
 use Rattle.cfn_model.specs.Certificate.{Solution, Certificate, Good, threshold, threshold_of}
-use Rattle.cfn_model.proofs.Bounding.{bound_low}
+use Rattle.cfn_model.proofs.Bounding.{lower_bounds, optimum, none_below}
 use Rattle.cfn_search.specs.declared.outcome.Stop.{Stop}
 use Rattle.cfn_search.specs.declared.outcome.Stop.TheVariants.{Done, Budget, Memory}
 use Rattle.cfn_search.specs.Outcome.{IsSearched, HasCause}
@@ -119,15 +119,35 @@ module _ (budget nodes : ℕ) (c : Certificate) where
   causes P rows Budget s cause = spent (let b = bound_open P [] c.tree (threshold c) s.below cause.0 in omega (arith, b, s.lower)) cause.0 cause.1
   causes P rows Memory s cause = out_of_memory (let b = bound_open P [] c.tree (threshold c) s.below cause.0 in omega (arith, b, s.lower)) cause.0 cause.1
 
-pub promised : (P : Network) (budget nodes : ℕ) (c : Certificate) (rows : List Row) (stop : Stop) → IsSearched P budget nodes c rows stop → Promise P budget nodes c rows (word_of stop c.best)
-promised P budget nodes c rows stop s = record {
-  good = s.good;
-  spelled = s.spelled;
-  lower = s.lower;
-  below = s.below;
-  rows_hold = s.rows_hold;
-  allowed = s.allowed;
-  counted = s.counted;
-  strict = s.strict;
-  causes = causes budget nodes c P rows stop s s.cause;
-}
+-- an optimum is one, and without one every assignment costs the upper bound
+least_of : (P : Network) (c : Certificate) (best : Option Solution) → c.best ≡ best → IsNetwork P → Good P c → IsSomeAnd best (λ b. c.lower ≡ b.cost) → IsSomeAnd best (λ b. Least P b.cost)
+least_of P c None is network good h = h
+least_of P c (Some b) is network good h = optimum P c b network good is h
+
+pub promised : (P : Network) (budget nodes : ℕ) (c : Certificate) (rows : List Row) (stop : Stop) → IsNetwork P → IsSearched P budget nodes c rows stop → Promise P budget nodes c rows (word_of stop c.best)
+promised P budget nodes c rows stop network s =
+    let by_cause = causes budget nodes c P rows stop s s.cause in
+    record {
+      good = s.good;
+      spelled = s.spelled;
+      lower = s.lower;
+      below = s.below;
+      rows_hold = s.rows_hold;
+      allowed = s.allowed;
+      counted = s.counted;
+      strict = s.strict;
+      causes = by_cause;
+      network = network;
+      bounds = (λ values fits. lower_bounds P c values network s.good fits);
+      least = (λ e. least_of P c c.best refl network s.good (by_cause.optimum.0 e));
+      none_below = (λ e values fits. none_below P c values network s.good ((by_cause.none.0 e).1 ∙ s.good.upper) fits);
+    }
+
+-- the word of a search that is done and has a best assignment
+held_word : (held : Option Solution) → IsTrue (is_some held) → words.Optimum ≡ word_when_done held
+held_word None h = cc
+held_word (Some best) h = refl
+
+pub word_of_best : (stop : Stop) (best : Option Scoring) (scored : Scoring) → stop ≡ Done → best ≡ Some scored → IsTrue (is_some scored.held) → words.Optimum ≡ word_of stop (solution_of best)
+word_of_best stop best scored done is held =
+    subst (λ b. words.Optimum ≡ word_of stop (solution_of b)) (sym is) (subst (λ s. words.Optimum ≡ word_of s scored.held) (sym done) (held_word scored.held held))

@@ -4,12 +4,12 @@ use Rattle.cfn_model.specs.declared.report.Row.{Row}
 use Rattle.cfn_model.specs.declared.report.ResultWord.{ResultWord}
 use Rattle.cfn_model.specs.declared.report.ResultWord.TheVariants.{Optimum, Nothing, Budget, Memory}
 use Rattle.cfn_model.specs.declared.reading.Refusal.{Refusal}
-use Rattle.cfn_model.specs.Network.{Network, Fits, Least, cost}
+use Rattle.cfn_model.specs.Network.{Network, IsNetwork, Fits, Least, cost}
 use Rattle.cfn_model.specs.Tree.{count, open_leaves, Strict, OpenBelow, bound}
-use Rattle.cfn_model.specs.Certificate.{Solution, Certificate, Good, threshold}
+use Rattle.cfn_model.specs.Certificate.{Certificate, Good, threshold}
 use Rattle.cfn_model.specs.Reading.{Reads, Refuses}
-use Rattle.cfn_model.specs.Text.{IsSpelled, Spells, spelling, report, refusal_text, read_fault_text, write_fault_text, memory_fault_text}
-use Rattle.cfn_desk.specs.Desk.{Files, Rose, SaysPiece, SaysFront, Stores}
+use Rattle.cfn_model.specs.Text.{IsSpelled, spelling, report, refusal_text, read_fault_text, write_fault_text, memory_fault_text}
+use Rattle.cfn_desk.specs.Desk.{Rose, SaysPiece, SaysFront, Stores}
 use Rattle.cfn_search.specs.Outcome.{RowsHold}
 use Rattle.cfn_app.specs.Command.{Task, usage_text}
 use Rattle.cfn_app.specs.Outside.{Outside, HasFile, Says, SaysCut, EndsSaying, IsFront, AtMostAt}
@@ -38,7 +38,9 @@ pub record HasCauses (budget nodes : ℕ) (c : Certificate) (word : ResultWord) 
 
 -- What a search promises: the certificate is good and has a spelling, its lower bound is its tree's bound, and its
 -- open leaves have floors below the threshold; the rows hold; no more nodes were spent than the budget allows and the
--- tree has, and none on a split that leaves all as it was; and the result comes exactly with its cause.
+-- tree has, and none on a split that leaves all as it was; and the result comes exactly with its cause. So the lower
+-- bound is at most the cost of every assignment; an optimum is one; and without one every assignment costs the upper
+-- bound.
 pub record Promise (P : Network) (budget nodes : ℕ) (c : Certificate) (rows : List Row) (word : ResultWord) : Type 0 where
   pub good : Good P c
   pub spelled : IsSpelled c
@@ -49,6 +51,10 @@ pub record Promise (P : Network) (budget nodes : ℕ) (c : Certificate) (rows : 
   pub counted : nodes ≤ count c.tree
   pub strict : Strict P [] c.tree
   pub causes : HasCauses budget nodes c word
+  pub network : IsNetwork P
+  pub bounds : (values : List ℕ) → Fits P.sizes values → c.lower ≤ cost P values
+  pub least : word ≡ Optimum → IsSomeAnd c.best (λ best. Least P best.cost)
+  pub none_below : word ≡ Nothing → (values : List ℕ) → Fits P.sizes values → cost P values ≡ P.upper
 
 -- The certificate was written and the report said: the files changed at one name alone, whose bytes are the
 -- certificate's spelling, and the count of faults is as it was.
@@ -115,3 +121,27 @@ IsAccepted (Some task) old = IsSomeAnd old.files (λ files. (bytes : List ℕ) �
 -- Solved, or want of memory.
 abbrev pub IsSolvedStatus : ℕ → Type 0
 IsSolvedStatus status = (status ≡ 0) ⊎ ((status ≡ 1) ⊎ ((status ≡ 2) ⊎ (status ≡ 6)))
+
+-- What each status says.
+pub record Statuses (workers budget : ℕ) (task : Option Task) (old new : Outside) (status : ℕ) : Type 0 where
+  -- an optimum is reported
+  pub optimum : status ≡ 0 → ReportsOf workers budget task old new Optimum
+  -- it is reported that no assignment is below the upper bound
+  pub none : status ≡ 1 → ReportsOf workers budget task old new Nothing
+  -- bounds are reported, and the budget is spent
+  pub budget_spent : status ≡ 2 → ReportsOf workers budget task old new Budget
+  -- the words are no command
+  pub usage : status ≡ 3 → (task ≡ None) × Says old new usage_text
+  -- the file is refused
+  pub refused : status ≡ 4 → RefusedOf task old new
+  -- a call of the desk failed
+  pub fault : status ≡ 5 → Rose old.faults new.faults
+  -- memory was refused, before there was anything to report or after
+  pub memory : status ≡ 6 → Says old new memory_fault_text ⊎ ReportsOf workers budget task old new Memory
+  -- there is no other, and no fault was counted but with 5
+  pub range : status ≤ 6
+  pub faultless : status ≢ 5 → new.faults ≡ old.faults
+  -- words that are no command end with the usage, unless it could not be said
+  pub no_command : task ≡ None → (status ≡ 3) ⊎ (status ≡ 5)
+  -- and a file that reads as a network is solved, unless a call of the desk failed or memory was refused
+  pub accepted : IsAccepted task old → (status ≡ 5) ⊎ IsSolvedStatus status

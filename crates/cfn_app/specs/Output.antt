@@ -4,7 +4,9 @@ use Rattle.cfn_model.specs.declared.report.Row.{Row}
 use Rattle.cfn_model.specs.declared.report.ResultWord.{ResultWord}
 use Rattle.cfn_model.specs.Certificate.{Certificate}
 use Rattle.cfn_model.specs.Network.{Network}
-use Rattle.cfn_model.specs.Text.{memory_fault_text}
+use Rattle.cfn_model.specs.Text.{memory_fault_text, refusal_text}
+use Rattle.cfn_wcsp.specs.declared.fault.ReadFault.{ReadFault}
+use Rattle.cfn_wcsp.specs.declared.fault.ReadFault.TheVariants.{Refused, Memory}
 use Rattle.cfn_app.specs.Outside.{Outside, EndsSaying}
 use Rattle.cfn_app.specs.Headline.{status_of, Promise, Written, Unwritten}
 
@@ -18,3 +20,8 @@ abbrev pub Searches : Network → ℕ → ℕ → List ℕ → Outside → Outsi
 Searches P workers budget name old new status =
     EndsSaying old new memory_fault_text 6 status
     ⊎ ((nodes : ℕ) × (c : Certificate) × (rows : List Row) × (word : ResultWord) × Promise P budget nodes c rows word × PutsOut workers name old new nodes c rows word status)
+
+-- How a run ends whose file is not read: with the refusal, or for want of memory.
+abbrev pub EndsAt : ReadFault → Outside → Outside → ℕ → Type 0
+EndsAt (Refused refusal) old new status = EndsSaying old new (refusal_text refusal) 4 status
+EndsAt Memory old new status = EndsSaying old new memory_fault_text 6 status

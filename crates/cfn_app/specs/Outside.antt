@@ -1,6 +1,6 @@
 -- The outside before and after a run, and what a run may do to it.
-use Rattle.std.specs.Prelude.{◌≡◌, ◌≢◌, ◌⊎◌, ℕ, Bool, List, ◌++◌, Option, Some, IfSome, IsSomeAnd}
-use Rattle.cfn_desk.specs.Desk.{Files, Rose, SaysPiece, SaysFront, Stores}
+use Rattle.std.specs.Prelude.{◌≡◌, ◌≢◌, ◌⊎◌, ℕ, Bool, List, ◌++◌, Option, Some, IfSome}
+use Rattle.cfn_desk.specs.Desk.{Files, Rose, SaysPiece, SaysFront}
 
 -- The five meanings of a desk at one moment.
 pub record Outside : Type 0 where

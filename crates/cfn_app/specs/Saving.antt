@@ -1,6 +1,6 @@
 -- What writing a file from its opening to its closing does.
-use Rattle.std.specs.Prelude.{◌≡◌, ℕ, List, Option, Result, None, IfSome, IsSomeAnd, OnOk, OnErr}
-use Rattle.cfn_desk.specs.Desk.{Files, FailsByFault, Stores}
+use Rattle.std.specs.Prelude.{◌≡◌, ℕ, List, Result, None, IfSome, IsSomeAnd, OnOk, OnErr}
+use Rattle.cfn_desk.specs.Desk.{FailsByFault, Stores}
 use Rattle.cfn_app.specs.Outside.{Outside, IsFront, AtMostAt}
 
 -- Ok stored the text under the name. Err counted a fault, and left the files as they were or stored the text, and what

@@ -7,9 +7,10 @@
 mod command;
 mod gate;
 mod output;
-mod run;
+mod program;
+mod saving;
 mod solving;
 mod status;
 
 pub use gate::{Gate, OpenGate, Point};
-pub use run::run_program as run;
+pub use program::run;

@@ -1,24 +1,22 @@
 //! Writing a certificate and saying its report.
 
-ghost use Rattle.std.specs.Prelude.{◌≡◌, ℕ, IsTrue, false, is_ok, is_some, if◌then◌else◌};
-ghost use Rattle.cfn_model.specs.Text.{spelling};
+ghost use Rattle.std.specs.Prelude.{◌≡◌, false};
 ghost use Rattle.cfn_proof.specs.Certificates.{certificate_of, solution_of};
 ghost use Rattle.cfn_app.specs.Outside.{outside_of};
-ghost use Rattle.cfn_app.specs.Saving.{Saves};
 ghost use Rattle.cfn_app.specs.Results.{word_of};
 ghost use Rattle.cfn_app.specs.Headline.{status_of};
 ghost use Rattle.cfn_app.specs.Output.{PutsOut};
 
-use crate::status::{ending, FAULT};
-use cfn_desk::{Desk, Failed};
+use crate::saving::save;
+use crate::status::{FAULT, ending};
+use cfn_desk::Desk;
 use cfn_model::ResultWord;
-use cfn_proof::Certificate;
 use cfn_report::Report;
 use cfn_search::{Outcome, Stop};
 
 /// Writes the certificate of an outcome to the file `name`, and then says its report. It takes no memory. The status
 /// is the result's, or that of a fault.
-pub fn put_out<D: Desk>(outcome: &Outcome, workers: u64, name: &str, desk: &mut D) -> u8
+pub fn put_out<D: Desk>(outcome: &Outcome, workers: u32, name: &str, desk: &mut D) -> u8
     requires { D.writing desk.old ≡ false }
     ensures { PutsOut workers name.now (outside_of D.files D.said D.out D.writing D.faults desk.old)
         (outside_of D.files D.said D.out D.writing D.faults desk.new)
@@ -40,30 +38,15 @@ pub fn put_out<D: Desk>(outcome: &Outcome, workers: u64, name: &str, desk: &mut 
     ending(cfn_report::write(&report, desk), status(word))
 }
 
-/// Writes a certificate to the file `name`. It takes no memory. After an `Err` nothing more is put.
-fn save<D: Desk>(certificate: &Certificate, name: &str, desk: &mut D) -> Result<(), Failed>
-    requires { D.writing desk.old ≡ false }
-    ensures { Saves name.now (spelling (certificate_of certificate.now))
-        (outside_of D.files D.said D.out D.writing D.faults desk.old)
-        (outside_of D.files D.said D.out D.writing D.faults desk.new) result }
-{
-    desk.open_out(name)?;
-    cfn_certtext::write(certificate, desk)?;
-    desk.close_out()
-}
-
 /// The result of a search, by why it stopped.
 fn result_word(outcome: &Outcome) -> ResultWord
     ensures { result ≡ word_of outcome.now.stop (solution_of outcome.now.certificate.best) }
 {
     match outcome.stop {
-        Stop::Done => {
-            if outcome.certificate.best.is_some() {
-                ResultWord::Optimum
-            } else {
-                ResultWord::Nothing
-            }
-        }
+        Stop::Done => match &outcome.certificate.best {
+            Some(_) => ResultWord::Optimum,
+            None => ResultWord::Nothing,
+        },
         Stop::Budget => ResultWord::Budget,
         Stop::Memory => ResultWord::Memory,
     }
