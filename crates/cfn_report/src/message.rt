@@ -1,4 +1,7 @@
 //! The texts of one line or two: refusals, faults, costs.
+//!
+//! In each of them an `Err` is a call of the desk that failed: some front of the text was said, and the rest was not
+//! tried.
 
 ghost use Rattle.std.specs.Prelude.{◌≡◌};
 ghost use Rattle.cfn_model.specs.Text.{allowed_word, cost_text, kind_name, memory_fault_text, read_fault_text, refusal_text, value_fault_text, values_fault_text, write_fault_text};
@@ -10,10 +13,8 @@ use crate::word::{Word, say_words};
 use cfn_desk::{Desk, Failed};
 use cfn_model::{Kind, Refusal};
 
-/// Says that a file is refused: the kind of what is wrong, and the number of the word, from 1.
-///
-/// An `Err` is a call of the desk that failed: some front of the text was said, and the rest was not tried. That
-/// holds of each function here.
+/// Says that a file is refused: the kind of what is wrong, and the number of the word, from 1. An `Err` has said
+/// some front of it.
 pub fn write_refusal<D: Desk>(refusal: &Refusal, desk: &mut D) -> Result<(), Failed>
     ensures { Says D.files D.said D.out D.writing D.faults desk.old (refusal_text refusal.now)
         result desk.new }
@@ -27,35 +28,36 @@ pub fn write_refusal<D: Desk>(refusal: &Refusal, desk: &mut D) -> Result<(), Fai
     say_words(&words, desk)
 }
 
-/// Says that a file was not read.
+/// Says that a file was not read. An `Err` has said some front of it.
 pub fn write_read_fault<D: Desk>(desk: &mut D) -> Result<(), Failed>
     ensures { Says D.files D.said D.out D.writing D.faults desk.old read_fault_text result desk.new }
 {
     say_bytes(b"error read\n", desk)
 }
 
-/// Says that a file was not written.
+/// Says that a file was not written. An `Err` has said some front of it.
 pub fn write_write_fault<D: Desk>(desk: &mut D) -> Result<(), Failed>
     ensures { Says D.files D.said D.out D.writing D.faults desk.old write_fault_text result desk.new }
 {
     say_bytes(b"error write\n", desk)
 }
 
-/// Says that memory was refused.
+/// Says that memory was refused. An `Err` has said some front of it.
 pub fn write_memory_fault<D: Desk>(desk: &mut D) -> Result<(), Failed>
     ensures { Says D.files D.said D.out D.writing D.faults desk.old memory_fault_text result desk.new }
 {
     say_bytes(b"error memory\n", desk)
 }
 
-/// Says that the program was called wrongly, and how it is called.
+/// Says that the program was called wrongly, and how it is called. An `Err` has said some front of it.
 pub fn write_usage<D: Desk>(desk: &mut D) -> Result<(), Failed>
     ensures { Says D.files D.said D.out D.writing D.faults desk.old usage_text result desk.new }
 {
     say_bytes(b"error usage\nwcspsolve solve FILE CERT\n", desk)
 }
 
-/// Says the cost of an assignment, and whether it is allowed: whether it is below the upper bound.
+/// Says the cost of an assignment, and whether it is allowed: an assignment whose cost reaches the upper bound is
+/// forbidden (toulbar2 user manual, wcsp format). An `Err` has said some front of it.
 pub fn write_cost<D: Desk>(upper: u64, cost: u64, desk: &mut D) -> Result<(), Failed>
     ensures { Says D.files D.said D.out D.writing D.faults desk.old (cost_text upper cost)
         result desk.new }
@@ -64,7 +66,7 @@ pub fn write_cost<D: Desk>(upper: u64, cost: u64, desk: &mut D) -> Result<(), Fa
     say_words(&words, desk)
 }
 
-/// Says that an assignment has another number of values than there are variables.
+/// Says that an assignment has another number of values than there are variables. An `Err` has said some front of it.
 pub fn write_values_fault<D: Desk>(expected: u64, got: u64, desk: &mut D) -> Result<(), Failed>
     ensures { Says D.files D.said D.out D.writing D.faults desk.old (values_fault_text expected got)
         result desk.new }
@@ -80,7 +82,7 @@ pub fn write_values_fault<D: Desk>(expected: u64, got: u64, desk: &mut D) -> Res
     say_words(&words, desk)
 }
 
-/// Says that the value of a variable is not in its domain.
+/// Says that the value of a variable, counted from 0, is not in its domain. An `Err` has said some front of it.
 pub fn write_value_fault<D: Desk>(x: u32, desk: &mut D) -> Result<(), Failed>
     ensures { Says D.files D.said D.out D.writing D.faults desk.old (value_fault_text x)
         result desk.new }

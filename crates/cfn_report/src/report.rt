@@ -13,14 +13,18 @@ use cfn_model::{ResultWord, Row};
 use cfn_net::Scored;
 use cfn_proof::Certificate;
 
-/// What a search reports: how many workers it had, its certificate, the bounds that held at some moments of it,
-/// how many nodes it searched, and how it ended.
+/// What is reported of a search.
 #[derive(Clone, Copy)]
 pub struct Report<'a> {
+    /// How many workers searched.
     pub workers: u32,
+    /// The certificate that was written.
     pub certificate: &'a Certificate,
+    /// Bounds in the order in which they held.
     pub rows: &'a [Row],
+    /// How many nodes were searched.
     pub nodes: u64,
+    /// How the search ended.
     pub word: ResultWord,
 }
 
