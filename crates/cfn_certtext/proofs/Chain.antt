@@ -129,18 +129,6 @@ pub finish : {D V F : Type 0} {files : D → Option Files} {said : D → Option 
 finish {files = files} {said = said} {out = out} {writing = writing} {faults = faults} {before = before} {now = now} {r = r} midway last =
     subst (λ (t : List ℕ). Puts files said out writing faults before t r now) midway.split (then midway.puts last)
 
--- nothing is left
-pub whole_is_put : {D V F : Type 0} {files : D → Option Files} {said : D → Option (List ℕ)} {out : D → Option (List ℕ × List ℕ)} {writing : D → Bool} {faults : D → ℕ} {before now : D} {whole : List ℕ} {v : V} → Midway files said out writing faults before whole [] now → Puts files said out writing faults before whole (ok V F v) now
-whole_is_put {V = V} {F = F} {files = files} {said = said} {out = out} {writing = writing} {faults = faults} {before = before} {now = now} {whole = whole} {v = v} midway =
-    finish midway (record {
-      put = piece_none (out now);
-      cut = tt;
-      still_writing = midway.puts.still_writing;
-      cause = refl;
-      same_files = refl;
-      same_said = refl;
-    })
-
 -- a piece that failed ends the whole
 pub halt : {D T U E F : Type 0} {files : D → Option Files} {said : D → Option (List ℕ)} {out : D → Option (List ℕ × List ℕ)} {writing : D → Bool} {faults : D → ℕ} {before mid now : D} {whole had first : List ℕ} {e : E} (r : Result U F) → IsErr r → (rest : List ℕ) → had ≡ first ++ rest → Midway files said out writing faults before whole had mid → Puts files said out writing faults mid first (err T E e) now → Puts files said out writing faults before whole r now
 halt {files = files} {said = said} {out = out} {writing = writing} {faults = faults} {before = before} {mid = mid} {now = now} {whole = whole} r failed rest parts midway one =

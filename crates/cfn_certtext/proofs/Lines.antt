@@ -29,9 +29,6 @@ line-dropped front last i past = ap (λ (xs : List ℕ). line (numbers xs last))
 pub text-drop : {X : Type 0} (f : X → List (List ℕ)) (xs : List X) (i : ℕ) (d : X) → i < length xs → text (map f (drop i xs)) ≡ line (f (get_or xs i d)) ++ text (map f (drop (i + 1) xs))
 text-drop f xs i d there = ap (λ ys. text (map f ys)) (drop_more xs i d there)
 
-pub text-dropped : {X : Type 0} (f : X → List (List ℕ)) (xs : List X) (i : ℕ) → length xs ≤ i → text (map f (drop i xs)) ≡ []
-text-dropped f xs i past = ap (λ ys. text (map f ys)) (drop_of_length-le xs past)
-
 -- lines before others, and before a last one
 pub text-append : (first rest : List (List (List ℕ))) → text (first ++ rest) ≡ text first ++ text rest
 text-append first rest = flat_map-append line first rest

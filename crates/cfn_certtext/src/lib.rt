@@ -1,7 +1,8 @@
 //! The writer of certificates: the text of a certificate, put into the file that a desk is writing.
 //!
 //! - `write` puts a certificate, a word at a time. What its text is, is defined in cfn_model's specs/Text.antt.
-//! - `line` has the words and lines that the other parts are made of.
+//! - `line` has the words and lines that the other parts are made of, and `certificate` the text as a whole.
+//! - `nodes` has the lines of one node of the tree: those of its steps, and that of its end.
 //! - `walk` goes over the nodes of a tree in the order of their lines, with no recursion and no memory.
 //!
 //! No call takes memory. Each word is one put, together with the space or LF behind it.

@@ -1,7 +1,6 @@
 //! The lines of one node: its block of steps, and how it ends.
 
-ghost use Rattle.std.specs.Prelude.{IsTrue};
-ghost use Rattle.std.specs.Prelude.{map};
+ghost use Rattle.std.specs.Prelude.{IsTrue, map};
 ghost use Rattle.cfn_model.specs.Text.{line, step_words, text};
 ghost use Rattle.cfn_certtext.specs.Walk.{end_words, node_lines};
 ghost use Rattle.cfn_certtext.specs.Writing.{Puts};

@@ -1,0 +1,5 @@
+use Rattle.cfn_report.proofs.Chain.{stop}
+use Rattle.cfn_report.proofs.report.say_bounds.Goals as goal
+
+pub returns-in_err-say_number : goal.returns-in_err-say_number
+returns-in_err-say_number g c = stop _ c.from_residual.ensures.0 _ c.in_err-say_number.ensures

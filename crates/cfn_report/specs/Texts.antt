@@ -1,0 +1,26 @@
+-- Words, the parts of a report, and the text that tells how the program is called.
+use Rattle.std.specs.Prelude.{ℕ, List, [], ◌∷◌, Option, codes, decimal}
+use Rattle.cfn_model.specs.declared.report.ResultWord.{ResultWord}
+use Rattle.cfn_model.specs.Certificate.{Solution}
+use Rattle.cfn_model.specs.Text.{result_word, text, upper_lines}
+use Rattle.cfn_report.specs.declared.word.Word.{Word}
+use Rattle.cfn_report.specs.declared.word.Word.TheVariants.{Name, Number}
+
+abbrev pub word_text : Word → List ℕ
+word_text (Name name) = name.now
+word_text (Number n) = decimal n
+
+-- What is said of a wrong call, and how the program is called.
+abbrev pub usage_text : List ℕ
+usage_text = text ((codes "error" ∷ codes "usage" ∷ []) ∷ (codes "wcspsolve" ∷ codes "solve" ∷ codes "FILE" ∷ codes "CERT" ∷ []) ∷ [])
+
+-- The parts of a report around its rows.
+abbrev pub size_lines : ℕ → ℕ → ℕ → List (List (List ℕ))
+size_lines variables functions workers =
+    (codes "variables" ∷ decimal variables ∷ []) ∷ (codes "functions" ∷ decimal functions ∷ []) ∷ (codes "workers" ∷ decimal workers ∷ []) ∷ []
+
+abbrev pub bound_lines : ℕ → Option Solution → List (List (List ℕ))
+bound_lines lower best = (codes "lower" ∷ decimal lower ∷ []) ∷ upper_lines best
+
+abbrev pub end_lines : ℕ → ResultWord → List (List (List ℕ))
+end_lines nodes word = (codes "nodes" ∷ decimal nodes ∷ []) ∷ (codes "result" ∷ result_word word ∷ []) ∷ []

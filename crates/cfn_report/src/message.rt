@@ -1,0 +1,132 @@
+//! The texts of one line or two: refusals, faults, costs.
+//!
+//! In each of them an `Err` is a call of the desk that failed: some front of the text was said, and the rest was not
+//! tried.
+
+ghost use Rattle.std.specs.Prelude.{◌≡◌};
+ghost use Rattle.cfn_model.specs.Text.{allowed_word, cost_text, kind_name, memory_fault_text, read_fault_text, refusal_text, value_fault_text, values_fault_text, write_fault_text};
+ghost use Rattle.cfn_report.specs.Saying.{Says};
+ghost use Rattle.cfn_report.specs.Texts.{usage_text, word_text};
+
+use crate::line::say_bytes;
+use crate::word::{Word, say_words};
+use cfn_desk::{Desk, Failed};
+use cfn_model::{Kind, Refusal};
+
+/// Says that a file is refused: the kind of what is wrong, and the number of the word, from 1. An `Err` has said
+/// some front of it.
+pub fn write_refusal<D: Desk>(refusal: &Refusal, desk: &mut D) -> Result<(), Failed>
+    ensures { Says D.files D.said D.out D.writing D.faults desk.old (refusal_text refusal.now)
+        result desk.new }
+{
+    let words = [
+        Word::Name("error"),
+        Word::Name(name_of(refusal.kind)),
+        Word::Name("at"),
+        Word::Number(refusal.ordinal),
+    ];
+    say_words(&words, desk)
+}
+
+/// Says that a file was not read. An `Err` has said some front of it.
+pub fn write_read_fault<D: Desk>(desk: &mut D) -> Result<(), Failed>
+    ensures { Says D.files D.said D.out D.writing D.faults desk.old read_fault_text result desk.new }
+{
+    say_bytes(b"error read\n", desk)
+}
+
+/// Says that a file was not written. An `Err` has said some front of it.
+pub fn write_write_fault<D: Desk>(desk: &mut D) -> Result<(), Failed>
+    ensures { Says D.files D.said D.out D.writing D.faults desk.old write_fault_text result desk.new }
+{
+    say_bytes(b"error write\n", desk)
+}
+
+/// Says that memory was refused. An `Err` has said some front of it.
+pub fn write_memory_fault<D: Desk>(desk: &mut D) -> Result<(), Failed>
+    ensures { Says D.files D.said D.out D.writing D.faults desk.old memory_fault_text result desk.new }
+{
+    say_bytes(b"error memory\n", desk)
+}
+
+/// Says that the program was called wrongly, and how it is called. An `Err` has said some front of it.
+pub fn write_usage<D: Desk>(desk: &mut D) -> Result<(), Failed>
+    ensures { Says D.files D.said D.out D.writing D.faults desk.old usage_text result desk.new }
+{
+    say_bytes(b"error usage\nwcspsolve solve FILE CERT\n", desk)
+}
+
+/// Says the cost of an assignment, and whether it is allowed: an assignment whose cost reaches the upper bound is
+/// forbidden (toulbar2 user manual, wcsp format). An `Err` has said some front of it.
+pub fn write_cost<D: Desk>(upper: u64, cost: u64, desk: &mut D) -> Result<(), Failed>
+    ensures { Says D.files D.said D.out D.writing D.faults desk.old (cost_text upper cost)
+        result desk.new }
+{
+    let words = [Word::Name("cost"), Word::Number(cost), allowed(upper, cost)];
+    say_words(&words, desk)
+}
+
+/// Says that an assignment has another number of values than there are variables. An `Err` has said some front of it.
+pub fn write_values_fault<D: Desk>(expected: u64, got: u64, desk: &mut D) -> Result<(), Failed>
+    ensures { Says D.files D.said D.out D.writing D.faults desk.old (values_fault_text expected got)
+        result desk.new }
+{
+    let words = [
+        Word::Name("error"),
+        Word::Name("values"),
+        Word::Name("expected"),
+        Word::Number(expected),
+        Word::Name("got"),
+        Word::Number(got),
+    ];
+    say_words(&words, desk)
+}
+
+/// Says that the value of a variable, counted from 0, is not in its domain. An `Err` has said some front of it.
+pub fn write_value_fault<D: Desk>(x: u32, desk: &mut D) -> Result<(), Failed>
+    ensures { Says D.files D.said D.out D.writing D.faults desk.old (value_fault_text x)
+        result desk.new }
+{
+    let words = [
+        Word::Name("error"),
+        Word::Name("value"),
+        Word::Name("at"),
+        Word::Number(u64::from(x)),
+    ];
+    say_words(&words, desk)
+}
+
+/// Whether a cost is below the upper bound, as a word.
+fn allowed(upper: u64, cost: u64) -> Word
+    ensures { word_text result ≡ allowed_word upper cost }
+{
+    if cost < upper {
+        Word::Name("allowed")
+    } else {
+        Word::Name("forbidden")
+    }
+}
+
+/// The name of a refusal's kind.
+fn name_of(kind: Kind) -> &'static str
+    ensures { result.now ≡ kind_name kind }
+{
+    match kind {
+        Kind::Short => "short",
+        Kind::NotNumber => "not-number",
+        Kind::TooLarge => "too-large",
+        Kind::NoVariables => "no-variables",
+        Kind::NegativeCount => "negative-count",
+        Kind::EmptyDomain => "empty-domain",
+        Kind::IntervalDomain => "interval-domain",
+        Kind::DomainTooLarge => "domain-too-large",
+        Kind::NegativeCost => "negative-cost",
+        Kind::Keyword => "keyword",
+        Kind::SharedTable => "shared-table",
+        Kind::VariableOutOfRange => "variable-out-of-range",
+        Kind::RepeatedVariable => "repeated-variable",
+        Kind::ValueOutOfRange => "value-out-of-range",
+        Kind::TableTooWide => "table-too-wide",
+        Kind::TooMany => "too-many",
+    }
+}
