@@ -11,6 +11,8 @@ mod program;
 mod saving;
 mod solving;
 mod status;
+#[cfg(test)]
+mod tests;
 
 pub use gate::{Gate, OpenGate, Point};
 pub use program::run;
