@@ -1,0 +1,17 @@
+//! A plain program for the definitions of `cfn_model`: each function computes one of them, in the order in which it
+//! is written down, and its contract is that definition.
+//!
+//! It is short and slow: no table is kept, and every sum is added up anew from the whole history. It shows on real
+//! inputs what the definitions mean, and faster bodies can be compared with it. A history is a slice of events with
+//! the newest first, as in the definitions.
+//!
+//! - `sums`: the floor, unary costs and residual costs after a history.
+//! - `live`: which values and tuples are live.
+#![tactic(auto)]
+
+mod live;
+mod sums;
+mod tables;
+
+pub use live::{is_live, is_live_tuple};
+pub use sums::{floor, residual, unary};
