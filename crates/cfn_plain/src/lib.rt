@@ -7,11 +7,14 @@
 //!
 //! - `sums`: the floor, unary costs and residual costs after a history.
 //! - `live`: which values and tuples are live.
+//! - `costs`: the cost of an assignment, and the least cost.
 #![tactic(auto)]
 
+mod costs;
 mod live;
 mod sums;
 mod tables;
 
+pub use costs::{cost, least, total};
 pub use live::{is_live, is_live_tuple};
 pub use sums::{floor, residual, unary};
