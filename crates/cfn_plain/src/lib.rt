@@ -7,14 +7,18 @@
 //!
 //! - `sums`: the floor, unary costs and residual costs after a history.
 //! - `live`: which values and tuples are live.
+//! - `steps`: which steps are allowed, and whether a list of steps runs.
 //! - `costs`: the cost of an assignment, and the least cost.
 #![tactic(auto)]
 
 mod costs;
 mod live;
+mod steps;
 mod sums;
 mod tables;
+mod tuples;
 
 pub use costs::{cost, least, total};
 pub use live::{is_live, is_live_tuple};
+pub use steps::{allowed, runs};
 pub use sums::{floor, residual, unary};

@@ -1,7 +1,7 @@
 //! The floor, unary costs and residual costs after a history, each added up from the whole history.
 
 ghost use Rattle.std.specs.Prelude.{◌≡◌, ◌<◌, ◌^◌, ◌==◌, ◌&&◌, [], length, slice_index, pos, neg_ℤ, ◌<ℤ◌, ◌≤ℤ◌, MatchBool};
-ghost use Rattle.cfn_model.specs.Network.{Fits, dims_at};
+ghost use Rattle.cfn_model.specs.Network.{Fits, dims_at, variable_at};
 ghost use Rattle.cfn_model.specs.Sums.{when, lifted, floor, unary_by, unary, residual_by, residual};
 
 use crate::tables::{constant, entry, scope, variable};
@@ -67,42 +67,41 @@ fn lifted(event: Event) -> u64
     }
 }
 
-/// What an event adds to the unary cost of a value of `x`.
-fn unary_by(network: &Network, event: Event, x: u32, value: u32) -> i128
-    ensures value { result ≡ unary_by network.now event x value }
+/// What an event adds to the unary cost of the value `b` of `x`.
+fn unary_by(network: &Network, event: Event, x: u32, b: u32) -> i128
+    ensures value { result ≡ unary_by network.now event x b }
     ensures low { neg_ℤ (pos (2 ^ 64)) <ℤ result }
     ensures high { result <ℤ pos (2 ^ 64) }
 {
-    match event {
-        Event::Did(
-            Step::Project {
-                function,
-                place,
-                value: b,
-                amount,
-            },
-        ) => {
-            when(
-                variable(network, function, place) == x && b == value,
-                amount as i128,
-            )
-        }
-        Event::Did(
-            Step::Extend {
-                function,
-                place,
-                value: b,
-                amount,
-            },
-        ) => {
-            when(
-                variable(network, function, place) == x && b == value,
-                -(amount as i128),
-            )
-        }
-        Event::Did(Step::Lift { variable, amount }) => when(variable == x, -(amount as i128)),
+    let Event::Did(step) = event else {
+        return 0;
+    };
+    match step {
+        Step::Project {
+            function,
+            place,
+            value,
+            amount,
+        } => when(is_at(network, function, place, value, x, b), amount as i128),
+        Step::Extend {
+            function,
+            place,
+            value,
+            amount,
+        } => when(
+            is_at(network, function, place, value, x, b),
+            -(amount as i128),
+        ),
+        Step::Lift { variable, amount } => when(variable == x, -(amount as i128)),
         _ => 0,
     }
+}
+
+/// Whether a value at a place of a function is the value `b` of `x`.
+fn is_at(network: &Network, f: u32, place: u32, value: u32, x: u32, b: u32) -> bool
+    ensures { result ≡ ((variable_at network.now f place == x) && (value == b)) }
+{
+    variable(network, f, place) == x && value == b
 }
 
 /// What an event adds to the residual cost of a tuple of `f`.
@@ -111,28 +110,25 @@ fn residual_by(event: Event, f: u32, tuple: &[u32]) -> i128
     ensures low { neg_ℤ (pos (2 ^ 64)) <ℤ result }
     ensures high { result <ℤ pos (2 ^ 64) }
 {
-    match event {
-        Event::Did(
-            Step::Project {
-                function,
-                place,
-                value,
-                amount,
-            },
-        ) => {
-            when(
-                function == f && at(tuple, place) == value,
-                -(amount as i128),
-            )
-        }
-        Event::Did(
-            Step::Extend {
-                function,
-                place,
-                value,
-                amount,
-            },
-        ) => { when(function == f && at(tuple, place) == value, amount as i128) }
+    let Event::Did(step) = event else {
+        return 0;
+    };
+    match step {
+        Step::Project {
+            function,
+            place,
+            value,
+            amount,
+        } => when(
+            function == f && at(tuple, place) == value,
+            -(amount as i128),
+        ),
+        Step::Extend {
+            function,
+            place,
+            value,
+            amount,
+        } => when(function == f && at(tuple, place) == value, amount as i128),
         _ => 0,
     }
 }
@@ -159,7 +155,7 @@ fn when(test: bool, amount: i128) -> i128
 }
 
 /// The value at a place of a tuple, or 0 where there is none.
-fn at(tuple: &[u32], place: u32) -> u32
+pub(crate) fn at(tuple: &[u32], place: u32) -> u32
     ensures { result ≡ slice_index tuple.now place }
 {
     match tuple.get(place as usize) {
