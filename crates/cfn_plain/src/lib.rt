@@ -8,17 +8,24 @@
 //! - `sums`: the floor, unary costs and residual costs after a history.
 //! - `live`: which values and tuples are live.
 //! - `steps`: which steps are allowed, and whether a list of steps runs.
+//! - `trees`: whether a tree is valid or strict, and its bound.
+//! - `certificates`: whether a certificate is good.
 //! - `costs`: the cost of an assignment, and the least cost.
 #![tactic(auto)]
 
+mod certificates;
+mod closing;
 mod costs;
 mod live;
 mod steps;
 mod sums;
 mod tables;
+mod trees;
 mod tuples;
 
+pub use certificates::good;
 pub use costs::{cost, least, total};
 pub use live::{is_live, is_live_tuple};
 pub use steps::{allowed, runs};
 pub use sums::{floor, residual, unary};
+pub use trees::{bound, strict, valid};
