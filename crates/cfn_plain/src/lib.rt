@@ -29,3 +29,6 @@ pub use live::{is_live, is_live_tuple};
 pub use steps::{allowed, runs};
 pub use sums::{floor, residual, unary};
 pub use trees::{bound, strict, valid};
+
+#[cfg(test)]
+mod tests;
