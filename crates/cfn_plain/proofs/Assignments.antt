@@ -1,5 +1,5 @@
 -- Lemmas on assignments and tuples that are made a value at a time.
-use Rattle.std.proofs.Common.{◌≡◌, ℕ, zero, suc, ◌+◌, ◌<◌, ◌≤◌, List, [], ◌∷◌, length, get_or, set, take, replicate, refl, sym, ap, ◌∙◌, arith}
+use Rattle.std.proofs.Common.{◌≡◌, ℕ, zero, suc, ◌+◌, ◌<◌, ◌≤◌, List, [], ◌∷◌, length, get_or, set, take, replicate, sym, ap, ◌∙◌, arith}
 use Rattle.std.proofs.lemmas.List.{take-take, take-set, take_all, take_more_same, length-set, length-replicate, get_or-replicate, get_or-set_same}
 use Rattle.cfn_model.specs.Network.{Fits}
 use Rattle.cfn_net.proofs.Cells.{Fits-length, Fits-from_each}

@@ -5,21 +5,22 @@
 //! inputs what the definitions mean, and faster bodies can be compared with it. A history is a slice of events with
 //! the newest first, as in the definitions.
 //!
+//! - `costs`: the total and the cost of an assignment, and the least cost.
 //! - `sums`: the floor, unary costs and residual costs after a history.
 //! - `live`: which values and tuples are live.
-//! - `steps`: which steps are allowed, and whether a list of steps runs.
-//! - `trees`: whether a tree is valid or strict, and its bound.
+//! - `steps`: which steps are allowed, and whether a list of steps runs; `tuples` has what a step asks of every tuple.
+//! - `trees`: whether a tree is valid or strict, and its bound; `closing` has when a leaf may be closed.
 //! - `certificates`: whether a certificate is good.
-//! - `costs`: the cost of an assignment, and the least cost.
+//! - `functions`: what a network says of a function that may not be there.
 #![tactic(auto)]
 
 mod certificates;
 mod closing;
 mod costs;
+mod functions;
 mod live;
 mod steps;
 mod sums;
-mod tables;
 mod trees;
 mod tuples;
 

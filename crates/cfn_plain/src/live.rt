@@ -4,7 +4,7 @@ ghost use Rattle.std.specs.Prelude.{◌≡◌, ◌<◌, length};
 ghost use Rattle.cfn_model.specs.Network.{Fits, dims_at};
 ghost use Rattle.cfn_model.specs.Sums.{removes, is_live, cuts, is_cut, all_live, is_live_tuple};
 
-use crate::tables::{entry, number, scope};
+use crate::functions::{entry, number, scope};
 use cfn_model::{Event, Step};
 use cfn_net::Network;
 

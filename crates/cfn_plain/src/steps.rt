@@ -3,9 +3,9 @@
 ghost use Rattle.std.specs.Prelude.{◌≡◌, ◌↔◌, ◌<◌, length, IsTrue, IfOk};
 ghost use Rattle.cfn_model.specs.Steps.{IsValue, IsPlace, InRange, CanExtend, CanLift, Allowed, Run, after};
 
+use crate::functions::variable;
 use crate::live::is_live;
 use crate::sums::{floor, unary};
-use crate::tables::variable;
 use crate::tuples::{all_tuples_allow, reaches};
 use cfn_model::{Event, Step};
 use cfn_net::Network;

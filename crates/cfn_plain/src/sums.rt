@@ -4,7 +4,7 @@ ghost use Rattle.std.specs.Prelude.{◌≡◌, ◌<◌, ◌^◌, ◌==◌, ◌&&
 ghost use Rattle.cfn_model.specs.Network.{Fits, dims_at, variable_at};
 ghost use Rattle.cfn_model.specs.Sums.{when, lifted, floor, unary_by, unary, residual_by, residual};
 
-use crate::tables::{constant, entry, scope, variable};
+use crate::functions::{constant, entry, scope, variable};
 use cfn_model::{Event, Step};
 use cfn_net::Network;
 

@@ -94,3 +94,14 @@ fn a_closed_tree_is_good(rt: HostRuntime) -> Result<(), Fail> {
     assert!(rt; good(rt.alloc(), &network, &certificate)?);
     Ok(())
 }
+
+#[test]
+fn a_split_is_strict(rt: HostRuntime) -> Result<(), Fail> {
+    let network = tiny(&rt)?;
+    let mut tree = Tree::new(rt.alloc())?;
+    let _ = tree.split(Tree::ROOT, 0, 1)?;
+    assert!(rt; valid(rt.alloc(), &network, &tree, 10)?);
+    assert!(rt; strict(rt.alloc(), &network, &tree)?);
+    assert_eq!(rt; bound(rt.alloc(), &network, &tree, 10)?, 0);
+    Ok(())
+}

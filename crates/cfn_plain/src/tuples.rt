@@ -4,9 +4,9 @@ ghost use Rattle.std.specs.Prelude.{◌≡◌, ◌↔◌, ℕ, ◌<◌, ◌≤�
 ghost use Rattle.cfn_model.specs.Network.{Fits, dims_at, arity};
 ghost use Rattle.cfn_plain.specs.Tuples.{function_in, TupleAllows};
 
+use crate::functions::{number, scope};
 use crate::live::is_live_tuple;
 use crate::sums::{at, floor, residual};
-use crate::tables::{number, scope};
 use cfn_model::{Event, Step};
 use cfn_net::Network;
 use std::alloc::{AllocError, Global};

@@ -1,5 +1,4 @@
-use Rattle.std.proofs.Common.{ℕ, ◌≡◌, ◌<◌, inl, inr, subst, sym, ◌∙◌, arith, below_more}
-use Rattle.std.specs.Prelude.{slice_index, IsTrue, IsFalse, MatchBool, Bool, true, false}
+use Rattle.std.proofs.Common.{sym, ◌∙◌, arith, below_more}
 use Rattle.std.proofs.lemmas.Bool.{false≢true}
 use Rattle.cfn_plain.proofs.closing.is_wiped.Goals as goal
 

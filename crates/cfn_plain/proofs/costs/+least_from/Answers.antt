@@ -1,4 +1,4 @@
-use Rattle.std.proofs.Common.{◌≡◌, ℕ, List, get_or, inl, inr, ap, sym, ◌∙◌, rules, arith}
+use Rattle.std.proofs.Common.{get_or, inl, inr, ap, sym, ◌∙◌, arith}
 use Rattle.std.proofs.lemmas.Bool.{cases_eq}
 use Rattle.std.proofs.lemmas.List.{take-set}
 use Rattle.cfn_model.specs.Network.{cost}

@@ -1,4 +1,4 @@
-use Rattle.std.proofs.Common.{◌≡◌, ℕ, ◌-◌, ◌<◌, List, length, take, get_or}
+use Rattle.std.proofs.Common.{◌≡◌, ℕ, ◌-◌, ◌<◌, List, take, get_or}
 use Rattle.cfn_model.specs.Network.{Fits, arity, dims_at}
 use Rattle.cfn_plain.specs.Tuples.{function_in, TupleAllows}
 use Rattle.cfn_plain.proofs.tuples.+tuples_allow.Given as goal

@@ -1,5 +1,5 @@
 use Rattle.std.proofs.Common.{arith}
-use Rattle.cfn_plain.proofs.tables.entry.Goals as goal
+use Rattle.cfn_plain.proofs.functions.entry.Goals as goal
 
 pub returns-then-f-functions-clause-small : goal.returns-then-f-functions-clause-small
 returns-then-f-functions-clause-small c =
