@@ -1,0 +1,35 @@
+//! A plain program for the definitions of `cfn_model`: each function computes one of them, in the order in which it
+//! is written down, and its contract is that definition.
+//!
+//! It is short and slow: no table is kept, and every sum is added up anew from the whole history. It shows on real
+//! inputs what the definitions mean, and faster bodies can be compared with it. A history is a slice of events with
+//! the newest first, as in the definitions.
+//!
+//! - `costs`: the total and the cost of an assignment, and the least cost.
+//! - `sums`: the floor, unary costs and residual costs after a history.
+//! - `live`: which values and tuples are live.
+//! - `steps`: which steps are allowed, and whether a list of steps runs; `tuples` has what a step asks of every tuple.
+//! - `trees`: whether a tree is valid or strict, and its bound; `closing` has when a leaf may be closed.
+//! - `certificates`: whether a certificate is good.
+//! - `functions`: what a network says of a function that may not be there.
+#![tactic(auto)]
+
+mod certificates;
+mod closing;
+mod costs;
+mod functions;
+mod live;
+mod steps;
+mod sums;
+mod trees;
+mod tuples;
+
+pub use certificates::good;
+pub use costs::{cost, least, total};
+pub use live::{is_live, is_live_tuple};
+pub use steps::{allowed, runs};
+pub use sums::{floor, residual, unary};
+pub use trees::{bound, strict, valid};
+
+#[cfg(test)]
+mod tests;

@@ -1,0 +1,156 @@
+//! Whether a tree is valid or strict, and its bound, by recursion over its nodes.
+
+ghost use Rattle.std.specs.Prelude.{◌≡◌, ◌↔◌, ◌<◌, [], ◌∷◌, length, IsTrue, IfOk};
+ghost use Rattle.cfn_model.specs.Tree.{Valid, Strict, bound};
+ghost use Rattle.cfn_proof.specs.Nodes.{tree_at, tree_of};
+
+use crate::closing::{can_close, is_strict_split};
+use crate::steps::{after, is_value, runs};
+use crate::sums::floor;
+use cfn_model::Event;
+use cfn_net::Network;
+use cfn_proof::{End, NodeId, Tree};
+use std::alloc::{AllocError, Global};
+
+/// Whether a tree is valid at the threshold `k`: every block runs, splits are in range, and closed leaves may be
+/// closed (Allouche et al. 2015). An `Err` is want of memory.
+pub fn valid(alloc: Global, network: &Network, tree: &Tree, k: u64) -> Result<bool, AllocError>
+    ensures { IfOk result (λ answer. IsTrue answer ↔ Valid network.now [] (tree_of tree.now) k) }
+{
+    tree.linked();
+    valid_from(alloc, network, &[], tree, Tree::ROOT, k)
+}
+
+/// Whether every split of a tree leaves a live value on either side. An `Err` is want of memory.
+pub fn strict(alloc: Global, network: &Network, tree: &Tree) -> Result<bool, AllocError>
+    ensures { IfOk result (λ answer. IsTrue answer ↔ Strict network.now [] (tree_of tree.now)) }
+{
+    tree.linked();
+    strict_from(alloc, network, &[], tree, Tree::ROOT)
+}
+
+/// The least of the threshold `k` and the floors of a tree's open leaves. An `Err` is want of memory.
+pub fn bound(alloc: Global, network: &Network, tree: &Tree, k: u64) -> Result<u64, AllocError>
+    ensures { IfOk result (λ least. least ≡ bound network.now [] (tree_of tree.now) k) }
+{
+    tree.linked();
+    bound_from(alloc, network, &[], tree, Tree::ROOT, k)
+}
+
+/// Whether the part of a tree that begins at a node is valid after a history, the newest event first.
+fn valid_from(
+    alloc: Global,
+    network: &Network,
+    history: &[Event],
+    tree: &Tree,
+    id: NodeId,
+    k: u64,
+) -> Result<bool, AllocError>
+    requires { id.number < length tree.now }
+    ensures { IfOk result (λ answer. IsTrue answer ↔ Valid network.now history.now (tree_at tree.now id.number) k) }
+{
+    tree.linked();
+    let node = tree.node(id);
+    let steps = node.block.steps();
+    if !runs(alloc, network, history, steps, k)? {
+        return Ok(false);
+    }
+    let behind = after(alloc, steps, history)?;
+    match node.end {
+        End::Free => Ok(true),
+        End::Shut => Ok(can_close(network, behind.as_slice(), k)),
+        End::Split {
+            variable,
+            value,
+            first,
+            second,
+        } => {
+            if !is_value(network, variable, value) {
+                return Ok(false);
+            }
+            let is = extended(alloc, Event::Is { variable, value }, behind.as_slice())?;
+            let is_not = extended(alloc, Event::IsNot { variable, value }, behind.as_slice())?;
+            Ok(
+                valid_from(alloc, network, is.as_slice(), tree, first, k)?
+                    && valid_from(alloc, network, is_not.as_slice(), tree, second, k)?,
+            )
+        }
+    }
+}
+
+/// Whether every split is strict in the part of a tree that begins at a node, after a history, the newest event
+/// first.
+fn strict_from(
+    alloc: Global,
+    network: &Network,
+    history: &[Event],
+    tree: &Tree,
+    id: NodeId,
+) -> Result<bool, AllocError>
+    requires { id.number < length tree.now }
+    ensures { IfOk result (λ answer. IsTrue answer ↔ Strict network.now history.now (tree_at tree.now id.number)) }
+{
+    tree.linked();
+    let node = tree.node(id);
+    let End::Split {
+        variable,
+        value,
+        first,
+        second,
+    } = node.end
+    else {
+        return Ok(true);
+    };
+    let behind = after(alloc, node.block.steps(), history)?;
+    if !is_strict_split(network, behind.as_slice(), variable, value) {
+        return Ok(false);
+    }
+    let is = extended(alloc, Event::Is { variable, value }, behind.as_slice())?;
+    let is_not = extended(alloc, Event::IsNot { variable, value }, behind.as_slice())?;
+    Ok(
+        strict_from(alloc, network, is.as_slice(), tree, first)?
+            && strict_from(alloc, network, is_not.as_slice(), tree, second)?,
+    )
+}
+
+/// The least of the threshold and the floors of the open leaves in the part of a tree that begins at a node, after a
+/// history, the newest event first.
+fn bound_from(
+    alloc: Global,
+    network: &Network,
+    history: &[Event],
+    tree: &Tree,
+    id: NodeId,
+    k: u64,
+) -> Result<u64, AllocError>
+    requires { id.number < length tree.now }
+    ensures { IfOk result (λ least. least ≡ bound network.now history.now (tree_at tree.now id.number) k) }
+{
+    tree.linked();
+    let node = tree.node(id);
+    let behind = after(alloc, node.block.steps(), history)?;
+    match node.end {
+        End::Free => Ok(floor(network, behind.as_slice()).min(k as u128) as u64),
+        End::Shut => Ok(k),
+        End::Split {
+            variable,
+            value,
+            first,
+            second,
+        } => {
+            let is = extended(alloc, Event::Is { variable, value }, behind.as_slice())?;
+            let is_not = extended(alloc, Event::IsNot { variable, value }, behind.as_slice())?;
+            let least = bound_from(alloc, network, is.as_slice(), tree, first, k)?;
+            Ok(least.min(bound_from(alloc, network, is_not.as_slice(), tree, second, k)?))
+        }
+    }
+}
+
+/// The history with one more event, which is the newest.
+fn extended(alloc: Global, event: Event, history: &[Event]) -> Result<Vec<Event>, AllocError>
+    ensures { IfOk result (λ events. events.items ≡ event ∷ history.now) }
+{
+    let mut events = Vec::from_slice(alloc, history)?;
+    events.insert(0, event)?;
+    Ok(events)
+}
