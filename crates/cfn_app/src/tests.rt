@@ -105,7 +105,7 @@ fn refused_files_name_the_word(rt: HostRuntime) -> Result<(), Fail> {
         (b"wide 2 4096 1 10 4096 4096 2 0 1 0 0", b"error table-too-wide at 10\n"),
         (b"tiny 1 x 1 10 2 1 0 3 1 1 1", b"error not-number at 3\n"),
         (b"tiny 1 2 1 9223372036854775808 2 1 0 3 1 1 1", b"error too-large at 5\n"),
-        (b"many 1 2 1 10 2 9223372036854775807 0", b"error table-too-wide at 7\n"),
+        (b"many 1 2 1 10 2 9223372036854775807 0", b"error short at 9\n"),
     ];
     for (file, said) in faults {
         let run = Run::solve(&rt, file)?;
