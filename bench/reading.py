@@ -1,0 +1,57 @@
+#!/usr/bin/env python3
+"""How long the program reads large files, and the most memory that it has while it does.
+
+Makes two files in a scratch folder: one of ten functions of two variables, all of whose 40,000,000 tuples are listed,
+and one of 1,000,000 functions of two variables with two listed tuples each. In both the constant is the upper bound,
+so that the opening sweep closes the root and a run is reading and no search. It asserts nothing.
+"""
+
+import os
+import subprocess
+import tempfile
+
+TOP = os.path.dirname(os.path.dirname(os.path.abspath(__file__)))
+
+
+def write_wide(path):
+    size = 2000
+    with open(path, "w") as file:
+        file.write(f"wide 2 {size} 11 1\n{size} {size}\n0 1 0\n")
+        for _ in range(10):
+            file.write(f"2 0 1 0 {size * size}\n")
+            for first in range(size):
+                file.write("".join(f"{first} {second} {(first + second) % 2}\n" for second in range(size)))
+
+
+def write_many(path):
+    functions = 1_000_000
+    variables = 100_000
+    with open(path, "w") as file:
+        file.write(f"many {variables} 2 {functions + 1} 1\n" + "2 " * variables + "\n0 1 0\n")
+        for number in range(functions):
+            first = number % variables
+            second = (first + 1 + number % 97) % variables
+            file.write(f"2 {first} {second} 0 2\n0 0 1\n1 1 1\n")
+
+
+def measure(name, path, scratch):
+    command = [os.path.join(TOP, "wcspsolve"), "solve", path, os.path.join(scratch, "certificate")]
+    process = subprocess.Popen(command, stdout=subprocess.DEVNULL)
+    _, status, usage = os.wait4(process.pid, 0)
+    seconds = usage.ru_utime + usage.ru_stime
+    code = os.waitstatus_to_exitcode(status)
+    size = os.path.getsize(path) / 1e6
+    print(f"{name}: {size:.1f} MB, {seconds:.2f} processor seconds, {usage.ru_maxrss / 1024:.0f} MiB at most, status {code}")
+
+
+def main():
+    with tempfile.TemporaryDirectory() as scratch:
+        for name, write in (("wide", write_wide), ("many", write_many)):
+            path = os.path.join(scratch, name + ".wcsp")
+            write(path)
+            measure(name, path, scratch)
+            os.remove(path)
+
+
+if __name__ == "__main__":
+    main()
