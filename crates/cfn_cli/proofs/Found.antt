@@ -1,5 +1,5 @@
 -- The rows of what clap found, at an argument's name.
-use Rattle.std.proofs.Common.{◌≡◌, ◌∙◌, ℕ, List, Option, Some, None, sym}
+use Rattle.std.proofs.Common.{◌≡◌, ◌∙◌, List, Option, sym}
 use Rattle.clap.specs.Words.{Text, all_of, first_of, first_value, found_of, matched_of, raw_values, rows_of}
 use Rattle.std.specs.Prelude.{option_map}
 use Rattle.clap.specs.declared.parser.ArgMatches.{ArgMatches}

@@ -1,7 +1,7 @@
 -- The request that rows make, from what stands under each name.
 use Rattle.std.proofs.Common.{◌≡◌, ℕ, List, Option, Some, None, Result, Ok, Err, IfErr, ◌∙◌, sym, refl, codes}
 use Rattle.clap.specs.Words.{Row, Text, all_of, first_of}
-use Rattle.std.specs.Prelude.{IsErrAnd, option_and_then}
+use Rattle.std.specs.Prelude.{IsErrAnd}
 use Rattle.cfn_cli.specs.declared.fault.CliFault.{CliFault}
 use Rattle.cfn_cli.specs.declared.fault.CliFault.TheVariants.{Usage}
 use Rattle.cfn_cli.specs.Request.{cost_of, number_of, solve_of, values_of}

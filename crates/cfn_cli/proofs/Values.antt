@@ -1,6 +1,5 @@
 -- The values of a list of texts, read one after the other.
-use Rattle.std.proofs.Common.{◌≡◌, ◌∙◌, ◌+◌, ◌≤◌, ◌<◌, ◌^◌, ◌&&◌, ◌++◌, ◌∷◌, ℕ, Bool, List, [], Option, Some, None, true, false, zero, suc, refl, sym, ap, ap₂, arith, length, map, take}
-use Rattle.std.specs.Prelude.{is_some}
+use Rattle.std.proofs.Common.{◌≡◌, ◌+◌, ◌≤◌, ◌<◌, ◌^◌, ◌&&◌, ◌++◌, ◌∷◌, ℕ, Bool, List, [], Some, None, true, false, zero, suc, refl, sym, ap, arith, length, map, take}
 use Rattle.std.proofs.lemmas.List.Elements.{All-nil, All-push}
 use Rattle.std.specs.Borrow.{Bor}
 use Rattle.std.specs.List.{All, list_all, slice_index_or}

@@ -1,8 +1,7 @@
-use Rattle.std.proofs.Common.{◌≡◌, ◌∙◌, ap, true, map, List, ℕ, Bor}
+use Rattle.std.proofs.Common.{◌≡◌, ◌∙◌, ap, map, List, ℕ, Bor}
 use Rattle.std.proofs.lemmas.Result.{IfErr-weaker, IfOk-weaker}
-use Rattle.clap.specs.Words.{is_simple, is_simple_and_free, subcommand_rows_of}
+use Rattle.clap.specs.Words.{is_simple, is_simple_and_free}
 use Rattle.cfn_cli.specs.declared.fault.CliFault.TheVariants.{Memory}
-use Rattle.cfn_cli.specs.Request.{request_from, request_of}
 use Rattle.cfn_cli.proofs.Taking.{asked, entered, line_is_free, line_is_simple, not_asked, refused, taken}
 use Rattle.cfn_cli.proofs.parsing.parse.Goals as goal
 
