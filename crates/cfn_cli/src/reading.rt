@@ -1,6 +1,6 @@
 //! What clap found, read as a command.
 
-ghost use Rattle.std.specs.Prelude.{◌≡◌, ◌≤◌, ◌<◌, ◌^◌, ℕ, Some, None, IfErr, IfOk, IfSome, length, map};
+ghost use Rattle.std.specs.Prelude.{◌≡◌, ◌≤◌, ◌<◌, ◌^◌, Some, None, IfErr, IfOk, IfSome, length, map};
 ghost use Rattle.std.specs.List.{All};
 ghost use Rattle.clap.specs.Words.{first_of, found_of, rows_of, subcommand_rows_of};
 ghost use Rattle.cfn_cli.specs.Request.{IfCost, IfSolve, cost_of, number_in, number_of, request, request_from, request_named, solve_of, spoken_cost, spoken_solve, values_of};
