@@ -1,0 +1,12 @@
+use Rattle.std.proofs.lemmas.Result.{IfOk-weaker}
+use Rattle.cfn_cli.specs.Line.{command_line}
+use Rattle.cfn_cli.proofs.Building.{begun, command_added, command_required}
+use Rattle.cfn_cli.proofs.line.command_line.Goals as goal
+
+pub returns : goal.returns
+unfolding command_line
+returns c =
+    let start = begun _ _ c.new.ensures.app c.new.ensures.local in
+    let required = command_required _ _ _ c.subcommand_required.ensures start in
+    let with_solve = command_added _ _ _ _ _ c.in_ok-subcommand.ensures required c.in_ok-solve.ensures in
+    IfOk-weaker c.subcommand-2.result _ _ (λ new adds. command_added _ _ new _ _ adds with_solve c.in_ok-cost.ensures) c.subcommand-2.ensures

@@ -1,0 +1,124 @@
+-- What the words of a command line ask for.
+use Rattle.std.specs.Prelude.{ℕ, Bool, true, false, List, [], ◌∷◌, map, Option, Some, None}
+use Rattle.std.specs.Prelude.{option_map, option_and_then, is_some, if◌then◌else◌, codes, string_bytes, unwrap_or}
+use Rattle.std.specs.List.{list_all}
+use Rattle.std.specs.Str.{bytes_eq}
+use Rattle.std.specs.Str.Parse.{digits_value, without_leading_plus}
+use Rattle.clap.specs.Words.{Kinds, Row, Text, all_of, fault_of, first_of, subcommand_of}
+use Rattle.clap.specs.ValueTests.{is_unsigned_in}
+use Rattle.cfn_cli.specs.Line.{command_line}
+use Rattle.cfn_cli.specs.declared.command.Command.{Command}
+use Rattle.cfn_cli.specs.declared.command.Command.TheVariants.{Solve, Cost}
+use Rattle.cfn_cli.specs.declared.command.SolveArguments.{SolveArguments}
+use Rattle.cfn_cli.specs.declared.command.CostArguments.{CostArguments}
+
+-- ---- requests
+
+pub record SolveRequest : Type 0 where
+  pub file : Text
+  pub certificate : Text
+  pub workers : ℕ
+  pub budget : ℕ
+
+pub record CostRequest : Type 0 where
+  pub file : Text
+  pub values : List ℕ
+
+pub data Request : Type 0 where
+  solve : SolveRequest → Request
+  cost : CostRequest → Request
+
+-- ---- the request that a command holds
+
+abbrev pub spoken_solve : SolveArguments → SolveRequest
+spoken_solve a = record {
+  file = string_bytes a.file;
+  certificate = string_bytes a.certificate;
+  workers = a.workers;
+  budget = a.budget;
+}
+
+abbrev pub spoken_cost : CostArguments → CostRequest
+spoken_cost a = record { file = string_bytes a.file; values = a.values.items }
+
+abbrev pub request : Command → Request
+request (Solve a) = solve (spoken_solve a)
+request (Cost a) = cost (spoken_cost a)
+
+-- ---- the numbers
+
+-- The number that the text is, by `u64`'s own reading, if it lies within the bounds.
+unfoldable pub number_in : ℕ → ℕ → Text → Option ℕ
+number_in least most text =
+    if is_unsigned_in least most text then Some (digits_value 10 (without_leading_plus text))
+    else None
+
+abbrev pub is_value : Text → Bool
+is_value text = is_some (number_in 0 4294967295 text)
+
+abbrev pub value_of : Text → ℕ
+value_of text = unwrap_or (number_in 0 4294967295 text) 0
+
+-- The values that the texts are, if each is one and there is one.
+unfoldable pub values_of : List Text → Option (List ℕ)
+values_of [] = None
+values_of (text ∷ texts) =
+    if list_all is_value (text ∷ texts) then Some (map value_of (text ∷ texts)) else None
+
+-- ---- what clap found under an argument's name
+
+abbrev pub number_of : Text → ℕ → ℕ → List Row → Option ℕ
+number_of id least most rows = option_and_then (number_in least most) (first_of id rows)
+
+unfoldable pub solve_of : List Row → Option SolveRequest
+solve_of rows = option_and_then (λ file. option_and_then (λ certificate.
+    option_and_then (λ workers. option_map (λ budget. record {
+      file = file;
+      certificate = certificate;
+      workers = workers;
+      budget = budget;
+    }) (number_of (codes "budget") 0 9223372036854775807 rows))
+    (number_of (codes "workers") 1 64 rows))
+    (first_of (codes "certificate") rows)) (first_of (codes "file") rows)
+
+unfoldable pub cost_of : List Row → Option CostRequest
+cost_of rows = option_and_then (λ file. option_map (λ values. record {
+  file = file;
+  values = values;
+}) (option_and_then values_of (all_of (codes "values") rows))) (first_of (codes "file") rows)
+
+abbrev pub request_named : Text → List Row → Option Request
+request_named name rows =
+    if bytes_eq name (codes "solve") then option_map solve (solve_of rows)
+    else (if bytes_eq name (codes "cost") then option_map cost (cost_of rows) else None)
+
+abbrev pub request_from : Option (Text × List Row) → Option Request
+request_from = option_and_then (λ met. request_named met.0 met.1)
+
+-- ---- the words
+
+abbrev pub is_faultless : Kinds → Bool
+is_faultless [] = true
+is_faultless (kind ∷ kinds) = false
+
+-- Clap's function of the words, at this command line, lists no fault.
+unfoldable pub is_taken : List Text → Bool
+is_taken words = is_faultless (fault_of command_line words)
+
+-- The name and the rows of the command that the words name, by clap's function of the words.
+unfoldable pub entered_by : List Text → Option (Text × List Row)
+entered_by = subcommand_of command_line
+
+-- What the words ask for, if they spell a command.
+abbrev pub request_of : List Text → Option Request
+request_of words = if is_taken words then request_from (entered_by words) else None
+
+-- ---- facts of a command
+
+abbrev pub IfSolve : Command → (SolveArguments → Type 0) → Type 0
+IfSolve (Solve a) P = P a
+IfSolve (Cost a) P = Unit {0}
+
+abbrev pub IfCost : Command → (CostArguments → Type 0) → Type 0
+IfCost (Solve a) P = Unit {0}
+IfCost (Cost a) P = P a

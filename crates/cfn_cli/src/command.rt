@@ -1,0 +1,33 @@
+//! What a command line asks for.
+
+/// A command, with all that its words say.
+#[derive(Debug, Drop)]
+pub enum Command {
+    /// `solve FILE CERT [--workers W] [--budget B]`
+    Solve(SolveArguments),
+    /// `cost FILE VALUES..`
+    Cost(CostArguments),
+}
+
+/// What to solve, and how far to go.
+#[derive(Debug, Drop)]
+pub struct SolveArguments {
+    /// The name of the file to solve.
+    pub file: String,
+    /// The name of the file that the certificate is written to.
+    pub certificate: String,
+    /// How many workers search side by side: 1 to 64, and 1 where the words give no number.
+    pub workers: u8,
+    /// How many nodes the search may expand: 0 to 2^63 - 1, and the greatest where the words give
+    /// no number.
+    pub budget: u64,
+}
+
+/// An assignment of which the cost is asked for.
+#[derive(Debug, Drop)]
+pub struct CostArguments {
+    /// The name of the file that the costs are read from.
+    pub file: String,
+    /// A value for each variable, in order: at least one.
+    pub values: Vec<u32>,
+}

@@ -1,0 +1,23 @@
+//! The command line of the program `wcspsolve`: which command its words spell.
+//!
+//!     wcspsolve solve FILE CERT [--workers W] [--budget B]
+//!     wcspsolve cost FILE VALUES..
+//!
+//! The crate `clap` says which word is which argument, by the command that `line` builds. `reading`
+//! reads the numbers of what clap found and holds them to their limits. What the words spell,
+//! `request_of` of `specs/Request.antt`, is a function of the words alone: clap's own function of
+//! the words, at that command, and then the reading.
+#![tactic(auto)]
+
+mod command;
+mod fault;
+mod line;
+mod parsing;
+mod reading;
+
+pub use command::{Command, CostArguments, SolveArguments};
+pub use fault::CliFault;
+pub use parsing::parse;
+
+#[cfg(test)]
+mod tests;

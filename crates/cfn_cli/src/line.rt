@@ -1,0 +1,88 @@
+//! The command line as clap sees it.
+
+ghost use Rattle.std.specs.Prelude.{◌≡◌, IfOk, false};
+ghost use Rattle.clap.specs.Words.{rule_of};
+ghost use Rattle.cfn_cli.specs.Building.{Builds};
+ghost use Rattle.cfn_cli.specs.Line.{budget_rule, certificate_rule, command_line, cost_app, file_rule, solve_app, values_rule, workers_rule};
+
+use clap::{Arg, ArgAction, Command, value_parser};
+use std::alloc::{AllocError, Global};
+
+/// The program with its two commands, of which one has to be given.
+pub(crate) fn command_line<'a>(alloc: Global) -> Result<Command<'a>, AllocError>
+    ensures { IfOk result (Builds command_line) }
+{
+    let solve = solve(alloc)?;
+    let cost = cost(alloc)?;
+    Command::new(alloc, "wcspsolve")
+        .subcommand_required(true)
+        .subcommand(solve)?
+        .subcommand(cost)
+}
+
+fn solve<'a>(alloc: Global) -> Result<Command<'a>, AllocError>
+    ensures { IfOk result (Builds solve_app) }
+{
+    Command::new(alloc, "solve")
+        .arg(file(alloc))?
+        .arg(certificate(alloc))?
+        .arg(workers(alloc))?
+        .arg(budget(alloc))
+}
+
+fn cost<'a>(alloc: Global) -> Result<Command<'a>, AllocError>
+    ensures { IfOk result (Builds cost_app) }
+{
+    Command::new(alloc, "cost")
+        .arg(file(alloc))?
+        .arg(values(alloc))
+}
+
+#[tactic(auto, unfolding(crate::specs::Line::file_rule))]
+fn file<'a>(alloc: Global) -> Arg<'a>
+    ensures rule { rule_of result ≡ file_rule }
+    ensures local { result.global ≡ false }
+{
+    Arg::new(alloc, "file").required(true)
+}
+
+#[tactic(auto, unfolding(crate::specs::Line::certificate_rule))]
+fn certificate<'a>(alloc: Global) -> Arg<'a>
+    ensures rule { rule_of result ≡ certificate_rule }
+    ensures local { result.global ≡ false }
+{
+    Arg::new(alloc, "certificate").required(true)
+}
+
+#[tactic(auto, unfolding(crate::specs::Line::workers_rule))]
+fn workers<'a>(alloc: Global) -> Arg<'a>
+    ensures rule { rule_of result ≡ workers_rule }
+    ensures local { result.global ≡ false }
+{
+    Arg::new(alloc, "workers")
+        .long("workers")
+        .value_parser(value_parser!(u64))
+        .default_value("1")
+}
+
+#[tactic(auto, unfolding(crate::specs::Line::budget_rule))]
+fn budget<'a>(alloc: Global) -> Arg<'a>
+    ensures rule { rule_of result ≡ budget_rule }
+    ensures local { result.global ≡ false }
+{
+    Arg::new(alloc, "budget")
+        .long("budget")
+        .value_parser(value_parser!(u64))
+        .default_value("9223372036854775807")
+}
+
+#[tactic(auto, unfolding(crate::specs::Line::values_rule))]
+fn values<'a>(alloc: Global) -> Arg<'a>
+    ensures rule { rule_of result ≡ values_rule }
+    ensures local { result.global ≡ false }
+{
+    Arg::new(alloc, "values")
+        .required(true)
+        .action(ArgAction::Append)
+        .value_parser(value_parser!(u64))
+}

@@ -1,0 +1,146 @@
+//! What clap found, read as a command.
+
+ghost use Rattle.std.specs.Prelude.{◌≡◌, ◌≤◌, ◌<◌, ◌^◌, Some, None, IfErr, IfOk, IfSome, length, map};
+ghost use Rattle.std.specs.List.{All};
+ghost use Rattle.clap.specs.Words.{first_of, found_of, rows_of, subcommand_rows_of};
+ghost use Rattle.cfn_cli.specs.Request.{IfCost, IfSolve, cost_of, number_in, number_of, request, request_from, request_named, solve_of, spoken_cost, spoken_solve, values_of};
+
+use crate::command::{Command, CostArguments, SolveArguments};
+use crate::fault::CliFault;
+use clap::ArgMatches;
+use std::alloc::Global;
+
+/// The most workers that a command may ask for.
+const MOST_WORKERS: u64 = 64;
+
+/// The greatest budget, 2^63 - 1.
+const MOST_BUDGET: u64 = 9_223_372_036_854_775_807;
+
+/// The greatest value of a variable, 2^32 - 1.
+const MOST_VALUE: u64 = 4_294_967_295;
+
+/// The command that clap found.
+pub(crate) fn command(alloc: Global, matches: &ArgMatches<'_>) -> Result<Command, CliFault>
+    ensures command { IfOk result (λ c. request_from (subcommand_rows_of matches.now) ≡ Some (request c)) }
+    ensures usage { IfErr result (λ fault. fault ≡ CliFault.Usage
+        → request_from (subcommand_rows_of matches.now) ≡ None) }
+    ensures workers { IfOk result (λ c. IfSolve c (λ s. (1 ≤ s.workers) × (s.workers ≤ 64))) }
+    ensures budget { IfOk result (λ c. IfSolve c (λ s. s.budget ≤ 9223372036854775807)) }
+    ensures values { IfOk result (λ c. IfCost c (λ k. All (λ v. v < 2 ^ 32) k.values.items)) }
+    ensures some_value { IfOk result (λ c. IfCost c (λ k. 0 < length k.values.items)) }
+{
+    match matches.subcommand() {
+        Some((name, found)) => named(alloc, name, found),
+        None => Err(CliFault::Usage),
+    }
+}
+
+fn named(alloc: Global, name: &str, found: &ArgMatches<'_>) -> Result<Command, CliFault>
+    ensures command { IfOk result (λ c. request_named name.now (rows_of (found_of found.now)) ≡ Some (request c)) }
+    ensures usage { IfErr result (λ fault. fault ≡ CliFault.Usage
+        → request_named name.now (rows_of (found_of found.now)) ≡ None) }
+    ensures workers { IfOk result (λ c. IfSolve c (λ s. (1 ≤ s.workers) × (s.workers ≤ 64))) }
+    ensures budget { IfOk result (λ c. IfSolve c (λ s. s.budget ≤ 9223372036854775807)) }
+    ensures values { IfOk result (λ c. IfCost c (λ k. All (λ v. v < 2 ^ 32) k.values.items)) }
+    ensures some_value { IfOk result (λ c. IfCost c (λ k. 0 < length k.values.items)) }
+{
+    if name == "solve" {
+        Ok(Command::Solve(solve(alloc, found)?))
+    } else if name == "cost" {
+        Ok(Command::Cost(cost(alloc, found)?))
+    } else {
+        Err(CliFault::Usage)
+    }
+}
+
+fn solve(alloc: Global, found: &ArgMatches<'_>) -> Result<SolveArguments, CliFault>
+    ensures arguments { IfOk result (λ s. solve_of (rows_of (found_of found.now)) ≡ Some (spoken_solve s)) }
+    ensures usage { IfErr result (λ fault. fault ≡ CliFault.Usage
+        → solve_of (rows_of (found_of found.now)) ≡ None) }
+    ensures workers { IfOk result (λ s. (1 ≤ s.workers) × (s.workers ≤ 64)) }
+    ensures budget { IfOk result (λ s. s.budget ≤ 9223372036854775807) }
+{
+    let file = text(found, "file")?;
+    let certificate = text(found, "certificate")?;
+    let workers = number(found, "workers", 1, MOST_WORKERS)?;
+    let budget = number(found, "budget", 0, MOST_BUDGET)?;
+    Ok(SolveArguments {
+        file: String::from_str(alloc, file)?,
+        certificate: String::from_str(alloc, certificate)?,
+        workers: workers as u8,
+        budget,
+    })
+}
+
+fn cost(alloc: Global, found: &ArgMatches<'_>) -> Result<CostArguments, CliFault>
+    ensures arguments { IfOk result (λ k. cost_of (rows_of (found_of found.now)) ≡ Some (spoken_cost k)) }
+    ensures usage { IfErr result (λ fault. fault ≡ CliFault.Usage
+        → cost_of (rows_of (found_of found.now)) ≡ None) }
+    ensures values { IfOk result (λ k. All (λ v. v < 2 ^ 32) k.values.items) }
+    ensures some_value { IfOk result (λ k. 0 < length k.values.items) }
+{
+    let file = text(found, "file")?;
+    let Some(texts) = found.get_strs("values") else {
+        return Err(CliFault::Usage);
+    };
+    let values = values(alloc, texts)?;
+    Ok(CostArguments {
+        file: String::from_str(alloc, file)?,
+        values,
+    })
+}
+
+/// The values that the texts are, of which there has to be one.
+fn values(alloc: Global, texts: &[&str]) -> Result<Vec<u32>, CliFault>
+    ensures values { IfOk result (λ vs. values_of (map (λ t. t.now) texts.now) ≡ Some vs.items) }
+    ensures usage { IfErr result (λ fault. fault ≡ CliFault.Usage
+        → values_of (map (λ t. t.now) texts.now) ≡ None) }
+    ensures within { IfOk result (λ vs. All (λ v. v < 2 ^ 32) vs.items) }
+    ensures some { IfOk result (λ vs. 0 < length vs.items) }
+{
+    if texts.is_empty() {
+        return Err(CliFault::Usage);
+    }
+    let mut values = Vec::with_capacity(alloc, texts.len())?;
+    for text in texts {
+        let Some(value) = number_in(text, 0, MOST_VALUE) else {
+            return Err(CliFault::Usage);
+        };
+        values.push(value as u32)?;
+    }
+    Ok(values)
+}
+
+/// The text of an argument.
+fn text<'a>(found: &ArgMatches<'a>, id: &str) -> Result<&'a str, CliFault>
+    ensures text { IfOk result (λ t. first_of id.now (rows_of (found_of found.now)) ≡ Some t.now) }
+    ensures missing { IfErr result (λ fault. first_of id.now (rows_of (found_of found.now)) ≡ None) }
+{
+    match found.get_str(id) {
+        Some(text) => Ok(text),
+        None => Err(CliFault::Usage),
+    }
+}
+
+/// The number of an argument, from `least` to `most`.
+fn number(found: &ArgMatches<'_>, id: &str, least: u64, most: u64) -> Result<u64, CliFault>
+    ensures number { IfOk result (λ n. number_of id.now least most (rows_of (found_of found.now)) ≡ Some n) }
+    ensures none { IfErr result (λ fault. number_of id.now least most (rows_of (found_of found.now)) ≡ None) }
+    ensures within { IfOk result (λ n. (least ≤ n) × (n ≤ most)) }
+{
+    match number_in(text(found, id)?, least, most) {
+        Some(number) => Ok(number),
+        None => Err(CliFault::Usage),
+    }
+}
+
+/// The number that a text is, if it is one from `least` to `most`.
+fn number_in(text: &str, least: u64, most: u64) -> Option<u64>
+    ensures number { result ≡ number_in least most text.now }
+    ensures within { IfSome result (λ n. (least ≤ n) × (n ≤ most)) }
+{
+    match text.parse::<u64>() {
+        Ok(number) if least <= number && number <= most => Some(number),
+        _ => None,
+    }
+}

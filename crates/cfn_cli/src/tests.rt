@@ -1,0 +1,104 @@
+use crate::{CliFault, Command, parse};
+use std::alloc::Global;
+use std::test::Fail;
+
+const MOST_BUDGET: u64 = 9_223_372_036_854_775_807;
+
+fn is_usage(alloc: Global, words: &[&str]) -> bool {
+    match parse(alloc, words) {
+        Err(CliFault::Usage) => true,
+        _ => false,
+    }
+}
+
+fn solves(alloc: Global, words: &[&str], workers: u8, budget: u64) -> bool {
+    match parse(alloc, words) {
+        Ok(Command::Solve(asked)) => {
+            asked.file.as_str() == "a"
+                && asked.certificate.as_str() == "b"
+                && asked.workers == workers
+                && asked.budget == budget
+        }
+        _ => false,
+    }
+}
+
+fn costs(alloc: Global, words: &[&str], values: &[u32]) -> bool {
+    match parse(alloc, words) {
+        Ok(Command::Cost(asked)) => {
+            asked.file.as_str() == "f" && asked.values.as_slice() == values
+        }
+        _ => false,
+    }
+}
+
+#[test]
+fn solve_is_read(rt: HostRuntime) {
+    let alloc = rt.alloc();
+    assert!(rt; solves(alloc, &["w", "solve", "a", "b"], 1, MOST_BUDGET));
+    assert!(rt;
+        solves(
+            alloc,
+            &["w", "solve", "a", "b", "--workers", "8", "--budget", "5"],
+            8,
+            5
+        )
+    );
+    assert!(rt; solves(alloc, &["w", "solve", "--budget=5", "a", "b"], 1, 5));
+    assert!(rt;
+        solves(
+            alloc,
+            &["w", "solve", "a", "--workers=64", "b"],
+            64,
+            MOST_BUDGET
+        )
+    );
+    assert!(rt;
+        solves(
+            alloc,
+            &["w", "solve", "a", "b", "--budget", "9223372036854775807"],
+            1,
+            MOST_BUDGET
+        )
+    );
+}
+
+#[test]
+fn cost_is_read(rt: HostRuntime) {
+    let alloc = rt.alloc();
+    assert!(rt; costs(alloc, &["w", "cost", "f", "0", "1", "2"], &[0, 1, 2]));
+    assert!(rt; costs(alloc, &["w", "cost", "f", "4294967295"], &[4_294_967_295]));
+}
+
+#[test]
+fn other_words_are_usage(rt: HostRuntime) {
+    let alloc = rt.alloc();
+    for words in [
+        ["w"].as_slice(),
+        &[],
+        &["w", "--help"],
+        &["w", "-h"],
+        &["w", "--version"],
+        &["w", "-V"],
+        &["w", "help"],
+        &["w", "help", "solve"],
+        &["w", "check", "a", "b"],
+        &["w", "solve"],
+        &["w", "solve", "a"],
+        &["w", "solve", "a", "b", "c"],
+        &["w", "solve", "a", "b", "--help"],
+        &["w", "solve", "a", "b", "--workers", "65"],
+        &["w", "solve", "a", "b", "--workers", "0"],
+        &["w", "solve", "a", "b", "--workers", "8", "--workers", "8"],
+        &["w", "solve", "a", "b", "--budget", "-1"],
+        &["w", "solve", "a", "b", "--budget=-1"],
+        &["w", "solve", "a", "b", "--budget", "9223372036854775808"],
+        &["w", "solve", "a", "b", "--budget"],
+        &["w", "cost"],
+        &["w", "cost", "f"],
+        &["w", "cost", "f", "4294967296"],
+        &["w", "cost", "f", "1", "x"],
+    ] {
+        assert!(rt; is_usage(alloc, words), "{words:?}");
+    }
+}
