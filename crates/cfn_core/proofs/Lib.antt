@@ -1,0 +1,3 @@
+pub mod Placing
+pub mod Views
+pub mod Keeping

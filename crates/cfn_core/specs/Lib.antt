@@ -1,0 +1,4 @@
+pub mod Pool
+pub mod World
+pub mod Actions
+pub mod Laws
