@@ -1,3 +1,4 @@
 pub mod Placing
 pub mod Views
 pub mod Keeping
+pub mod Handing

@@ -1,10 +1,13 @@
 -- What holds of the world, whatever the workers do and in whatever order.
-use Rattle.std.specs.Prelude.{ℕ, ◌≤◌, List, []}
+use Rattle.std.specs.Prelude.{◌≡◌, ◌≢◌, ℕ, ◌+◌, ◌≤◌, ◌⊎◌, List, [], ◌∷◌, if◌then◌else◌, ◌==◌}
+use Rattle.std.specs.List.{AllByRecursion}
+use Rattle.cfn_model.specs.declared.step.Event.{Event}
+use Rattle.cfn_model.specs.Sums.{floor}
 use Rattle.cfn_model.specs.Network.{Network, IsNetwork}
 use Rattle.cfn_model.specs.Tree.{Valid}
-use Rattle.cfn_core.specs.Pool.{tree_of, IsSound, IsCovered}
+use Rattle.cfn_core.specs.Pool.{Mark, Out, PoolTree, Leaf, Shut, Fork, tree_of, IsLeaf, Task, Piece, IsSound, IsCovered}
 use Rattle.cfn_core.specs.World.{World, IsWord, opening}
-use Rattle.cfn_core.specs.Actions.{Action, Reply, IsAction, Acts, Runs, AreActions}
+use Rattle.cfn_core.specs.Actions.{Action, Look, Lower, Note, Meet, Take, Give, Back, Recall, Sweep, Reply, Gone, IsAction, IsOut, Acts, Runs, AreActions}
 
 -- The pool is sound, and the word keeps its rule.
 pub record IsWorld (P : Network) (w : World) : Type 0 where
@@ -29,3 +32,48 @@ Covers = (P : Network) (w : World) → IsNetwork P → IsWorld P w → IsCovered
 
 abbrev pub IsValidAtWord : Type 0
 IsValidAtWord = (P : Network) (w : World) → IsWorld P w → Valid P [] (tree_of w.pool.tree) w.word
+
+-- How many open leaves have a number.
+abbrev pub leaves_with : ℕ → PoolTree → ℕ
+leaves_with n (Leaf number mark) = if number == n then 1 else 0
+leaves_with n (Shut block) = 0
+leaves_with n (Fork block x a first second) = leaves_with n first + leaves_with n second
+
+-- A task is in hand.
+abbrev pub IsInHand : Task → List Task → Type 0
+IsInHand task [] = ⊥
+IsInHand task (other ∷ hands) = (task ≡ other) ⊎ IsInHand task hands
+
+-- Each open leaf has a number of its own, and the task of each leaf that is out is in hand.
+pub record IsHanded (P : Network) (w : World) : Type 0 where
+  pub different : (n : ℕ) → leaves_with n w.pool.tree ≤ 1
+  pub fresh : (n : ℕ) → w.pool.next ≤ n → leaves_with n w.pool.tree ≡ 0
+  pub in_hand : (n worker grant : ℕ) (path : List Event) → IsLeaf w.pool.tree [] n (Out worker grant) path →
+      IsInHand (record { leaf = n; worker = worker; grant = grant; floor = floor P path; path = path }) w.hands
+
+abbrev pub OpensHanded : Type 0
+OpensHanded = (P : Network) (workers budget : ℕ) → IsHanded P (opening P workers budget)
+
+abbrev pub KeepsHanded : Type 0
+KeepsHanded = (P : Network) (w new : World) (action : Action) (r : Reply) → IsHanded P w → Acts P w action r new → IsHanded P new
+
+abbrev pub HoldsHanded : Type 0
+HoldsHanded = (P : Network) (workers budget : ℕ) (actions : List Action) (replies : List Reply) (w : World) →
+    Runs P (opening P workers budget) actions replies w → IsHanded P w
+
+-- No action calls the leaves back.
+abbrev pub IsNoRecall : Action → Type 0
+IsNoRecall (Look worker) = Unit {0}
+IsNoRecall (Lower worker found) = Unit {0}
+IsNoRecall (Note worker) = Unit {0}
+IsNoRecall (Meet worker) = Unit {0}
+IsNoRecall (Take worker want) = Unit {0}
+IsNoRecall (Give piece note) = Unit {0}
+IsNoRecall (Back task) = Unit {0}
+IsNoRecall Recall = ⊥
+IsNoRecall Sweep = Unit {0}
+
+-- As long as none does, no piece of a task in hand is refused.
+abbrev pub NeverGone : Type 0
+NeverGone = (P : Network) (workers budget : ℕ) (actions : List Action) (replies : List Reply) (w new : World) (piece : Piece) (note : ℕ) (r : Reply) →
+    AllByRecursion IsNoRecall actions → Runs P (opening P workers budget) actions replies w → IsInHand piece.task w.hands → Acts P w (Give piece note) r new → r ≢ Gone
