@@ -103,7 +103,7 @@ module _ (n : ℕ) (mark : Mark) (path : List Event) (place : PoolTree) where
   replaced_stays m k p (Fork block x a first second) history new (inr at) (inr leaf) =
       elim (replaced_stays m k p second (IsNot x a ∷ after block history) at.0 at.1 leaf) [ inl same ↦ inl same | inr stays ↦ inr (subst (λ t. IsLeaf t history m k p) (sym at.2) (inr stays)) ]
 
-free_not_out : {worker grant : ℕ} {C : Type 0} → Free ≡ Out worker grant → C
+pub free_not_out : {worker grant : ℕ} {C : Type 0} → Free ≡ Out worker grant → C
 free_not_out h = absurd (cc)
 
 -- the leaves of a numbered tree

@@ -77,3 +77,10 @@ IsNoRecall Sweep = Unit {0}
 abbrev pub NeverGone : Type 0
 NeverGone = (P : Network) (workers budget : ℕ) (actions : List Action) (replies : List Reply) (w new : World) (piece : Piece) (note : ℕ) (r : Reply) →
     AllByRecursion IsNoRecall actions → Runs P (opening P workers budget) actions replies w → IsInHand piece.task w.hands → Acts P w (Give piece note) r new → r ≢ Gone
+
+-- Each action has an answer in every world, and one alone where the leaves have numbers of their own.
+abbrev pub AnswersAll : Type 0
+AnswersAll = (P : Network) (w : World) (action : Action) → (r : Reply) × (new : World) × Acts P w action r new
+
+abbrev pub AnswersOnce : Type 0
+AnswersOnce = (P : Network) (w : World) (action : Action) (r other : Reply) (new another : World) → IsHanded P w → Acts P w action r new → Acts P w action other another → (r ≡ other) × (new ≡ another)
