@@ -11,7 +11,7 @@ use Rattle.cfn_core.specs.Pool.{Mark, Free, Out, PoolTree, Leaf, Shut, Fork, tre
 use Rattle.cfn_core.specs.World.{World, view_at, note_at}
 use Rattle.cfn_core.specs.Actions.{Action, Look, Lower, Note, Meet, Take, Give, Back, Recall, Sweep, Reply, Idle, Seen, Noted, Given, Empty, Spent, Again, Gone, NotOut, Done, Answers, IsFirst, CanTake, task_for, taken, Takes, take_idle, take_empty, take_spent, take_again, take_task, CanGive, given, Gives, give_idle, give_gone, give_done, returned, Returns, back_not, back_done, IsOut, Acts}
 use Rattle.cfn_core.specs.Laws.{leaves_with, IsHanded, AnswersAll, AnswersOnce}
-use Rattle.cfn_core.proofs.Deciding.{find_some, find_this, can_replace, find_first}
+use Rattle.cfn_core.proofs.Deciding.{Precedes, find_some, find_this, can_replace, find_first}
 use Rattle.cfn_core.proofs.Handing.{leaf_counts, replaced_leaf}
 
 -- an answer by cases on an option
@@ -39,7 +39,7 @@ take_answer P w worker want = elim (cases_lt worker (length w.views)) [
             | inl found ↦
                 (let task = task_for P w worker want found.0 found.1 in
                 let r = can_replace (Leaf found.0 (Out worker task.grant)) w.pool.tree [] found.0 Free found.1 found.2.leaf in
-                (Given task, taken w task r.0, take_task found.0 found.1 task r.0 can room (record { leaf = found.2.leaf; first = found.2.first }) refl r.1 just))
+                (Given task, taken w task r.0, take_task found.0 found.1 task r.0 can unspent room (record { leaf = found.2.leaf; first = found.2.first }) refl r.1 just))
           ]
         ]
       ]
@@ -107,3 +107,108 @@ one_tree n mark path place (Fork block x a first second) history new other one (
 one_tree n mark path place (Fork block x a first second) history new other one (inr at) (inl here) =
     absurd (let c = leaf_counts second (IsNot x a ∷ after block history) n mark path (replaced_leaf n mark path place second (IsNot x a ∷ after block history) at.0 at.1) in
         let d = leaf_counts first (Is x a ∷ after block history) n mark path (replaced_leaf n mark path place first (Is x a ∷ after block history) here.0 here.1) in omega (arith, one, c, d))
+
+leaf_open : (tree : PoolTree) (history : List Event) (n : ℕ) (mark : Mark) (path : List Event) → IsLeaf tree history n mark path → 0 < open_leaves (tree_of tree)
+leaf_open (Leaf number m) history n mark path at = omega arith
+leaf_open (Shut block) history n mark path at = absurd at
+leaf_open (Fork block x a first second) history n mark path (inl at) = omega (arith, leaf_open first (Is x a ∷ after block history) n mark path at)
+leaf_open (Fork block x a first second) history n mark path (inr at) = omega (arith, leaf_open second (IsNot x a ∷ after block history) n mark path at)
+
+abbrev Same : Reply → Reply → World → World → Type 0
+Same r other new another = (r ≡ other) × (new ≡ another)
+
+same : {due : Reply} {left : World} {r other : Reply} {new another : World} → Answers due left r new → Answers due left other another → Same r other new another
+same a b = (a.reply ∙ sym b.reply, a.world ∙ sym b.world)
+
+same_by_option : {X : Type 0} (o : Option X) (due : X → Reply) (idle : World) (left : X → World) {r other : Reply} {new another : World} →
+    MatchOption o (Answers Idle idle r new) (λ x. Answers (due x) (left x) r new) → MatchOption o (Answers Idle idle other another) (λ x. Answers (due x) (left x) other another) →
+    Same r other new another
+same_by_option None due idle left a b = same a b
+same_by_option (Some x) due idle left a b = same a b
+
+both_first : (P : Network) (n m : ℕ) (path other : List Event) → Precedes P n path m other → Precedes P m other n path → n ≡ m
+both_first P n m path other (inl h) (inl k) = absurd (omega arith)
+both_first P n m path other (inl h) (inr k) = absurd (omega (arith, k.0))
+both_first P n m path other (inr h) (inl k) = absurd (omega (arith, h.0))
+both_first P n m path other (inr h) (inr k) = omega (arith, h.1, k.1)
+
+takes_once : (P : Network) (w : World) (worker want : ℕ) (r other : Reply) (new another : World) → IsHanded P w → Takes P w worker want r new → Takes P w worker want other another → Same r other new another
+takes_once P w worker want r other new another handed (take_idle h a) (take_idle k b) = same a b
+takes_once P w worker want r other new another handed (take_idle h a) (take_empty c k b) = absurd (h c)
+takes_once P w worker want r other new another handed (take_idle h a) (take_spent c k l b) = absurd (h c)
+takes_once P w worker want r other new another handed (take_idle h a) (take_again c k l m b) = absurd (h c)
+takes_once P w worker want r other new another handed (take_idle h a) (take_task n path task tree c k l m is at b) = absurd (h c)
+takes_once P w worker want r other new another handed (take_empty c h a) (take_idle k b) = absurd (k c)
+takes_once P w worker want r other new another handed (take_empty c h a) (take_empty d k b) = same a b
+takes_once P w worker want r other new another handed (take_empty c h a) (take_spent d k l b) = absurd (omega arith)
+takes_once P w worker want r other new another handed (take_empty c h a) (take_again d k l m b) = absurd (omega arith)
+takes_once P w worker want r other new another handed (take_empty c h a) (take_task n path task tree d k l m is at b) =
+    absurd (let o = leaf_open w.pool.tree [] n Free path m.leaf in omega (arith, o))
+takes_once P w worker want r other new another handed (take_spent c h i a) (take_idle k b) = absurd (k c)
+takes_once P w worker want r other new another handed (take_spent c h i a) (take_empty d k b) = absurd (omega arith)
+takes_once P w worker want r other new another handed (take_spent c h i a) (take_spent d k l b) = same a b
+takes_once P w worker want r other new another handed (take_spent c h i a) (take_again d k l m b) = absurd (l i)
+takes_once P w worker want r other new another handed (take_spent c h i a) (take_task n path task tree d k l m is at b) = absurd (k i)
+takes_once P w worker want r other new another handed (take_again c h i j a) (take_idle k b) = absurd (k c)
+takes_once P w worker want r other new another handed (take_again c h i j a) (take_empty d k b) = absurd (omega arith)
+takes_once P w worker want r other new another handed (take_again c h i j a) (take_spent d k l b) = absurd (i l)
+takes_once P w worker want r other new another handed (take_again c h i j a) (take_again d k l m b) = same a b
+takes_once P w worker want r other new another handed (take_again c h i (inl none) a) (take_task n path task tree d k l m is at b) = absurd (none n path m.leaf)
+takes_once P w worker want r other new another handed (take_again c h i (inr granted_all) a) (take_task n path task tree d k l m is at b) = absurd (l granted_all)
+takes_once P w worker want r other new another handed (take_task n path task tree c h i j is at a) (take_idle k b) = absurd (k c)
+takes_once P w worker want r other new another handed (take_task n path task tree c h i j is at a) (take_empty d k b) =
+    absurd (let o = leaf_open w.pool.tree [] n Free path j.leaf in omega (arith, o))
+takes_once P w worker want r other new another handed (take_task n path task tree c h i j is at a) (take_spent d k l b) = absurd (h l)
+takes_once P w worker want r other new another handed (take_task n path task tree c h i j is at a) (take_again d k l (inl none) b) = absurd (none n path j.leaf)
+takes_once P w worker want r other new another handed (take_task n path task tree c h i j is at a) (take_again d k l (inr granted_all) b) = absurd (i granted_all)
+takes_once P w worker want r other new another handed (take_task n path task tree c h i j is at a) (take_task m path' task' tree' d k l o is' at' b) =
+    let numbers : m ≡ n = both_first P m n path' path (o.first n path j.leaf) (j.first m path' o.leaf) in
+    let leaf' : IsLeaf w.pool.tree [] n Free path' = subst (λ x. IsLeaf w.pool.tree [] x Free path') numbers o.leaf in
+    let paths : path' ≡ path = (one_path n Free Free path' path w.pool.tree [] (handed.different n) leaf' j.leaf).1 in
+    let tasks : task' ≡ task = is' ∙ ap (λ x. task_for P w worker want x path') numbers ∙ ap (task_for P w worker want n) paths ∙ sym is in
+    let moved : Replaced w.pool.tree [] n Free path (Leaf n (Out worker task.grant)) tree' =
+        subst (λ (t : Task). Replaced w.pool.tree [] n Free path (Leaf n (Out worker t.grant)) tree') tasks
+        (subst (λ p. Replaced w.pool.tree [] n Free p (Leaf n (Out worker task'.grant)) tree') paths
+        (subst (λ x. Replaced w.pool.tree [] x Free path' (Leaf x (Out worker task'.grant)) tree') numbers at')) in
+    let trees : tree' ≡ tree = one_tree n Free path (Leaf n (Out worker task.grant)) w.pool.tree [] tree' tree (handed.different n) moved at in
+    (a.reply ∙ ap Given (sym tasks) ∙ sym b.reply, a.world ∙ ap₂ (taken w) (sym tasks) (sym trees) ∙ sym b.world)
+
+gives_once : (P : Network) (w : World) (piece : Piece) (note : ℕ) (r other : Reply) (new another : World) → IsHanded P w → Gives w piece note r new → Gives w piece note other another → Same r other new another
+gives_once P w piece note r other new another handed (give_idle h a) (give_idle k b) = same a b
+gives_once P w piece note r other new another handed (give_idle h a) (give_gone c k b) = absurd (h c)
+gives_once P w piece note r other new another handed (give_idle h a) (give_done tree c at b) = absurd (h c)
+gives_once P w piece note r other new another handed (give_gone c h a) (give_idle k b) = absurd (k c)
+gives_once P w piece note r other new another handed (give_gone c h a) (give_gone d k b) = same a b
+gives_once P w piece note r other new another handed (give_gone c h a) (give_done tree d at b) =
+    absurd (h (replaced_leaf piece.task.leaf (Out piece.task.worker piece.task.grant) piece.task.path (numbered w.pool.next piece.tree) w.pool.tree [] tree at))
+gives_once P w piece note r other new another handed (give_done tree c at a) (give_idle k b) = absurd (k c)
+gives_once P w piece note r other new another handed (give_done tree c at a) (give_gone d k b) =
+    absurd (k (replaced_leaf piece.task.leaf (Out piece.task.worker piece.task.grant) piece.task.path (numbered w.pool.next piece.tree) w.pool.tree [] tree at))
+gives_once P w piece note r other new another handed (give_done tree c at a) (give_done tree' d at' b) =
+    let trees = one_tree piece.task.leaf (Out piece.task.worker piece.task.grant) piece.task.path (numbered w.pool.next piece.tree) w.pool.tree [] tree tree' (handed.different piece.task.leaf) at at' in
+    (a.reply ∙ sym b.reply, a.world ∙ ap (given w piece note) trees ∙ sym b.world)
+
+returns_once : (P : Network) (w : World) (task : Task) (r other : Reply) (new another : World) → IsHanded P w → Returns w task r new → Returns w task other another → Same r other new another
+returns_once P w task r other new another handed (back_not h a) (back_not k b) = same a b
+returns_once P w task r other new another handed (back_not h a) (back_done path tree at b) =
+    absurd (h path (replaced_leaf task.leaf (Out task.worker task.grant) path (Leaf task.leaf Free) w.pool.tree [] tree at))
+returns_once P w task r other new another handed (back_done path tree at a) (back_not k b) =
+    absurd (k path (replaced_leaf task.leaf (Out task.worker task.grant) path (Leaf task.leaf Free) w.pool.tree [] tree at))
+returns_once P w task r other new another handed (back_done path tree at a) (back_done path' tree' at' b) =
+    let mark = Out task.worker task.grant in
+    let paths : path' ≡ path = (one_path task.leaf mark mark path' path w.pool.tree [] (handed.different task.leaf)
+        (replaced_leaf task.leaf mark path' (Leaf task.leaf Free) w.pool.tree [] tree' at') (replaced_leaf task.leaf mark path (Leaf task.leaf Free) w.pool.tree [] tree at)).1 in
+    let trees = one_tree task.leaf mark path (Leaf task.leaf Free) w.pool.tree [] tree tree' (handed.different task.leaf) at
+        (subst (λ p. Replaced w.pool.tree [] task.leaf mark p (Leaf task.leaf Free) tree') paths at') in
+    (a.reply ∙ sym b.reply, a.world ∙ ap (returned w task) trees ∙ sym b.world)
+
+pub answers_once : AnswersOnce
+answers_once P w (Look i) r other new another handed a b = same_by_option (view_at w.views i) _ w _ a b
+answers_once P w (Lower i found) r other new another handed a b = same_by_option (view_at w.views i) _ w _ a b
+answers_once P w (Note i) r other new another handed a b = same_by_option (view_at w.views i) _ w _ a b
+answers_once P w (Meet i) r other new another handed a b = same_by_option (view_at w.views i) _ w _ a b
+answers_once P w (Take i want) r other new another handed a b = takes_once P w i want r other new another handed a b
+answers_once P w (Give piece note) r other new another handed a b = gives_once P w piece note r other new another handed a b
+answers_once P w (Back task) r other new another handed a b = returns_once P w task r other new another handed a b
+answers_once P w Recall r other new another handed a b = same a b
+answers_once P w Sweep r other new another handed a b = same a b

@@ -296,7 +296,7 @@ takes_keeps P w new worker want r handed (take_idle h answers) = left_as handed 
 takes_keeps P w new worker want r handed (take_empty c h answers) = left_as handed answers
 takes_keeps P w new worker want r handed (take_spent c h k answers) = left_as handed answers
 takes_keeps P w new worker want r handed (take_again c h k l answers) = left_as handed answers
-takes_keeps P w new worker want r handed (take_task n path task tree c h k is at answers) = left_as (take_handed P w handed worker want n path task tree is at) answers
+takes_keeps P w new worker want r handed (take_task n path task tree c h k l is at answers) = left_as (take_handed P w handed worker want n path task tree is at) answers
 
 gives_keeps : (P : Network) (w new : World) (piece : Piece) (note : ℕ) (r : Reply) → IsHanded P w → Gives w piece note r new → IsHanded P new
 gives_keeps P w new piece note r handed (give_idle h answers) = left_as handed answers

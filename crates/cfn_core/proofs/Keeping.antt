@@ -234,7 +234,7 @@ takes_keeps P w new worker want r holds (take_idle h answers) = left_as holds an
 takes_keeps P w new worker want r holds (take_empty c h answers) = left_as holds answers
 takes_keeps P w new worker want r holds (take_spent c h k answers) = left_as holds answers
 takes_keeps P w new worker want r holds (take_again c h k l answers) = left_as holds answers
-takes_keeps P w new worker want r holds (take_task n path task tree c h k is at answers) = left_as (take_kept P w holds worker want n path task tree is at) answers
+takes_keeps P w new worker want r holds (take_task n path task tree c h k l is at answers) = left_as (take_kept P w holds worker want n path task tree is at) answers
 
 gives_keeps : (P : Network) (w new : World) (piece : Piece) (note : ℕ) (r : Reply) → IsPiece P piece → IsWorld P w → Gives w piece note r new → IsWorld P new
 gives_keeps P w new piece note r is holds (give_idle h answers) = left_as holds answers

@@ -67,7 +67,7 @@ takes_keeps P w new worker want r out (take_idle h answers) = left_as out answer
 takes_keeps P w new worker want r out (take_empty c h answers) = left_as out answers
 takes_keeps P w new worker want r out (take_spent c h k answers) = left_as out answers
 takes_keeps P w new worker want r out (take_again c h k l answers) = left_as out answers
-takes_keeps P w new worker want r out (take_task n path task tree c h k is at answers) = left_as (take_out P w out worker want n path task tree is at) answers
+takes_keeps P w new worker want r out (take_task n path task tree c h k l is at answers) = left_as (take_out P w out worker want n path task tree is at) answers
 
 gives_keeps : (P : Network) (w new : World) (piece : Piece) (note : ℕ) (r : Reply) → AllOut w → Gives w piece note r new → AllOut new
 gives_keeps P w new piece note r out (give_idle h answers) = left_as out answers

@@ -102,7 +102,7 @@ pub data Takes (P : Network) (w : World) (worker want : ℕ) (r : Reply) (new : 
   take_again : CanTake w worker want → 0 < open_leaves (tree_of w.pool.tree) → w.pool.nodes ≢ w.pool.budget →
       (((n : ℕ) (path : List Event) → IsLeaf w.pool.tree [] n Free path → ⊥) ⊎ (w.pool.nodes + granted w.pool.tree ≡ w.pool.budget)) →
       Answers Again w r new → Takes P w worker want r new
-  take_task : (n : ℕ) (path : List Event) (task : Task) (tree : PoolTree) → CanTake w worker want → w.pool.nodes + granted w.pool.tree ≢ w.pool.budget →
+  take_task : (n : ℕ) (path : List Event) (task : Task) (tree : PoolTree) → CanTake w worker want → w.pool.nodes ≢ w.pool.budget → w.pool.nodes + granted w.pool.tree ≢ w.pool.budget →
       IsFirst P w.pool.tree n path → task ≡ task_for P w worker want n path →
       Replaced w.pool.tree [] n Free path (Leaf n (Out worker task.grant)) tree →
       Answers (Given task) (taken w task tree) r new → Takes P w worker want r new

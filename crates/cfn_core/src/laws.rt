@@ -1,6 +1,6 @@
 //! What holds of the pool machine, each the contract of a function with nothing to do.
 
-ghost use Rattle.cfn_core.specs.Laws.{Opens, Keeps, Holds, Covers, IsValidAtWord, OpensHanded, KeepsHanded, HoldsHanded, NeverGone};
+ghost use Rattle.cfn_core.specs.Laws.{Opens, Keeps, Holds, Covers, IsValidAtWord, OpensHanded, KeepsHanded, HoldsHanded, NeverGone, AnswersAll, AnswersOnce};
 
 /// At the opening the pool is sound and the word keeps its rule, and each action of a worker keeps both. So both hold
 /// after every list of actions, in whatever order the workers act.
@@ -28,4 +28,10 @@ pub fn in_hand()
 /// As long as no action calls the leaves back, a piece of a task that is in hand is never answered `Gone`.
 pub fn never_gone()
     ensures { NeverGone }
+{}
+
+/// Every action has an answer in every world, and where leaves have numbers of their own it has one alone.
+pub fn one_answer()
+    ensures all { AnswersAll }
+    ensures once { AnswersOnce }
 {}

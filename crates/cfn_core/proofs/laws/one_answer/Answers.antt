@@ -1,0 +1,8 @@
+use Rattle.cfn_core.proofs.Answering.{answers_all, answers_once}
+use Rattle.cfn_core.proofs.laws.one_answer.Goals as goal
+
+pub returns-clause-all : goal.returns-clause-all
+returns-clause-all c = answers_all
+
+pub returns-clause-once : goal.returns-clause-once
+returns-clause-once c = answers_once
