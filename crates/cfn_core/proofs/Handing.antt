@@ -11,7 +11,7 @@ use Rattle.cfn_model.specs.Tree.{Tree, Open, Closed, Split, open_leaves}
 use Rattle.cfn_core.specs.Pool.{Mark, Free, Out, PoolTree, Leaf, Shut, Fork, IsLeaf, Replaced, numbered, recalled, swept, Task, Piece}
 use Rattle.cfn_core.specs.World.{World, view_at, opening}
 use Rattle.cfn_core.specs.Actions.{Action, Look, Lower, Note, Meet, Take, Give, Back, Recall, Sweep, Reply, Idle, Done, Gone, Answers, without, task_for, taken, Takes, take_idle, take_empty, take_spent, take_again, take_task, given, Gives, give_idle, give_gone, give_done, returned, Returns, back_not, back_done, all_back, cleared, IsOut, Acts, Runs}
-use Rattle.cfn_core.specs.Laws.{leaves_with, IsInHand, IsHanded, OpensHanded, KeepsHanded, HoldsHanded, IsNoRecall, NeverGone}
+use Rattle.cfn_core.specs.Laws.{leaves_with, IsInHand, IsHanded, OpensHanded, KeepsHanded, IsNoRecall, NeverGone}
 use Rattle.cfn_core.proofs.Views.{by_option}
 
 -- a leaf counts under its number
@@ -325,11 +325,9 @@ opens_handed P workers budget = record {
   in_hand = λ m k g p leaf. free_not_out leaf.1;
 }
 
-runs_keep : (P : Network) (actions : List Action) (replies : List Reply) (w new : World) → IsHanded P w → Runs P w actions replies new → IsHanded P new
+pub runs_keep : (P : Network) (actions : List Action) (replies : List Reply) (w new : World) → IsHanded P w → Runs P w actions replies new → IsHanded P new
 runs_keep P [] [] w new handed runs = subst (IsHanded P) (sym runs) handed
 runs_keep P [] (r ∷ replies) w new handed runs = absurd runs
 runs_keep P (action ∷ actions) [] w new handed runs = absurd runs
 runs_keep P (action ∷ actions) (r ∷ replies) w new handed runs = runs_keep P actions replies runs.0 new (keeps_handed P w runs.0 action r handed runs.1) runs.2
 
-pub holds_handed : HoldsHanded
-holds_handed P workers budget actions replies w runs = runs_keep P actions replies (opening P workers budget) w (opens_handed P workers budget) runs

@@ -14,7 +14,7 @@ use Rattle.cfn_model.proofs.Bounding.{closed_leaves}
 use Rattle.cfn_core.specs.Pool.{Mark, Free, Out, PoolTree, Leaf, Shut, Fork, tree_of, Replaced, grant_of, granted, numbered, recalled, swept, HasSmallCosts, Tame, Task, Piece, IsPiece, View, Pool, IsSound, IsCovered}
 use Rattle.cfn_core.specs.World.{World, price, cheaper, view_at, note_at, least_price, shares_of, KeepsFitting, IsView, IsWord, opening, new_view}
 use Rattle.cfn_core.specs.Actions.{Action, Look, Lower, Note, Meet, Take, Give, Back, Recall, Sweep, Reply, IsAction, Answers, looked, lowered, noted, joined, met, task_for, taken, Takes, take_idle, take_empty, take_spent, take_again, take_task, CanGive, given, Gives, give_idle, give_gone, give_done, returned, Returns, back_not, back_done, all_back, cleared, Acts, Runs, AreActions}
-use Rattle.cfn_core.specs.Laws.{IsWorld, Opens, Keeps, Holds, Covers, IsValidAtWord}
+use Rattle.cfn_core.specs.Laws.{IsWorld, Opens, Keeps}
 use Rattle.cfn_core.proofs.Placing.{replaced_valid, replaced_strict, replaced_tame, replaced_count, replaced_granted, numbered_is, numbered_granted, recalled_is, recalled_granted, swept_valid, swept_strict, swept_tame, swept_granted, swept_count}
 use Rattle.cfn_core.proofs.Views.{by_option, set_at, behind_at, nothing, same_some, price_low, cheaper_price, cheaper_keeps, least_lowered, least_same, least_met, shares_set, opening_least, opening_shares, opening_view}
 
@@ -256,15 +256,6 @@ keeps P w new (Back task) r brings holds acts = returns_keeps P w new task r hol
 keeps P w new Recall r brings holds acts = left_as (recall_kept P w holds) acts
 keeps P w new Sweep r brings holds acts = left_as (sweep_kept P w holds) acts
 
-pub covers : Covers
-covers P w network holds values fits closed = elim (cases_lt (cost P values) w.pool.view.seen) [
-  | inl cheap ↦ absurd (closed_leaves P (tree_of w.pool.tree) w.pool.view.seen values network holds.sound.seen holds.sound.valid fits cheap closed)
-  | inr dear ↦ dear
-]
-
-pub valid_word : IsValidAtWord
-valid_word P w holds = valid_at_word P w holds
-
 -- the opening
 opening_small : (P : Network) → IsNetwork P → HasSmallCosts P []
 opening_small P network = record {
@@ -291,13 +282,10 @@ opens P workers budget network few = record {
 }
 
 -- every list of actions
-runs_keep : (P : Network) (actions : List Action) (replies : List Reply) (w new : World) → AreActions P actions → IsWorld P w → Runs P w actions replies new → IsWorld P new
+pub runs_keep : (P : Network) (actions : List Action) (replies : List Reply) (w new : World) → AreActions P actions → IsWorld P w → Runs P w actions replies new → IsWorld P new
 runs_keep P [] [] w new are holds runs = subst (IsWorld P) (sym runs) holds
 runs_keep P [] (r ∷ replies) w new are holds runs = absurd runs
 runs_keep P (action ∷ actions) [] w new are holds runs = absurd runs
 runs_keep P (action ∷ actions) (r ∷ replies) w new are holds runs =
     runs_keep P actions replies runs.0 new are.1 (keeps P w runs.0 action r are.0 holds runs.1) runs.2
 
-pub holds : Holds
-holds P workers budget actions replies w network few are runs =
-    runs_keep P actions replies (opening P workers budget) w are (opens P workers budget network few) runs

@@ -5,3 +5,4 @@ pub mod Handing
 pub mod Refusing
 pub mod Deciding
 pub mod Answering
+pub mod Always

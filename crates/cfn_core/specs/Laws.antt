@@ -1,10 +1,10 @@
 -- What holds of the world, whatever the workers do and in whatever order.
-use Rattle.std.specs.Prelude.{◌≡◌, ◌≢◌, ℕ, ◌+◌, ◌≤◌, ◌⊎◌, List, [], ◌∷◌, if◌then◌else◌, ◌==◌}
+use Rattle.std.specs.Prelude.{◌≡◌, ◌≢◌, ℕ, ◌+◌, ◌<◌, ◌≤◌, ◌⊎◌, min, List, [], ◌∷◌, if◌then◌else◌, ◌==◌}
 use Rattle.std.specs.List.{AllByRecursion}
 use Rattle.cfn_model.specs.declared.step.Event.{Event}
 use Rattle.cfn_model.specs.Sums.{floor}
-use Rattle.cfn_model.specs.Network.{Network, IsNetwork}
-use Rattle.cfn_model.specs.Tree.{Valid}
+use Rattle.cfn_model.specs.Network.{Network, IsNetwork, Fits, Least, cost}
+use Rattle.cfn_model.specs.Tree.{Valid, bound, open_leaves}
 use Rattle.cfn_core.specs.Pool.{Mark, Out, PoolTree, Leaf, Shut, Fork, tree_of, IsLeaf, Task, Piece, IsSound, IsCovered}
 use Rattle.cfn_core.specs.World.{World, IsWord, opening}
 use Rattle.cfn_core.specs.Actions.{Action, Look, Lower, Note, Meet, Take, Give, Back, Recall, Sweep, Reply, Gone, IsAction, IsOut, Acts, Runs, AreActions}
@@ -21,17 +21,9 @@ Opens = (P : Network) (workers budget : ℕ) → IsNetwork P → workers ≤ 64 
 abbrev pub Keeps : Type 0
 Keeps = (P : Network) (w new : World) (action : Action) (r : Reply) → IsAction P action → IsWorld P w → Acts P w action r new → IsWorld P new
 
--- It holds after every list of actions from the opening.
-abbrev pub Holds : Type 0
-Holds = (P : Network) (workers budget : ℕ) (actions : List Action) (replies : List Reply) (w : World) → IsNetwork P → workers ≤ 64 → AreActions P actions →
-    Runs P (opening P workers budget) actions replies w → IsWorld P w
-
--- Every assignment is covered, and the tree is valid at the word.
-abbrev pub Covers : Type 0
-Covers = (P : Network) (w : World) → IsNetwork P → IsWorld P w → IsCovered P w.pool
-
-abbrev pub IsValidAtWord : Type 0
-IsValidAtWord = (P : Network) (w : World) → IsWorld P w → Valid P [] (tree_of w.pool.tree) w.word
+-- The lower bound at the opening: the floor of the whole network, or the upper bound where that is less.
+abbrev pub opening_bound : Network → ℕ
+opening_bound P = min P.upper (floor P [])
 
 -- How many open leaves have a number.
 abbrev pub leaves_with : ℕ → PoolTree → ℕ
@@ -57,9 +49,31 @@ OpensHanded = (P : Network) (workers budget : ℕ) → IsHanded P (opening P wor
 abbrev pub KeepsHanded : Type 0
 KeepsHanded = (P : Network) (w new : World) (action : Action) (r : Reply) → IsHanded P w → Acts P w action r new → IsHanded P new
 
-abbrev pub HoldsHanded : Type 0
-HoldsHanded = (P : Network) (workers budget : ℕ) (actions : List Action) (replies : List Reply) (w : World) →
-    Runs P (opening P workers budget) actions replies w → IsHanded P w
+-- What holds of the world that is left after any list of actions. The pool is sound and the word keeps its rule. Every
+-- assignment is covered. The tree is valid at the word, which may be less than what the pool has seen, so its bound
+-- there is at most every cost. The opening's lower bound is at most every cost, and at most the floor of each open leaf.
+-- Leaves have numbers of their own, and the task of each leaf that is out is in hand.
+pub record Always (P : Network) (w : World) : Type 0 where
+  pub world : IsWorld P w
+  pub covered : IsCovered P w.pool
+  pub valid : Valid P [] (tree_of w.pool.tree) w.word
+  pub bound : (values : List ℕ) → Fits P.sizes values → bound P [] (tree_of w.pool.tree) w.word ≤ cost P values
+  pub row : (values : List ℕ) → Fits P.sizes values → opening_bound P ≤ cost P values
+  pub floors : (n : ℕ) (mark : Mark) (path : List Event) → IsLeaf w.pool.tree [] n mark path → opening_bound P ≤ floor P path
+  pub handed : IsHanded P w
+
+abbrev pub Holds : Type 0
+Holds = (P : Network) (workers budget : ℕ) (actions : List Action) (replies : List Reply) (w : World) → IsNetwork P → workers ≤ 64 → AreActions P actions →
+    Runs P (opening P workers budget) actions replies w → Always P w
+
+-- Where the word is below the upper bound, an assignment that is kept has it as its cost. So where no leaf is open the
+-- word is the least cost, or every assignment costs the upper bound.
+abbrev pub IsFound : Type 0
+IsFound = (P : Network) (w : World) → IsWorld P w → w.word < P.upper → (values : List ℕ) × Fits P.sizes values × (cost P values ≡ w.word)
+
+abbrev pub Solves : Type 0
+Solves = (P : Network) (w : World) → IsNetwork P → IsWorld P w → open_leaves (tree_of w.pool.tree) ≡ 0 →
+    (w.word < P.upper → Least P w.word) × (w.word ≡ P.upper → (values : List ℕ) → Fits P.sizes values → cost P values ≡ P.upper)
 
 -- No action calls the leaves back.
 abbrev pub IsNoRecall : Action → Type 0

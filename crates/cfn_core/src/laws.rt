@@ -1,28 +1,32 @@
 //! What holds of the pool machine, each the contract of a function with nothing to do.
 
-ghost use Rattle.cfn_core.specs.Laws.{Opens, Keeps, Holds, Covers, IsValidAtWord, OpensHanded, KeepsHanded, HoldsHanded, NeverGone, AnswersAll, AnswersOnce};
+ghost use Rattle.cfn_core.specs.Laws.{Opens, Keeps, OpensHanded, KeepsHanded, Holds, IsFound, Solves, NeverGone, AnswersAll, AnswersOnce};
 
-/// At the opening the pool is sound and the word keeps its rule, and each action of a worker keeps both. So both hold
-/// after every list of actions, in whatever order the workers act.
-pub fn every_order()
+/// At the opening the pool is sound and the word keeps its rule, and each action of a worker keeps both.
+pub fn each_action()
     ensures opens { Opens }
     ensures keeps { Keeps }
-    ensures holds { Holds }
-{}
-
-/// Then no assignment that costs less than the threshold that the pool has seen has a closed leaf, and the tree is
-/// valid at the word, which may be lower than that threshold.
-pub fn covered()
-    ensures covers { Covers }
-    ensures at_word { IsValidAtWord }
 {}
 
 /// Open leaves have numbers of their own, and the task of each leaf that is out is in some worker's hand: at the
-/// opening, after each action, and so after every list of actions.
+/// opening, and after each action.
 pub fn in_hand()
     ensures opens { OpensHanded }
     ensures keeps { KeepsHanded }
-    ensures holds { HoldsHanded }
+{}
+
+/// What holds after every list of actions from the opening, in whatever order the workers act: the pool is sound, every
+/// assignment is covered, the word keeps its rule, the tree is valid at the word, its bound there is at most every cost,
+/// and the task of each leaf that is out is in hand.
+pub fn every_order()
+    ensures { Holds }
+{}
+
+/// Where the word is below the upper bound, an assignment has it as its cost; where no leaf is open besides, it is the
+/// least cost. Where no leaf is open and the word is the upper bound, every assignment costs that.
+pub fn solved()
+    ensures found { IsFound }
+    ensures solves { Solves }
 {}
 
 /// As long as no action calls the leaves back, a piece of a task that is in hand is never answered `Gone`.

@@ -1,4 +1,4 @@
-use Rattle.cfn_core.proofs.Handing.{opens_handed, keeps_handed, holds_handed}
+use Rattle.cfn_core.proofs.Handing.{opens_handed, keeps_handed}
 use Rattle.cfn_core.proofs.laws.in_hand.Goals as goal
 
 pub returns-clause-opens : goal.returns-clause-opens
@@ -6,6 +6,3 @@ returns-clause-opens c = opens_handed
 
 pub returns-clause-keeps : goal.returns-clause-keeps
 returns-clause-keeps c = keeps_handed
-
-pub returns-clause-holds : goal.returns-clause-holds
-returns-clause-holds c = holds_handed
