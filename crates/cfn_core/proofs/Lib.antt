@@ -6,3 +6,4 @@ pub mod Refusing
 pub mod Deciding
 pub mod Answering
 pub mod Always
+pub mod Examples

@@ -2,3 +2,4 @@ pub mod Pool
 pub mod World
 pub mod Actions
 pub mod Laws
+pub mod Examples

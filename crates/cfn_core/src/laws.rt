@@ -1,5 +1,6 @@
 //! What holds of the pool machine, each the contract of a function with nothing to do.
 
+ghost use Rattle.cfn_core.specs.Examples.{SplitSpends, RecallRefuses};
 ghost use Rattle.cfn_core.specs.Laws.{Opens, Keeps, OpensHanded, KeepsHanded, Holds, IsFound, Solves, NeverGone, AnswersAll, AnswersOnce};
 
 /// At the opening the pool is sound and the word keeps its rule, and each action of a worker keeps both.
@@ -38,4 +39,11 @@ pub fn never_gone()
 pub fn one_answer()
     ensures all { AnswersAll }
     ensures once { AnswersOnce }
+{}
+
+/// Two lists of actions with their answers: a split spends a budget of 1, and a piece of a leaf that was called back is
+/// refused and its leaf handed out again.
+pub fn examples()
+    ensures spent { SplitSpends }
+    ensures refused { RecallRefuses }
 {}
