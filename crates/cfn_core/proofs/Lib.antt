@@ -7,3 +7,4 @@ pub mod Deciding
 pub mod Answering
 pub mod Always
 pub mod Examples
+pub mod Tasks

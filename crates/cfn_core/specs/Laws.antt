@@ -5,9 +5,9 @@ use Rattle.cfn_model.specs.declared.step.Event.{Event}
 use Rattle.cfn_model.specs.Sums.{floor}
 use Rattle.cfn_model.specs.Network.{Network, IsNetwork, Fits, Least, cost}
 use Rattle.cfn_model.specs.Tree.{Valid, bound, open_leaves}
-use Rattle.cfn_core.specs.Pool.{Mark, Out, PoolTree, Leaf, Shut, Fork, tree_of, IsLeaf, Task, Piece, IsSound, IsCovered}
+use Rattle.cfn_core.specs.Pool.{Mark, Out, PoolTree, Leaf, Shut, Fork, tree_of, IsLeaf, Task, IsTask, Piece, IsSound, IsCovered}
 use Rattle.cfn_core.specs.World.{World, IsWord, opening}
-use Rattle.cfn_core.specs.Actions.{Action, Look, Lower, Note, Meet, Take, Give, Back, Recall, Sweep, Reply, Gone, IsAction, IsOut, Acts, Runs, AreActions}
+use Rattle.cfn_core.specs.Actions.{Action, Look, Lower, Note, Meet, Take, Give, Back, Recall, Sweep, Reply, Given, Gone, IsAction, IsOut, Acts, Runs, AreActions}
 
 -- The pool is sound, and the word keeps its rule.
 pub record IsWorld (P : Network) (w : World) : Type 0 where
@@ -98,3 +98,8 @@ AnswersAll = (P : Network) (w : World) (action : Action) → (r : Reply) × (new
 
 abbrev pub AnswersOnce : Type 0
 AnswersOnce = (P : Network) (w : World) (action : Action) (r other : Reply) (new another : World) → IsHanded P w → Acts P w action r new → Acts P w action other another → (r ≡ other) × (new ≡ another)
+
+-- A task that is handed out keeps what a task keeps, for a worker that is there and no more nodes than it wants.
+abbrev pub HandsOutTasks : Type 0
+HandsOutTasks = (P : Network) (w new : World) (worker want : ℕ) (task : Task) → IsWorld P w → Acts P w (Take worker want) (Given task) new →
+    IsTask P task × (task.worker ≡ worker) × (task.grant ≤ want)

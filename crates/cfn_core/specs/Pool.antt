@@ -5,7 +5,7 @@ use Rattle.cfn_model.specs.declared.step.Event.{Event}
 use Rattle.cfn_model.specs.declared.step.Event.TheVariants.{Did, Is, IsNot}
 use Rattle.cfn_model.specs.Network.{Network, Fits, cost}
 use Rattle.cfn_model.specs.Sums.{floor, unary, residual, is_live, is_live_tuple}
-use Rattle.cfn_model.specs.Steps.{IsValue, after}
+use Rattle.cfn_model.specs.Steps.{IsValue, Allowed, after}
 use Rattle.cfn_model.specs.Network.{dims_at}
 use Rattle.cfn_model.specs.Tree.{Tree, Open, Closed, Split, IsClosed, leaf, count, open_leaves, Valid, Strict}
 
@@ -101,6 +101,25 @@ pub record Task : Type 0 where
   pub grant : ℕ
   pub floor : ℕ
   pub path : List Event
+
+-- Each step of a path is allowed at k after what stands before it, and each decision is in range.
+abbrev pub RunsAlong : Network → List Event → ℕ → Type 0
+RunsAlong P [] k = Unit {0}
+RunsAlong P (Did step ∷ path) k = Allowed P path k step × RunsAlong P path k
+RunsAlong P (Is x a ∷ path) k = IsValue P x a × RunsAlong P path k
+RunsAlong P (IsNot x a ∷ path) k = IsValue P x a × RunsAlong P path k
+
+-- Costs stay small along a path.
+abbrev pub TameAlong : Network → List Event → Type 0
+TameAlong P [] = HasSmallCosts P []
+TameAlong P (event ∷ path) = HasSmallCosts P (event ∷ path) × TameAlong P path
+
+-- What a task keeps: its path runs at some threshold and is tame, and it may make a node at least.
+pub record IsTask (P : Network) (task : Task) : Type 0 where
+  pub runs : (k : ℕ) × RunsAlong P task.path k
+  pub tame : TameAlong P task.path
+  pub floor : task.floor ≡ floor P task.path
+  pub some : 1 ≤ task.grant
 
 -- What a worker made of a task: the tree below its leaf, and the threshold that it was made at.
 pub record Piece : Type 0 where

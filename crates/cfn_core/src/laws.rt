@@ -1,7 +1,7 @@
 //! What holds of the pool machine, each the contract of a function with nothing to do.
 
 ghost use Rattle.cfn_core.specs.Examples.{SplitSpends, RecallRefuses};
-ghost use Rattle.cfn_core.specs.Laws.{Opens, Keeps, OpensHanded, KeepsHanded, Holds, IsFound, Solves, NeverGone, AnswersAll, AnswersOnce};
+ghost use Rattle.cfn_core.specs.Laws.{Opens, Keeps, OpensHanded, KeepsHanded, Holds, IsFound, Solves, HandsOutTasks, NeverGone, AnswersAll, AnswersOnce};
 
 /// At the opening the pool is sound and the word keeps its rule, and each action of a worker keeps both.
 pub fn each_action()
@@ -28,6 +28,12 @@ pub fn every_order()
 pub fn solved()
     ensures found { IsFound }
     ensures solves { Solves }
+{}
+
+/// The path of a task that is handed out runs at some threshold, with small costs all along it, and its grant is 1 to
+/// what its worker wants.
+pub fn tasks()
+    ensures { HandsOutTasks }
 {}
 
 /// As long as no action calls the leaves back, a piece of a task that is in hand is never answered `Gone`.
