@@ -1,20 +1,19 @@
 -- What holds of the world after any list of actions, and what it says where no leaf is open.
-use Rattle.std.proofs.Common.{◌≡◌, ℕ, suc, ◌+◌, ◌<◌, ◌≤◌, inl, inr, min, List, [], ◌∷◌, refl, sym, ap, ◌∙◌, subst, arith, Option, Some, None}
+use Rattle.std.proofs.Common.{◌≡◌, ℕ, suc, ◌<◌, ◌≤◌, inl, inr, List, [], ◌∷◌, refl, ap, arith, Option, Some, None}
 use Rattle.std.proofs.lemmas.Bool.{cases_lt}
 use Rattle.cfn_model.specs.declared.step.Step.{Step}
 use Rattle.cfn_model.specs.declared.step.Event.{Event}
 use Rattle.cfn_model.specs.declared.step.Event.TheVariants.{Did, Is, IsNot}
-use Rattle.cfn_model.specs.Network.{Network, IsNetwork, Fits, cost, Least}
+use Rattle.cfn_model.specs.Network.{Network, IsNetwork, Fits, cost}
 use Rattle.cfn_model.specs.Sums.{floor}
 use Rattle.cfn_model.specs.Steps.{after}
 use Rattle.cfn_model.specs.Tree.{Tree, Open, Closed, Split, bound, open_leaves}
 use Rattle.cfn_model.proofs.Bounding.{bounds, closed_leaves}
 use Rattle.cfn_core.specs.Pool.{Mark, PoolTree, Leaf, Shut, Fork, tree_of, IsLeaf, View, IsCovered}
-use Rattle.cfn_core.specs.World.{World, price, view_at, price_of, least_price, KeepsFitting, opening}
-use Rattle.cfn_core.specs.Actions.{Action, Reply, AreActions, Runs}
-use Rattle.cfn_core.specs.Laws.{IsWorld, opening_bound, Always, Holds, IsFound, Solves}
-use Rattle.cfn_core.proofs.Views.{price_low, least_low}
-use Rattle.cfn_core.proofs.Keeping.{opens, valid_at_word} 
+use Rattle.cfn_core.specs.World.{World, price, view_at, least_price, KeepsFitting, opening}
+use Rattle.cfn_core.specs.Laws.{IsWorld, Holds, IsFound, Solves}
+use Rattle.cfn_core.proofs.Views.{least_low}
+use Rattle.cfn_core.proofs.Keeping.{opens, valid_at_word}
 use Rattle.cfn_core.proofs.Keeping as keeping
 use Rattle.cfn_core.proofs.Handing as handing
 use Rattle.cfn_core.proofs.Handing.{opens_handed}
@@ -85,5 +84,5 @@ no_open_bound P (Split block x a first second) history k none =
 pub solves : Solves
 solves P w network world none =
     let from : (values : List ℕ) → Fits P.sizes values → w.word ≤ cost P values = λ values fits.
-        (let b = bound_at_word P w network world values fits in let e = no_open_bound P (tree_of w.pool.tree) [] w.word none in omega (arith, b, e)) in
+    (let b = bound_at_word P w network world values fits in let e = no_open_bound P (tree_of w.pool.tree) [] w.word none in omega (arith, b, e)) in
     (λ below. record { reached = found P w world below; below = below; bound = from }, λ is values fits. omega (arith, is, from values fits))

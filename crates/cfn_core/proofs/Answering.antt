@@ -1,15 +1,14 @@
 -- Each action has an answer in every world, and one alone where leaves have numbers of their own.
-use Rattle.std.proofs.Common.{◌≡◌, ◌≢◌, ℕ, ◌+◌, ◌<◌, ◌≤◌, ◌⊎◌, inl, inr, List, [], ◌∷◌, length, refl, sym, ap, ap₂, ◌∙◌, subst, arith, Option, Some, None, MatchOption}
+use Rattle.std.proofs.Common.{◌≡◌, ℕ, ◌+◌, ◌<◌, ◌≤◌, ◌⊎◌, inl, inr, List, [], ◌∷◌, length, refl, sym, ap, ap₂, ◌∙◌, subst, arith, Option, Some, None, MatchOption}
 use Rattle.std.proofs.lemmas.Bool.{cases_lt, cases_eq}
 use Rattle.cfn_model.specs.declared.step.Event.{Event}
 use Rattle.cfn_model.specs.declared.step.Event.TheVariants.{Is, IsNot}
 use Rattle.cfn_model.specs.Network.{Network}
-use Rattle.cfn_model.specs.Sums.{floor}
 use Rattle.cfn_model.specs.Steps.{after}
 use Rattle.cfn_model.specs.Tree.{open_leaves}
-use Rattle.cfn_core.specs.Pool.{Mark, Free, Out, PoolTree, Leaf, Shut, Fork, tree_of, IsLeaf, Replaced, granted, numbered, Task, Piece, View}
+use Rattle.cfn_core.specs.Pool.{Mark, Free, Out, PoolTree, Leaf, Shut, Fork, tree_of, IsLeaf, Replaced, granted, numbered, Task, Piece}
 use Rattle.cfn_core.specs.World.{World, view_at, note_at}
-use Rattle.cfn_core.specs.Actions.{Action, Look, Lower, Note, Meet, Take, Give, Back, Recall, Sweep, Reply, Idle, Seen, Noted, Given, Empty, Spent, Again, Gone, NotOut, Done, Answers, IsFirst, CanTake, task_for, taken, Takes, take_idle, take_empty, take_spent, take_again, take_task, CanGive, given, Gives, give_idle, give_gone, give_done, returned, Returns, back_not, back_done, IsOut, Acts}
+use Rattle.cfn_core.specs.Actions.{Look, Lower, Note, Meet, Take, Give, Back, Recall, Sweep, Reply, Idle, Given, Empty, Spent, Again, Gone, NotOut, Done, Answers, CanTake, task_for, taken, Takes, take_idle, take_empty, take_spent, take_again, take_task, given, Gives, give_idle, give_gone, give_done, returned, Returns, back_not, back_done}
 use Rattle.cfn_core.specs.Laws.{leaves_with, IsHanded, AnswersAll, AnswersOnce}
 use Rattle.cfn_core.proofs.Deciding.{Precedes, find_some, find_this, can_replace, find_first}
 use Rattle.cfn_core.proofs.Handing.{leaf_counts, replaced_leaf}
@@ -103,10 +102,10 @@ one_tree n mark path place (Fork block x a first second) history new other one (
     at.2 ∙ ap (λ t. Fork block x a first t) (one_tree n mark path place second (IsNot x a ∷ after block history) at.0 here.0 (omega (arith, one)) at.1 here.1) ∙ sym here.2
 one_tree n mark path place (Fork block x a first second) history new other one (inl at) (inr here) =
     absurd (let c = leaf_counts first (Is x a ∷ after block history) n mark path (replaced_leaf n mark path place first (Is x a ∷ after block history) at.0 at.1) in
-        let d = leaf_counts second (IsNot x a ∷ after block history) n mark path (replaced_leaf n mark path place second (IsNot x a ∷ after block history) here.0 here.1) in omega (arith, one, c, d))
+    let d = leaf_counts second (IsNot x a ∷ after block history) n mark path (replaced_leaf n mark path place second (IsNot x a ∷ after block history) here.0 here.1) in omega (arith, one, c, d))
 one_tree n mark path place (Fork block x a first second) history new other one (inr at) (inl here) =
     absurd (let c = leaf_counts second (IsNot x a ∷ after block history) n mark path (replaced_leaf n mark path place second (IsNot x a ∷ after block history) at.0 at.1) in
-        let d = leaf_counts first (Is x a ∷ after block history) n mark path (replaced_leaf n mark path place first (Is x a ∷ after block history) here.0 here.1) in omega (arith, one, c, d))
+    let d = leaf_counts first (Is x a ∷ after block history) n mark path (replaced_leaf n mark path place first (Is x a ∷ after block history) here.0 here.1) in omega (arith, one, c, d))
 
 leaf_open : (tree : PoolTree) (history : List Event) (n : ℕ) (mark : Mark) (path : List Event) → IsLeaf tree history n mark path → 0 < open_leaves (tree_of tree)
 leaf_open (Leaf number m) history n mark path at = omega arith
@@ -167,9 +166,9 @@ takes_once P w worker want r other new another handed (take_task n path task tre
     let paths : path' ≡ path = (one_path n Free Free path' path w.pool.tree [] (handed.different n) leaf' j.leaf).1 in
     let tasks : task' ≡ task = is' ∙ ap (λ x. task_for P w worker want x path') numbers ∙ ap (task_for P w worker want n) paths ∙ sym is in
     let moved : Replaced w.pool.tree [] n Free path (Leaf n (Out worker task.grant)) tree' =
-        subst (λ (t : Task). Replaced w.pool.tree [] n Free path (Leaf n (Out worker t.grant)) tree') tasks
-        (subst (λ p. Replaced w.pool.tree [] n Free p (Leaf n (Out worker task'.grant)) tree') paths
-        (subst (λ x. Replaced w.pool.tree [] x Free path' (Leaf x (Out worker task'.grant)) tree') numbers at')) in
+    subst (λ (t : Task). Replaced w.pool.tree [] n Free path (Leaf n (Out worker t.grant)) tree') tasks
+    (subst (λ p. Replaced w.pool.tree [] n Free p (Leaf n (Out worker task'.grant)) tree') paths
+    (subst (λ x. Replaced w.pool.tree [] x Free path' (Leaf x (Out worker task'.grant)) tree') numbers at')) in
     let trees : tree' ≡ tree = one_tree n Free path (Leaf n (Out worker task.grant)) w.pool.tree [] tree' tree (handed.different n) moved at in
     (a.reply ∙ ap Given (sym tasks) ∙ sym b.reply, a.world ∙ ap₂ (taken w) (sym tasks) (sym trees) ∙ sym b.world)
 
@@ -197,9 +196,9 @@ returns_once P w task r other new another handed (back_done path tree at a) (bac
 returns_once P w task r other new another handed (back_done path tree at a) (back_done path' tree' at' b) =
     let mark = Out task.worker task.grant in
     let paths : path' ≡ path = (one_path task.leaf mark mark path' path w.pool.tree [] (handed.different task.leaf)
-        (replaced_leaf task.leaf mark path' (Leaf task.leaf Free) w.pool.tree [] tree' at') (replaced_leaf task.leaf mark path (Leaf task.leaf Free) w.pool.tree [] tree at)).1 in
+    (replaced_leaf task.leaf mark path' (Leaf task.leaf Free) w.pool.tree [] tree' at') (replaced_leaf task.leaf mark path (Leaf task.leaf Free) w.pool.tree [] tree at)).1 in
     let trees = one_tree task.leaf mark path (Leaf task.leaf Free) w.pool.tree [] tree tree' (handed.different task.leaf) at
-        (subst (λ p. Replaced w.pool.tree [] task.leaf mark p (Leaf task.leaf Free) tree') paths at') in
+    (subst (λ p. Replaced w.pool.tree [] task.leaf mark p (Leaf task.leaf Free) tree') paths at') in
     (a.reply ∙ sym b.reply, a.world ∙ ap (returned w task) trees ∙ sym b.world)
 
 pub answers_once : AnswersOnce

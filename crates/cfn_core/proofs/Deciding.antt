@@ -1,7 +1,6 @@
 -- Paths, marks and leaves can be told apart.
-use Rattle.std.proofs.Common.{◌≡◌, ◌≢◌, ℕ, ◌+◌, ◌<◌, ◌≤◌, ◌⊎◌, inl, inr, List, [], ◌∷◌, refl, sym, ap, ap₂, ◌∙◌, subst, arith, if◌then◌else◌, ◌==◌}
+use Rattle.std.proofs.Common.{◌≡◌, ◌≢◌, ℕ, ◌<◌, ◌≤◌, ◌⊎◌, inl, inr, List, [], ◌∷◌, refl, sym, ap, ap₂, ◌∙◌, arith, if◌then◌else◌, ◌==◌}
 use Rattle.std.proofs.lemmas.Bool.{cases_lt, cases_eq}
-use Rattle.cfn_model.specs.declared.step.Step.{Step}
 use Rattle.cfn_model.specs.declared.step.Step.TheVariants.{Project, Extend, Lift, CutValue, CutTuple}
 use Rattle.cfn_model.specs.declared.step.Event.{Event}
 use Rattle.cfn_model.specs.declared.step.Event.TheVariants.{Did, Is, IsNot}
@@ -168,34 +167,54 @@ precedes_then P n m l path other last (inr h) (inr k) = inr (h.0 ∙ k.0, omega 
 
 pub find_first : (P : Network) (tree : PoolTree) (history : List Event) →
     ((n : ℕ) × (path : List Event) × IsFirstOf P tree history n path) ⊎ ((n : ℕ) (path : List Event) → IsLeaf tree history n Free path → ⊥)
-find_first P (Leaf number Free) history = inl (number, history, record {
-  leaf = (refl, refl, refl);
-  first = λ m other at. inr (ap (floor P) (sym at.2), omega (arith, at.0));
-})
+find_first P (Leaf number Free) history = inl (
+  number,
+  history,
+  record {
+    leaf = (refl, refl, refl);
+    first = λ m other at. inr (ap (floor P) (sym at.2), omega (arith, at.0));
+  },
+)
 find_first P (Leaf number (Out w g)) history = inr (λ n path at. (let e = at.1 in cc))
 find_first P (Shut block) history = inr (λ n path at. at)
 find_first P (Fork block x a first second) history = elim (find_first P first (Is x a ∷ after block history)) [
   | inr none ↦ elim (find_first P second (IsNot x a ∷ after block history)) [
     | inr never ↦ inr (λ n path at. elim at [ inl here ↦ none n path here | inr here ↦ never n path here ])
-    | inl there ↦ inl (there.0, there.1, record {
+    | inl there ↦ inl (
+      there.0,
+      there.1,
+      record {
         leaf = inr there.2.leaf;
         first = λ m other at. elim at [ inl here ↦ absurd (none m other here) | inr here ↦ there.2.first m other here ];
-      })
+      },
+    )
   ]
   | inl here ↦ elim (find_first P second (IsNot x a ∷ after block history)) [
-    | inr never ↦ inl (here.0, here.1, record {
+    | inr never ↦ inl (
+      here.0,
+      here.1,
+      record {
         leaf = inl here.2.leaf;
         first = λ m other at. elim at [ inl in_first ↦ here.2.first m other in_first | inr in_second ↦ absurd (never m other in_second) ];
-      })
+      },
+    )
     | inl there ↦ elim (precedes_total P here.0 there.0 here.1 there.1) [
-      | inl before ↦ inl (here.0, here.1, record {
+      | inl before ↦ inl (
+        here.0,
+        here.1,
+        record {
           leaf = inl here.2.leaf;
           first = λ m other at. elim at [ inl in_first ↦ here.2.first m other in_first | inr in_second ↦ precedes_then P here.0 there.0 m here.1 there.1 other before (there.2.first m other in_second) ];
-        })
-      | inr behind ↦ inl (there.0, there.1, record {
+        },
+      )
+      | inr behind ↦ inl (
+        there.0,
+        there.1,
+        record {
           leaf = inr there.2.leaf;
           first = λ m other at. elim at [ inl in_first ↦ precedes_then P there.0 here.0 m there.1 here.1 other behind (here.2.first m other in_first) | inr in_second ↦ there.2.first m other in_second ];
-        })
+        },
+      )
     ]
   ]
 ]

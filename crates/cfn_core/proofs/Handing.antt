@@ -1,7 +1,6 @@
 -- Numbers of open leaves stay different, and the tasks of the leaves that are out stay in hand.
-use Rattle.std.proofs.Common.{◌≡◌, ◌≢◌, ℕ, zero, suc, ◌+◌, ◌<◌, ◌≤◌, ◌⊎◌, inl, inr, List, [], ◌∷◌, refl, sym, ap, ap₂, ◌∙◌, subst, arith, true, false, Bool, not, nat_le, if◌then◌else◌, ◌==◌, Option, Some, None, filter, eq-eqb}
+use Rattle.std.proofs.Common.{◌≡◌, ◌≢◌, ℕ, ◌+◌, ◌<◌, ◌≤◌, ◌⊎◌, inl, inr, List, [], ◌∷◌, refl, sym, ap, ap₂, ◌∙◌, subst, arith, true, false, Bool, not, nat_le, if◌then◌else◌, ◌==◌, eq-eqb}
 use Rattle.std.proofs.lemmas.Bool.{cases_lt}
-use Rattle.std.specs.List.{AllByRecursion}
 use Rattle.cfn_model.specs.declared.step.Event.{Event}
 use Rattle.cfn_model.specs.declared.step.Event.TheVariants.{Is, IsNot}
 use Rattle.cfn_model.specs.Network.{Network}
@@ -9,9 +8,9 @@ use Rattle.cfn_model.specs.Sums.{floor}
 use Rattle.cfn_model.specs.Steps.{after}
 use Rattle.cfn_model.specs.Tree.{Tree, Open, Closed, Split, open_leaves}
 use Rattle.cfn_core.specs.Pool.{Mark, Free, Out, PoolTree, Leaf, Shut, Fork, IsLeaf, Replaced, numbered, recalled, swept, Task, Piece}
-use Rattle.cfn_core.specs.World.{World, view_at, opening}
-use Rattle.cfn_core.specs.Actions.{Action, Look, Lower, Note, Meet, Take, Give, Back, Recall, Sweep, Reply, Idle, Done, Gone, Answers, without, task_for, taken, Takes, take_idle, take_empty, take_spent, take_again, take_task, given, Gives, give_idle, give_gone, give_done, returned, Returns, back_not, back_done, all_back, cleared, IsOut, Acts, Runs}
-use Rattle.cfn_core.specs.Laws.{leaves_with, IsInHand, IsHanded, OpensHanded, KeepsHanded, IsNoRecall, NeverGone}
+use Rattle.cfn_core.specs.World.{World, view_at}
+use Rattle.cfn_core.specs.Actions.{Action, Look, Lower, Note, Meet, Take, Give, Back, Recall, Sweep, Reply, Answers, without, task_for, taken, Takes, take_idle, take_empty, take_spent, take_again, take_task, given, Gives, give_idle, give_gone, give_done, returned, Returns, back_not, back_done, all_back, cleared, Runs}
+use Rattle.cfn_core.specs.Laws.{leaves_with, IsInHand, IsHanded, OpensHanded, KeepsHanded}
 use Rattle.cfn_core.proofs.Views.{by_option}
 
 -- a leaf counts under its number
@@ -330,4 +329,3 @@ runs_keep P [] [] w new handed runs = subst (IsHanded P) (sym runs) handed
 runs_keep P [] (r ∷ replies) w new handed runs = absurd runs
 runs_keep P (action ∷ actions) [] w new handed runs = absurd runs
 runs_keep P (action ∷ actions) (r ∷ replies) w new handed runs = runs_keep P actions replies runs.0 new (keeps_handed P w runs.0 action r handed runs.1) runs.2
-

@@ -1,19 +1,17 @@
 -- Each action keeps the pool sound and the word's rule.
-use Rattle.std.proofs.Common.{◌≡◌, ◌≢◌, ℕ, zero, suc, ◌+◌, ◌-◌, ◌<◌, ◌≤◌, ◌⊎◌, inl, inr, min, List, [], ◌∷◌, length, refl, sym, ap, ◌∙◌, subst, arith, Option, Some, None, slice_set, ◌^◌}
+use Rattle.std.proofs.Common.{◌≡◌, ℕ, ◌+◌, ◌-◌, ◌<◌, ◌≤◌, inl, inr, min, List, [], ◌∷◌, refl, sym, ap, subst, arith, Option, Some, None, slice_set, ◌^◌}
 use Rattle.std.proofs.lemmas.Int.{ints}
 use Rattle.std.specs.Prelude.{Bool, true, false, pos, ◌<ℤ◌, nat_lt}
-use Rattle.std.proofs.lemmas.Bool.{cases_lt}
 use Rattle.cfn_model.specs.declared.step.Event.{Event}
 use Rattle.cfn_model.specs.declared.step.Event.TheVariants.{Is, IsNot}
-use Rattle.cfn_model.specs.Network.{Network, IsNetwork, cost, arity, entry_at, cell, dims, function_at}
-use Rattle.cfn_model.specs.Sums.{floor, when}
+use Rattle.cfn_model.specs.Network.{Network, IsNetwork, arity, entry_at, cell, dims, function_at}
+use Rattle.cfn_model.specs.Sums.{when}
 use Rattle.cfn_model.specs.Steps.{after}
-use Rattle.cfn_model.specs.Tree.{Tree, Open, count, open_leaves, Valid, Strict}
+use Rattle.cfn_model.specs.Tree.{count, Valid, Strict}
 use Rattle.cfn_model.proofs.Lowering.{valid_lower}
-use Rattle.cfn_model.proofs.Bounding.{closed_leaves}
-use Rattle.cfn_core.specs.Pool.{Mark, Free, Out, PoolTree, Leaf, Shut, Fork, tree_of, Replaced, grant_of, granted, numbered, recalled, swept, HasSmallCosts, Tame, Task, Piece, IsPiece, View, Pool, IsSound, IsCovered}
-use Rattle.cfn_core.specs.World.{World, price, cheaper, view_at, note_at, least_price, shares_of, KeepsFitting, IsView, IsWord, opening, new_view}
-use Rattle.cfn_core.specs.Actions.{Action, Look, Lower, Note, Meet, Take, Give, Back, Recall, Sweep, Reply, IsAction, Answers, looked, lowered, noted, joined, met, task_for, taken, Takes, take_idle, take_empty, take_spent, take_again, take_task, CanGive, given, Gives, give_idle, give_gone, give_done, returned, Returns, back_not, back_done, all_back, cleared, Acts, Runs, AreActions}
+use Rattle.cfn_core.specs.Pool.{Mark, Free, Out, PoolTree, Leaf, Shut, Fork, tree_of, Replaced, grant_of, granted, numbered, recalled, HasSmallCosts, Tame, Task, Piece, IsPiece, View, Pool, IsSound}
+use Rattle.cfn_core.specs.World.{World, price, cheaper, view_at, note_at, least_price, shares_of, KeepsFitting, IsView, IsWord, new_view}
+use Rattle.cfn_core.specs.Actions.{Action, Look, Lower, Note, Meet, Take, Give, Back, Recall, Sweep, Reply, Answers, looked, lowered, noted, joined, met, task_for, taken, Takes, take_idle, take_empty, take_spent, take_again, take_task, CanGive, given, Gives, give_idle, give_gone, give_done, returned, Returns, back_not, back_done, all_back, cleared, Runs, AreActions}
 use Rattle.cfn_core.specs.Laws.{IsWorld, Opens, Keeps}
 use Rattle.cfn_core.proofs.Placing.{replaced_valid, replaced_strict, replaced_tame, replaced_count, replaced_granted, numbered_is, numbered_granted, recalled_is, recalled_granted, swept_valid, swept_strict, swept_tame, swept_granted, swept_count}
 use Rattle.cfn_core.proofs.Views.{by_option, set_at, behind_at, nothing, same_some, price_low, cheaper_price, cheaper_keeps, least_lowered, least_same, least_met, shares_set, opening_least, opening_shares, opening_view}
@@ -288,4 +286,3 @@ runs_keep P [] (r ∷ replies) w new are holds runs = absurd runs
 runs_keep P (action ∷ actions) [] w new are holds runs = absurd runs
 runs_keep P (action ∷ actions) (r ∷ replies) w new are holds runs =
     runs_keep P actions replies runs.0 new are.1 (keeps P w runs.0 action r are.0 holds runs.1) runs.2
-

@@ -1,13 +1,13 @@
 -- What a tree keeps where another takes the place of one of its leaves, where its leaves are called back, and where
 -- its free leaves are closed.
-use Rattle.std.proofs.Common.{◌≡◌, ◌≢◌, ℕ, zero, suc, ◌+◌, ◌<◌, ◌≤◌, ◌⊎◌, inl, inr, List, [], ◌∷◌, refl, sym, ap, ap₂, ◌∙◌, subst, arith, true, false, Bool, nat_le, if◌then◌else◌}
+use Rattle.std.proofs.Common.{◌≡◌, ℕ, ◌+◌, ◌≤◌, inl, inr, List, [], ◌∷◌, refl, sym, ap, ap₂, subst, arith, true, false, Bool, nat_le, if◌then◌else◌}
 use Rattle.cfn_model.specs.declared.step.Event.{Event}
-use Rattle.cfn_model.specs.declared.step.Event.TheVariants.{Did, Is, IsNot}
+use Rattle.cfn_model.specs.declared.step.Event.TheVariants.{Is, IsNot}
 use Rattle.cfn_model.specs.Network.{Network}
 use Rattle.cfn_model.specs.Sums.{floor}
 use Rattle.cfn_model.specs.Steps.{after}
 use Rattle.cfn_model.specs.Tree.{Tree, Open, Closed, Split, count, open_leaves, Valid, Strict}
-use Rattle.cfn_core.specs.Pool.{Mark, Free, Out, PoolTree, Leaf, Shut, Fork, tree_of, IsLeaf, Replaced, grant_of, granted, numbered, recalled, swept, HasEmptyOpen, Tame}
+use Rattle.cfn_core.specs.Pool.{Mark, Free, Out, PoolTree, Leaf, Shut, Fork, tree_of, Replaced, grant_of, granted, numbered, recalled, swept, HasEmptyOpen, Tame}
 
 -- a tree in the place of one leaf
 module _ (n : ℕ) (mark : Mark) (path : List Event) (place : PoolTree) where

@@ -1,16 +1,14 @@
 -- The path of a leaf runs where the tree is valid, and its costs are small where the tree is tame.
-use Rattle.std.proofs.Common.{◌≡◌, ◌≢◌, ℕ, ◌+◌, ◌-◌, ◌<◌, ◌≤◌, inl, inr, min, List, [], ◌∷◌, refl, sym, ap, ◌∙◌, subst, arith}
+use Rattle.std.proofs.Common.{◌≡◌, ℕ, inl, inr, List, [], ◌∷◌, refl, sym, ap, ◌∙◌, subst, arith}
 use Rattle.cfn_model.specs.declared.step.Step.{Step}
 use Rattle.cfn_model.specs.declared.step.Event.{Event}
 use Rattle.cfn_model.specs.declared.step.Event.TheVariants.{Did, Is, IsNot}
 use Rattle.cfn_model.specs.Network.{Network}
-use Rattle.cfn_model.specs.Sums.{floor}
 use Rattle.cfn_model.specs.Steps.{Run, after}
 use Rattle.cfn_model.specs.Tree.{Tree, Open, Closed, Split, Valid}
-use Rattle.cfn_core.specs.Pool.{Mark, Free, PoolTree, Leaf, Shut, Fork, tree_of, IsLeaf, granted, HasSmallCosts, TameBlock, Tame, RunsAlong, TameAlong, Task, IsTask}
-use Rattle.cfn_core.specs.World.{World}
-use Rattle.cfn_core.specs.Actions.{Reply, Idle, Empty, Spent, Again, Given, Answers, task_for, Takes, take_idle, take_empty, take_spent, take_again, take_task}
-use Rattle.cfn_core.specs.Laws.{IsWorld, HandsOutTasks}
+use Rattle.cfn_core.specs.Pool.{Mark, Free, PoolTree, Leaf, Shut, Fork, tree_of, IsLeaf, HasSmallCosts, TameBlock, Tame, RunsAlong, TameAlong, Task, IsTask}
+use Rattle.cfn_core.specs.Actions.{Idle, Empty, Spent, Again, Given, task_for, take_idle, take_empty, take_spent, take_again, take_task}
+use Rattle.cfn_core.specs.Laws.{HandsOutTasks}
 
 after_runs : (P : Network) (block : List Step) (history : List Event) (k : ℕ) → RunsAlong P history k → Run P history block k → RunsAlong P (after block history) k
 after_runs P [] history k along run = along

@@ -1,6 +1,6 @@
 -- What the views keep, and how many shares they have, where one of them changes.
-use Rattle.std.proofs.Common.{◌≡◌, ℕ, zero, suc, ◌+◌, ◌<◌, ◌≤◌, ◌⊎◌, inl, inr, min, List, [], ◌∷◌, ◌++◌, length, refl, sym, ap, ◌∙◌, subst, arith, true, false, Bool, nat_lt, if◌then◌else◌, Option, Some, None, slice_index_or, slice_set, replicate, MatchOption}
-use Rattle.cfn_model.specs.Network.{Network, cost}
+use Rattle.std.proofs.Common.{◌≡◌, ℕ, zero, suc, ◌+◌, ◌<◌, ◌≤◌, ◌⊎◌, inl, inr, min, List, [], ◌∷◌, ◌++◌, refl, sym, ap, ◌∙◌, arith, true, false, Bool, nat_lt, if◌then◌else◌, Option, Some, None, slice_index_or, slice_set, replicate, MatchOption}
+use Rattle.cfn_model.specs.Network.{Network}
 use Rattle.cfn_core.specs.Pool.{View}
 use Rattle.cfn_core.specs.World.{price, cheaper, view_at, price_of, least_price, share_of, shares_of, KeepsFitting}
 

@@ -5,7 +5,7 @@ use Rattle.cfn_model.specs.declared.step.Event.{Event}
 use Rattle.cfn_model.specs.Network.{Network}
 use Rattle.cfn_model.specs.Sums.{floor}
 use Rattle.cfn_model.specs.Tree.{count, open_leaves}
-use Rattle.cfn_core.specs.Pool.{Mark, Free, Out, PoolTree, Leaf, tree_of, IsLeaf, Replaced, granted, numbered, recalled, swept, Task, Piece, IsPiece, View, Pool}
+use Rattle.cfn_core.specs.Pool.{Free, Out, PoolTree, Leaf, tree_of, IsLeaf, Replaced, granted, numbered, recalled, swept, Task, Piece, IsPiece, View}
 use Rattle.cfn_core.specs.World.{World, price, cheaper, view_at, note_at, KeepsFitting}
 
 pub data Action : Type 0 where

@@ -1,6 +1,6 @@
 -- Two lists of actions with their answers, at any network whose upper bound is at most 10. A worker takes the root with
 -- one node to make, and gives it back split at the value 0 of the variable 0.
-use Rattle.std.specs.Prelude.{◌≡◌, ℕ, ◌≤◌, List, [], ◌∷◌}
+use Rattle.std.specs.Prelude.{◌≡◌, ◌≤◌, [], ◌∷◌}
 use Rattle.cfn_model.specs.Network.{Network}
 use Rattle.cfn_model.specs.Sums.{floor}
 use Rattle.cfn_model.specs.Tree.{Open, Split}

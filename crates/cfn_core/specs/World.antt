@@ -1,6 +1,6 @@
 -- The world around the pool: the word, which is the least price that was found, what each worker has seen of it, notes
 -- of what was seen, and the tasks in hand.
-use Rattle.std.specs.Prelude.{◌≡◌, ℕ, ◌+◌, ◌-◌, ◌<◌, ◌≤◌, min, Bool, List, [], ◌∷◌, ◌++◌, replicate, slice_index_or, slice_set, Option, Some, None, if◌then◌else◌, nat_lt}
+use Rattle.std.specs.Prelude.{◌≡◌, ℕ, ◌+◌, ◌-◌, ◌<◌, ◌≤◌, min, List, [], ◌∷◌, replicate, slice_index_or, Option, Some, None, if◌then◌else◌, nat_lt}
 use Rattle.cfn_model.specs.Network.{Network, Fits, cost}
 use Rattle.cfn_core.specs.Pool.{Free, Leaf, Task, View, Pool}
 
