@@ -1,17 +1,18 @@
 -- What holds of the world after any list of actions, and what it says where no leaf is open.
 use Rattle.std.proofs.Common.{◌≡◌, ℕ, suc, ◌<◌, ◌≤◌, inl, inr, List, [], ◌∷◌, refl, ap, arith, Option, Some, None}
 use Rattle.std.proofs.lemmas.Bool.{cases_lt}
+use Rattle.std.specs.Prelude.{Bool, true, false, slice_index, if◌then◌else◌, ◌==◌}
 use Rattle.cfn_model.specs.declared.step.Step.{Step}
 use Rattle.cfn_model.specs.declared.step.Event.{Event}
 use Rattle.cfn_model.specs.declared.step.Event.TheVariants.{Did, Is, IsNot}
 use Rattle.cfn_model.specs.Network.{Network, IsNetwork, Fits, cost}
 use Rattle.cfn_model.specs.Sums.{floor}
 use Rattle.cfn_model.specs.Steps.{after}
-use Rattle.cfn_model.specs.Tree.{Tree, Open, Closed, Split, bound, open_leaves}
+use Rattle.cfn_model.specs.Tree.{Tree, Open, Closed, Split, IsClosed, leaf, bound, open_leaves}
 use Rattle.cfn_model.proofs.Bounding.{bounds, closed_leaves}
-use Rattle.cfn_core.specs.Pool.{Mark, PoolTree, Leaf, Shut, Fork, tree_of, IsLeaf, View, IsCovered}
+use Rattle.cfn_core.specs.Pool.{Mark, Free, Out, leaf_of, PoolTree, Leaf, Shut, Fork, tree_of, IsLeaf, View}
 use Rattle.cfn_core.specs.World.{World, price, view_at, least_price, KeepsFitting, opening}
-use Rattle.cfn_core.specs.Laws.{IsWorld, Holds, IsFound, Solves}
+use Rattle.cfn_core.specs.Laws.{IsWorld, IsHanded, IsCovered, Holds, IsFound, Solves}
 use Rattle.cfn_core.proofs.Views.{least_low}
 use Rattle.cfn_core.proofs.Keeping.{opens, valid_at_word}
 use Rattle.cfn_core.proofs.Keeping as keeping
@@ -35,23 +36,47 @@ word_low P w world = omega (arith, world.word.pool.from, world.word.pool.upto)
 bound_at_word : (P : Network) (w : World) → IsNetwork P → IsWorld P w → (values : List ℕ) → Fits P.sizes values → bound P [] (tree_of w.pool.tree) w.word ≤ cost P values
 bound_at_word P w network world values fits = bounds P (tree_of w.pool.tree) w.word values network (word_low P w world) (valid_at_word P w world) fits
 
-covered : (P : Network) (w : World) → IsNetwork P → IsWorld P w → IsCovered P w.pool
-covered P w network world values fits closed = elim (cases_lt (cost P values) w.pool.view.seen) [
-  | inl cheap ↦ absurd (closed_leaves P (tree_of w.pool.tree) w.pool.view.seen values network world.sound.seen world.sound.valid fits cheap closed)
-  | inr dear ↦ dear
-]
+-- by cases on an assignment's leaf
+chosen : (b : Bool) (Q : PoolTree → Type 0) (f s : PoolTree) (first second : Tree) → (IsClosed (if b then first else second) → (block : List Step) → Q (Shut block)) →
+    ((IsClosed first → (block : List Step) → Q (Shut block)) → Q f) → ((IsClosed second → (block : List Step) → Q (Shut block)) → Q s) → Q (if b then f else s)
+chosen true Q f s first second closed in_first in_second = in_first closed
+chosen false Q f s first second closed in_first in_second = in_second closed
+
+leaf_cases : (values : List ℕ) (Q : PoolTree → Type 0) (tree : PoolTree) (history : List Event) →
+    ((n : ℕ) (mark : Mark) (path : List Event) → IsLeaf tree history n mark path → Q (Leaf n mark)) →
+    (IsClosed (leaf values (tree_of tree)) → (block : List Step) → Q (Shut block)) → Q (leaf_of values tree)
+leaf_cases values Q (Leaf number m) history open_leaf closed = open_leaf number m history (refl, refl, refl)
+leaf_cases values Q (Shut block) history open_leaf closed = closed tt block
+leaf_cases values Q (Fork block x a first second) history open_leaf closed =
+    chosen (slice_index values x == a) Q (leaf_of values first) (leaf_of values second) (leaf values (tree_of first)) (leaf values (tree_of second)) closed
+    (λ c. leaf_cases values Q first (Is x a ∷ after block history) (λ n mark path at. open_leaf n mark path (inl at)) c)
+    (λ c. leaf_cases values Q second (IsNot x a ∷ after block history) (λ n mark path at. open_leaf n mark path (inr at)) c)
+
+covered : (P : Network) (w : World) → IsNetwork P → IsWorld P w → IsHanded P w → (values : List ℕ) → Fits P.sizes values → IsCovered P w values (leaf_of values w.pool.tree)
+covered P w network world handed values fits = leaf_cases values (IsCovered P w values) w.pool.tree [] at_open at_closed
+  where
+    at_open : (n : ℕ) (mark : Mark) (path : List Event) → IsLeaf w.pool.tree [] n mark path → IsCovered P w values (Leaf n mark)
+    at_open n Free path at = tt
+    at_open n (Out worker grant) path at = (path, handed.in_hand n worker grant path at)
+
+    at_closed : IsClosed (leaf values (tree_of w.pool.tree)) → (block : List Step) → w.pool.view.seen ≤ cost P values
+    at_closed closed block = elim (cases_lt (cost P values) w.pool.view.seen) [
+      | inl cheap ↦ absurd (closed_leaves P (tree_of w.pool.tree) w.pool.view.seen values network world.sound.seen world.sound.valid fits cheap closed)
+      | inr dear ↦ dear
+    ]
 
 pub holds : Holds
 holds P workers budget actions replies w network few are runs =
     let world : IsWorld P w = keeping.runs_keep P actions replies (opening P workers budget) w are (opens P workers budget network few) runs in
+    let handed : IsHanded P w = handing.runs_keep P actions replies (opening P workers budget) w (opens_handed P workers budget) runs in
     record {
       world = world;
-      covered = covered P w network world;
+      covered = covered P w network world handed;
       valid = valid_at_word P w world;
       bound = bound_at_word P w network world;
       row = λ values fits. bounds P (Open []) P.upper values network (omega arith) tt fits;
       floors = λ n mark path at. omega (arith, leaf_rises P w.pool.tree [] n mark path at);
-      handed = handing.runs_keep P actions replies (opening P workers budget) w (opens_handed P workers budget) runs;
+      handed = handed;
     }
 
 -- the least of the prices that are kept is one of them

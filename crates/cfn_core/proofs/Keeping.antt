@@ -10,7 +10,7 @@ use Rattle.cfn_model.specs.Steps.{after}
 use Rattle.cfn_model.specs.Tree.{count, Valid, Strict}
 use Rattle.cfn_model.proofs.Lowering.{valid_lower}
 use Rattle.cfn_core.specs.Pool.{Mark, Free, Out, PoolTree, Leaf, Shut, Fork, tree_of, Replaced, grant_of, granted, numbered, recalled, HasSmallCosts, Tame, Task, Piece, IsPiece, View, Pool, IsSound}
-use Rattle.cfn_core.specs.World.{World, price, cheaper, view_at, note_at, least_price, shares_of, KeepsFitting, IsView, IsWord, new_view}
+use Rattle.cfn_core.specs.World.{World, price, cheaper, view_at, note_at, least_price, shares_of, KeepsFitting, IsView, HasWordRule, new_view}
 use Rattle.cfn_core.specs.Actions.{Action, Look, Lower, Note, Meet, Take, Give, Back, Recall, Sweep, Reply, Answers, looked, lowered, noted, joined, met, task_for, taken, Takes, take_idle, take_empty, take_spent, take_again, take_task, CanGive, given, Gives, give_idle, give_gone, give_done, returned, Returns, back_not, back_done, all_back, cleared, Runs, AreActions}
 use Rattle.cfn_core.specs.Laws.{IsWorld, Opens, Keeps}
 use Rattle.cfn_core.proofs.Placing.{replaced_valid, replaced_strict, replaced_tame, replaced_count, replaced_granted, numbered_is, numbered_granted, recalled_is, recalled_granted, swept_valid, swept_strict, swept_tame, swept_granted, swept_count}
@@ -30,7 +30,7 @@ module _ (P : Network) (w : World) (holds : IsWorld P w) where
   sound : IsSound P w.pool
   sound = holds.sound
 
-  rule : IsWord P w
+  rule : HasWordRule P w
   rule = holds.word
 
   pub valid_at_word : Valid P [] (tree_of w.pool.tree) w.word
@@ -137,7 +137,7 @@ module _ (P : Network) (w : World) (holds : IsWorld P w) where
   }
 
   -- the word's rule speaks of the pool's view alone
-  rule_kept : (pool : Pool) (hands : List Task) → pool.view ≡ w.pool.view → IsWord P (record w { pool = pool; hands = hands })
+  rule_kept : (pool : Pool) (hands : List Task) → pool.view ≡ w.pool.view → HasWordRule P (record w { pool = pool; hands = hands })
   rule_kept pool hands same = record {
     least = subst (λ (v : View). w.word ≡ min (price P v.best) (least_price P w.views)) (sym same) rule.least;
     pool = subst (IsView P w.word) (sym same) rule.pool;
@@ -165,7 +165,7 @@ module _ (P : Network) (w : World) (holds : IsWorld P w) where
 
   -- the word's rule where the pool sees the word
   seen_rule : (pool : Pool) (notes : List (Option ℕ)) (hands : List Task) → pool.view ≡ record w.pool.view { seen = w.word } →
-      ((j seen : ℕ) → note_at notes j ≡ Some seen → note_at w.notes j ≡ Some seen) → IsWord P (record w { pool = pool; notes = notes; hands = hands })
+      ((j seen : ℕ) → note_at notes j ≡ Some seen → note_at w.notes j ≡ Some seen) → HasWordRule P (record w { pool = pool; notes = notes; hands = hands })
   seen_rule pool notes hands same fewer = record {
     least = subst (λ (v : View). w.word ≡ min (price P v.best) (least_price P w.views)) (sym same) rule.least;
     pool = subst (IsView P w.word) (sym same) (record { from = omega arith; upto = omega (arith, rule.pool.from, rule.pool.upto); keeps = rule.pool.keeps });

@@ -5,14 +5,14 @@ use Rattle.cfn_model.specs.declared.step.Event.{Event}
 use Rattle.cfn_model.specs.Sums.{floor}
 use Rattle.cfn_model.specs.Network.{Network, IsNetwork, Fits, Least, cost}
 use Rattle.cfn_model.specs.Tree.{Valid, bound, open_leaves}
-use Rattle.cfn_core.specs.Pool.{Mark, Out, PoolTree, Leaf, Shut, Fork, tree_of, IsLeaf, Task, IsTask, Piece, IsSound, IsCovered}
-use Rattle.cfn_core.specs.World.{World, IsWord, opening}
+use Rattle.cfn_core.specs.Pool.{Mark, Free, Out, PoolTree, Leaf, Shut, Fork, tree_of, IsLeaf, leaf_of, Task, IsTask, Piece, IsSound}
+use Rattle.cfn_core.specs.World.{World, HasWordRule, opening}
 use Rattle.cfn_core.specs.Actions.{Action, Look, Lower, Note, Meet, Take, Give, Back, Recall, Sweep, Reply, Given, Gone, IsAction, Acts, Runs, AreActions}
 
 -- The pool is sound, and the word keeps its rule.
 pub record IsWorld (P : Network) (w : World) : Type 0 where
   pub sound : IsSound P w.pool
-  pub word : IsWord P w
+  pub word : HasWordRule P w
 
 -- It holds at the opening, and each action keeps it.
 abbrev pub Opens : Type 0
@@ -43,6 +43,15 @@ pub record IsHanded (P : Network) (w : World) : Type 0 where
   pub in_hand : (n worker grant : ℕ) (path : List Event) → IsLeaf w.pool.tree [] n (Out worker grant) path →
       IsInHand (record { leaf = n; worker = worker; grant = grant; floor = floor P path; path = path }) w.hands
 
+-- An assignment is covered by its leaf: the leaf is free, or out with its task in hand, or closed and the assignment
+-- costs at least the threshold that the pool has seen.
+abbrev pub IsCovered : Network → World → List ℕ → PoolTree → Type 0
+IsCovered P w values (Leaf n Free) = Unit {0}
+IsCovered P w values (Leaf n (Out worker grant)) =
+    (path : List Event) × IsInHand (record { leaf = n; worker = worker; grant = grant; floor = floor P path; path = path }) w.hands
+IsCovered P w values (Shut block) = w.pool.view.seen ≤ cost P values
+IsCovered P w values (Fork block x a first second) = ⊥
+
 abbrev pub OpensHanded : Type 0
 OpensHanded = (P : Network) (workers budget : ℕ) → IsHanded P (opening P workers budget)
 
@@ -50,12 +59,12 @@ abbrev pub KeepsHanded : Type 0
 KeepsHanded = (P : Network) (w new : World) (action : Action) (r : Reply) → IsHanded P w → Acts P w action r new → IsHanded P new
 
 -- What holds of the world that is left after any list of actions. The pool is sound and the word keeps its rule. Every
--- assignment is covered. The tree is valid at the word, which may be less than what the pool has seen, so its bound
+-- assignment is covered by its leaf. The tree is valid at the word, which may be less than what the pool has seen, so its bound
 -- there is at most every cost. The opening's lower bound is at most every cost, and at most the floor of each open leaf.
 -- Leaves have numbers of their own, and the task of each leaf that is out is in hand.
 pub record Always (P : Network) (w : World) : Type 0 where
   pub world : IsWorld P w
-  pub covered : IsCovered P w.pool
+  pub covered : (values : List ℕ) → Fits P.sizes values → IsCovered P w values (leaf_of values w.pool.tree)
   pub valid : Valid P [] (tree_of w.pool.tree) w.word
   pub bound : (values : List ℕ) → Fits P.sizes values → bound P [] (tree_of w.pool.tree) w.word ≤ cost P values
   pub row : (values : List ℕ) → Fits P.sizes values → opening_bound P ≤ cost P values

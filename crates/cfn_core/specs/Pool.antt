@@ -1,13 +1,13 @@
 -- The pool: a search tree whose open leaves are handed out to workers (branch and bound as in Allouche et al. 2015).
-use Rattle.std.specs.Prelude.{◌≡◌, ℕ, ◌+◌, ◌<◌, ◌≤◌, ◌⊎◌, ◌^◌, List, [], ◌∷◌, length, Option, if◌then◌else◌, nat_le, pos, ◌<ℤ◌, IsTrue}
+use Rattle.std.specs.Prelude.{◌≡◌, ℕ, ◌+◌, ◌<◌, ◌≤◌, ◌⊎◌, ◌^◌, List, [], ◌∷◌, length, slice_index, Option, ◌==◌, if◌then◌else◌, nat_le, pos, ◌<ℤ◌, IsTrue}
 use Rattle.cfn_model.specs.declared.step.Step.{Step}
 use Rattle.cfn_model.specs.declared.step.Event.{Event}
 use Rattle.cfn_model.specs.declared.step.Event.TheVariants.{Did, Is, IsNot}
-use Rattle.cfn_model.specs.Network.{Network, Fits, cost}
+use Rattle.cfn_model.specs.Network.{Network, Fits}
 use Rattle.cfn_model.specs.Sums.{floor, unary, residual, is_live, is_live_tuple}
 use Rattle.cfn_model.specs.Steps.{IsValue, Allowed, after}
 use Rattle.cfn_model.specs.Network.{dims_at}
-use Rattle.cfn_model.specs.Tree.{Tree, Open, Closed, Split, IsClosed, leaf, count, open_leaves, Valid, Strict}
+use Rattle.cfn_model.specs.Tree.{Tree, Open, Closed, Split, count, open_leaves, Valid, Strict}
 
 -- An open leaf is free, or out: handed to a worker, who may make that many nodes.
 pub data Mark : Type 0 where
@@ -33,7 +33,13 @@ IsLeaf (Shut block) history n m path = ⊥
 IsLeaf (Fork block x a first second) history n m path =
     IsLeaf first (Is x a ∷ after block history) n m path ⊎ IsLeaf second (IsNot x a ∷ after block history) n m path
 
--- What one such leaf leaves where another tree takes its place.
+-- The leaf of an assignment: at each split the first side where x has the value a, and else the second.
+abbrev pub leaf_of : List ℕ → PoolTree → PoolTree
+leaf_of values (Leaf number mark) = Leaf number mark
+leaf_of values (Shut block) = Shut block
+leaf_of values (Fork block x a first second) = if slice_index values x == a then leaf_of values first else leaf_of values second
+
+-- What a tree becomes where another takes the place of one of its open leaves: the one with this number, mark and path.
 abbrev pub Replaced : PoolTree → List Event → ℕ → Mark → List Event → PoolTree → PoolTree → Type 0
 Replaced (Leaf number mark) history n m path place new = (number ≡ n) × (mark ≡ m) × (path ≡ history) × (new ≡ place)
 Replaced (Shut block) history n m path place new = ⊥
@@ -158,8 +164,3 @@ pub record IsSound (P : Network) (pool : Pool) : Type 0 where
   pub tame : Tame P [] (tree_of pool.tree)
   pub counted : pool.nodes ≤ count (tree_of pool.tree)
   pub within : pool.nodes + granted pool.tree ≤ pool.budget
-
--- Every assignment below a closed leaf costs at least the threshold seen. (Every assignment has its one leaf, and a
--- leaf that is not closed is free or out.)
-abbrev pub IsCovered : Network → Pool → Type 0
-IsCovered P pool = (values : List ℕ) → Fits P.sizes values → IsClosed (leaf values (tree_of pool.tree)) → pool.view.seen ≤ cost P values

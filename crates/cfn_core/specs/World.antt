@@ -57,7 +57,7 @@ pub record IsView (P : Network) (word : ℕ) (view : View) : Type 0 where
 
 -- The rule of the word: it is the least of the upper bound and the prices of all that is kept; it is at most all that
 -- was seen; there are 128 shares, of which each view of a worker has one, and the pool's has some.
-pub record IsWord (P : Network) (w : World) : Type 0 where
+pub record HasWordRule (P : Network) (w : World) : Type 0 where
   pub least : w.word ≡ min (price P w.pool.view.best) (least_price P w.views)
   pub pool : IsView P w.word w.pool.view
   pub views : (i : ℕ) (view : View) → view_at w.views i ≡ Some view → IsView P w.word view
