@@ -7,11 +7,11 @@ use Rattle.cfn_model.specs.Network.{Network}
 use Rattle.cfn_model.specs.Steps.{after}
 use Rattle.cfn_model.specs.Tree.{open_leaves}
 use Rattle.cfn_core.specs.Pool.{Mark, Free, Out, PoolTree, Leaf, Shut, Fork, tree_of, IsLeaf, Replaced, granted, numbered, Task, Piece}
-use Rattle.cfn_core.specs.World.{World, view_at, note_at}
-use Rattle.cfn_core.specs.Actions.{Look, Lower, Note, Meet, Take, Give, Back, Recall, Sweep, Reply, Idle, Given, Empty, Spent, Again, Gone, NotOut, Done, Answers, CanTake, task_for, taken, Takes, take_idle, take_empty, take_spent, take_again, take_task, given, Gives, give_idle, give_gone, give_done, returned, Returns, back_not, back_done}
-use Rattle.cfn_core.specs.Laws.{leaves_with, IsHanded, AnswersAll, AnswersOnce}
+use Rattle.cfn_core.specs.World.{World, view_at, note_at, opening}
+use Rattle.cfn_core.specs.Actions.{Action, Runs, Look, Lower, Note, Meet, Take, Give, Back, Recall, Sweep, Reply, Idle, Given, Empty, Spent, Again, Gone, NotOut, Done, Answers, CanTake, task_for, taken, Takes, take_idle, take_empty, take_spent, take_again, take_task, given, Gives, give_idle, give_gone, give_done, returned, Returns, back_not, back_done}
+use Rattle.cfn_core.specs.Laws.{leaves_with, IsHanded, AnswersAll, AnswersOnce, RunsAll, RunsOnce}
 use Rattle.cfn_core.proofs.Deciding.{Precedes, find_some, find_this, can_replace, find_first}
-use Rattle.cfn_core.proofs.Handing.{leaf_counts, replaced_leaf}
+use Rattle.cfn_core.proofs.Handing.{leaf_counts, replaced_leaf, keeps_handed, opens_handed}
 
 -- an answer by cases on an option
 some_answer : {X : Type 0} (o : Option X) (due : X → Reply) (idle : World) (left : X → World) →
@@ -211,3 +211,30 @@ answers_once P w (Give piece note) r other new another handed a b = gives_once P
 answers_once P w (Back task) r other new another handed a b = returns_once P w task r other new another handed a b
 answers_once P w Recall r other new another handed a b = same a b
 answers_once P w Sweep r other new another handed a b = same a b
+
+-- lists of actions
+runs_all_from : (P : Network) (w : World) (actions : List Action) → (replies : List Reply) × (new : World) × Runs P w actions replies new
+runs_all_from P w [] = ([], w, refl)
+runs_all_from P w (action ∷ actions) =
+    let s = answers_all P w action in
+    let rest = runs_all_from P s.1 actions in
+    (s.0 ∷ rest.0, rest.1, (s.1, s.2, rest.2))
+
+pub runs_all : RunsAll
+runs_all P workers budget actions = runs_all_from P (opening P workers budget) actions
+
+runs_once_from : (P : Network) (actions : List Action) (w : World) (replies others : List Reply) (new another : World) → IsHanded P w →
+    Runs P w actions replies new → Runs P w actions others another → (replies ≡ others) × (new ≡ another)
+runs_once_from P [] w [] [] new another handed a b = (refl, a ∙ sym b)
+runs_once_from P [] w [] (s ∷ others) new another handed a b = absurd b
+runs_once_from P [] w (r ∷ replies) others new another handed a b = absurd a
+runs_once_from P (action ∷ actions) w [] others new another handed a b = absurd a
+runs_once_from P (action ∷ actions) w (r ∷ replies) [] new another handed a b = absurd b
+runs_once_from P (action ∷ actions) w (r ∷ replies) (s ∷ others) new another handed a b =
+    let step = answers_once P w action r s a.0 b.0 handed a.1 b.1 in
+    let rest = runs_once_from P actions a.0 replies others new another (keeps_handed P w a.0 action r handed a.1) a.2 (subst (λ u. Runs P u actions others another) (sym step.1) b.2) in
+    (ap₂ (λ x y. x ∷ y) step.0 rest.0, rest.1)
+
+pub runs_once : RunsOnce
+runs_once P workers budget actions replies others w another a b =
+    runs_once_from P actions (opening P workers budget) replies others w another (opens_handed P workers budget) a b

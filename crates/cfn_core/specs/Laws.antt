@@ -108,6 +108,14 @@ AnswersAll = (P : Network) (w : World) (action : Action) → (r : Reply) × (new
 abbrev pub AnswersOnce : Type 0
 AnswersOnce = (P : Network) (w : World) (action : Action) (r other : Reply) (new another : World) → IsHanded P w → Acts P w action r new → Acts P w action other another → (r ≡ other) × (new ≡ another)
 
+-- So every list of actions from the opening leaves one world, with one list of answers.
+abbrev pub RunsAll : Type 0
+RunsAll = (P : Network) (workers budget : ℕ) (actions : List Action) → (replies : List Reply) × (w : World) × Runs P (opening P workers budget) actions replies w
+
+abbrev pub RunsOnce : Type 0
+RunsOnce = (P : Network) (workers budget : ℕ) (actions : List Action) (replies others : List Reply) (w another : World) →
+    Runs P (opening P workers budget) actions replies w → Runs P (opening P workers budget) actions others another → (replies ≡ others) × (w ≡ another)
+
 -- A task that is handed out keeps what a task keeps, for a worker that is there and no more nodes than it wants.
 abbrev pub HandsOutTasks : Type 0
 HandsOutTasks = (P : Network) (w new : World) (worker want : ℕ) (task : Task) → IsWorld P w → Acts P w (Take worker want) (Given task) new →

@@ -1,7 +1,7 @@
 //! What holds of the pool machine, each the contract of a function with nothing to do.
 
 ghost use Rattle.cfn_core.specs.Examples.{SplitSpends, RecallRefuses};
-ghost use Rattle.cfn_core.specs.Laws.{Opens, Keeps, OpensHanded, KeepsHanded, Holds, IsFound, Solves, HandsOutTasks, NeverGone, AnswersAll, AnswersOnce};
+ghost use Rattle.cfn_core.specs.Laws.{Opens, Keeps, OpensHanded, KeepsHanded, Holds, IsFound, Solves, HandsOutTasks, NeverGone, AnswersAll, AnswersOnce, RunsAll, RunsOnce};
 
 /// At the opening the pool is sound and the word keeps its rule, and each action of a worker keeps both.
 pub fn each_action()
@@ -41,10 +41,13 @@ pub fn never_gone()
     ensures { NeverGone }
 {}
 
-/// Every action has an answer in every world, and where leaves have numbers of their own it has one alone.
+/// Every action has an answer in every world, and where leaves have numbers of their own it has one alone. So each list
+/// of actions from the opening has one list of answers and leaves one world.
 pub fn one_answer()
     ensures all { AnswersAll }
     ensures once { AnswersOnce }
+    ensures runs { RunsAll }
+    ensures one_run { RunsOnce }
 {}
 
 /// Two lists of actions with their answers: a split spends a budget of 1, and a piece of a leaf that was called back is
