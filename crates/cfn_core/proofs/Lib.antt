@@ -1,0 +1,10 @@
+pub mod Placing
+pub mod Views
+pub mod Keeping
+pub mod Handing
+pub mod Refusing
+pub mod Deciding
+pub mod Answering
+pub mod Always
+pub mod Examples
+pub mod Tasks

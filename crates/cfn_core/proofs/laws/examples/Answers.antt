@@ -1,0 +1,8 @@
+use Rattle.cfn_core.proofs.Examples.{split_spends, recall_refuses}
+use Rattle.cfn_core.proofs.laws.examples.Goals as goal
+
+pub returns-clause-spent : goal.returns-clause-spent
+returns-clause-spent c = split_spends
+
+pub returns-clause-refused : goal.returns-clause-refused
+returns-clause-refused c = recall_refuses

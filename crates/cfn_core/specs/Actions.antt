@@ -1,0 +1,176 @@
+-- What the workers do: each action is one atomic step of one of them. An action that may not be done, or that names a
+-- worker that is not there, is answered Idle and changes nothing.
+use Rattle.std.specs.Prelude.{◌≡◌, ◌≢◌, ℕ, ◌+◌, ◌-◌, ◌<◌, ◌≤◌, ◌⊎◌, min, List, [], ◌∷◌, ◌++◌, length, slice_set, Option, Some, None, MatchOption, filter, not, ◌==◌}
+use Rattle.cfn_model.specs.declared.step.Event.{Event}
+use Rattle.cfn_model.specs.Network.{Network}
+use Rattle.cfn_model.specs.Sums.{floor}
+use Rattle.cfn_model.specs.Tree.{count, open_leaves}
+use Rattle.cfn_core.specs.Pool.{Free, Out, PoolTree, Leaf, tree_of, IsLeaf, Replaced, granted, numbered, recalled, swept, Task, Piece, IsPiece, View}
+use Rattle.cfn_core.specs.World.{World, price, cheaper, view_at, note_at, KeepsFitting}
+
+pub data Action : Type 0 where
+  Look : (worker : ℕ) → Action
+  Lower : (worker : ℕ) (found : Option (List ℕ)) → Action
+  Note : (worker : ℕ) → Action
+  Meet : (worker : ℕ) → Action
+  Take : (worker want : ℕ) → Action
+  Give : (piece : Piece) (note : ℕ) → Action
+  Back : (task : Task) → Action
+  Recall : Action
+  Sweep : Action
+
+pub data Reply : Type 0 where
+  Idle : Reply
+  Seen : (threshold : ℕ) → Reply
+  Noted : (note : ℕ) → Reply
+  Given : (task : Task) → Reply
+  Empty : Reply
+  Spent : Reply
+  Again : Reply
+  Gone : Reply
+  NotOut : Reply
+  Done : Reply
+
+-- What an action brings is of the network: an assignment fits it, and a piece is one.
+abbrev pub IsAction : Network → Action → Type 0
+IsAction P (Look worker) = Unit {0}
+IsAction P (Lower worker found) = KeepsFitting P found
+IsAction P (Note worker) = Unit {0}
+IsAction P (Meet worker) = Unit {0}
+IsAction P (Take worker want) = Unit {0}
+IsAction P (Give piece note) = IsPiece P piece
+IsAction P (Back task) = Unit {0}
+IsAction P Recall = Unit {0}
+IsAction P Sweep = Unit {0}
+
+-- The answer is this reply, and leaves this world.
+pub record Answers (due : Reply) (left : World) (r : Reply) (new : World) : Type 0 where
+  pub reply : r ≡ due
+  pub world : new ≡ left
+
+-- A worker looks at the word.
+abbrev pub looked : World → ℕ → View → World
+looked w i view = record w { views = slice_set w.views i (Some (record view { seen = w.word })) }
+
+-- A worker has found an assignment: the word becomes its price where that is less.
+abbrev pub lowered : Network → World → ℕ → Option (List ℕ) → View → World
+lowered P w i found view = record w {
+  word = min w.word (price P found);
+  views = slice_set w.views i (Some (record view { best = cheaper P view.best found; seen = min w.word (price P found) }));
+}
+
+-- A worker notes what it has seen.
+abbrev pub noted : World → View → World
+noted w view = record w { notes = w.notes ++ Some view.seen ∷ [] }
+
+-- A worker's view is joined into the pool's.
+abbrev pub joined : Network → View → View → View
+joined P view other = record { best = cheaper P view.best other.best; seen = min view.seen other.seen; shares = view.shares + other.shares }
+
+abbrev pub met : Network → World → ℕ → View → World
+met P w i view = record w { pool = record w.pool { view = joined P w.pool.view view }; views = slice_set w.views i None }
+
+-- A leaf's task is in other hands no more.
+abbrev pub without : ℕ → List Task → List Task
+without n hands = filter (λ (task : Task). not (task.leaf == n)) hands
+
+-- A free leaf is handed out: one of least floor, the least number among those.
+pub record IsFirst (P : Network) (tree : PoolTree) (n : ℕ) (path : List Event) : Type 0 where
+  pub leaf : IsLeaf tree [] n Free path
+  pub first : (m : ℕ) (other : List Event) → IsLeaf tree [] m Free other → (floor P path < floor P other) ⊎ ((floor P path ≡ floor P other) × (n ≤ m))
+
+abbrev pub CanTake : World → ℕ → ℕ → Type 0
+CanTake w worker want = (worker < length w.views) × (1 ≤ want)
+
+-- The task's grant is what it wants, or what the budget has left.
+abbrev pub task_for : Network → World → ℕ → ℕ → ℕ → List Event → Task
+task_for P w worker want n path = record {
+  leaf = n;
+  worker = worker;
+  grant = min want (w.pool.budget - (w.pool.nodes + granted w.pool.tree));
+  floor = floor P path;
+  path = path;
+}
+
+abbrev pub taken : World → Task → PoolTree → World
+taken w task tree = record w { pool = record w.pool { tree = tree }; hands = task ∷ w.hands }
+
+pub data Takes (P : Network) (w : World) (worker want : ℕ) (r : Reply) (new : World) : Type 0 where
+  take_idle : (CanTake w worker want → ⊥) → Answers Idle w r new → Takes P w worker want r new
+  take_empty : CanTake w worker want → open_leaves (tree_of w.pool.tree) ≡ 0 → Answers Empty w r new → Takes P w worker want r new
+  take_spent : CanTake w worker want → 0 < open_leaves (tree_of w.pool.tree) → w.pool.nodes ≡ w.pool.budget → Answers Spent w r new → Takes P w worker want r new
+  take_again : CanTake w worker want → 0 < open_leaves (tree_of w.pool.tree) → w.pool.nodes ≢ w.pool.budget →
+      (((n : ℕ) (path : List Event) → IsLeaf w.pool.tree [] n Free path → ⊥) ⊎ (w.pool.nodes + granted w.pool.tree ≡ w.pool.budget)) →
+      Answers Again w r new → Takes P w worker want r new
+  take_task : (n : ℕ) (path : List Event) (task : Task) (tree : PoolTree) → CanTake w worker want → w.pool.nodes ≢ w.pool.budget → w.pool.nodes + granted w.pool.tree ≢ w.pool.budget →
+      IsFirst P w.pool.tree n path → task ≡ task_for P w worker want n path →
+      Replaced w.pool.tree [] n Free path (Leaf n (Out worker task.grant)) tree →
+      Answers (Given task) (taken w task tree) r new → Takes P w worker want r new
+
+-- A piece is given: its note is there and has seen at most its threshold. Its leaf has to be out to its worker with its
+-- grant, and have its path. The note is heeded, and the pool sees the word.
+abbrev pub CanGive : World → Piece → ℕ → Type 0
+CanGive w piece note = MatchOption (note_at w.notes note) ⊥ (λ seen. seen ≤ piece.threshold)
+
+abbrev pub IsOut : World → Task → Type 0
+IsOut w task = IsLeaf w.pool.tree [] task.leaf (Out task.worker task.grant) task.path
+
+abbrev pub given : World → Piece → ℕ → PoolTree → World
+given w piece note tree = record w {
+  pool = record w.pool {
+    tree = tree;
+    next = w.pool.next + open_leaves piece.tree;
+    nodes = w.pool.nodes + count piece.tree;
+    view = record w.pool.view { seen = w.word };
+  };
+  notes = slice_set w.notes note None;
+  hands = without piece.task.leaf w.hands;
+}
+
+pub data Gives (w : World) (piece : Piece) (note : ℕ) (r : Reply) (new : World) : Type 0 where
+  give_idle : (CanGive w piece note → ⊥) → Answers Idle w r new → Gives w piece note r new
+  give_gone : CanGive w piece note → (IsOut w piece.task → ⊥) → Answers Gone w r new → Gives w piece note r new
+  give_done : (tree : PoolTree) → CanGive w piece note →
+      Replaced w.pool.tree [] piece.task.leaf (Out piece.task.worker piece.task.grant) piece.task.path (numbered w.pool.next piece.tree) tree →
+      Answers Done (given w piece note tree) r new → Gives w piece note r new
+
+-- A task is given back: its leaf is free again, where it is out to that worker with that grant.
+abbrev pub returned : World → Task → PoolTree → World
+returned w task tree = record w { pool = record w.pool { tree = tree }; hands = without task.leaf w.hands }
+
+pub data Returns (w : World) (task : Task) (r : Reply) (new : World) : Type 0 where
+  back_not : ((path : List Event) → IsLeaf w.pool.tree [] task.leaf (Out task.worker task.grant) path → ⊥) → Answers NotOut w r new → Returns w task r new
+  back_done : (path : List Event) (tree : PoolTree) →
+      Replaced w.pool.tree [] task.leaf (Out task.worker task.grant) path (Leaf task.leaf Free) tree →
+      Answers Done (returned w task tree) r new → Returns w task r new
+
+-- Every leaf that is out is called back.
+abbrev pub all_back : World → World
+all_back w = record w { pool = record w.pool { tree = recalled w.pool.tree } }
+
+-- The pool sees the word, and closes what need not be searched.
+abbrev pub cleared : Network → World → World
+cleared P w = record w { pool = record w.pool { tree = swept P w.word w.pool.tree []; view = record w.pool.view { seen = w.word } } }
+
+-- What an action may answer, and the world that it leaves.
+abbrev pub Acts : Network → World → Action → Reply → World → Type 0
+Acts P w (Look i) r new = MatchOption (view_at w.views i) (Answers Idle w r new) (λ view. Answers (Seen w.word) (looked w i view) r new)
+Acts P w (Lower i found) r new = MatchOption (view_at w.views i) (Answers Idle w r new) (λ view. Answers (Seen (min w.word (price P found))) (lowered P w i found view) r new)
+Acts P w (Note i) r new = MatchOption (view_at w.views i) (Answers Idle w r new) (λ view. Answers (Noted (length w.notes)) (noted w view) r new)
+Acts P w (Meet i) r new = MatchOption (view_at w.views i) (Answers Idle w r new) (λ view. Answers Done (met P w i view) r new)
+Acts P w (Take i want) r new = Takes P w i want r new
+Acts P w (Give piece note) r new = Gives w piece note r new
+Acts P w (Back task) r new = Returns w task r new
+Acts P w Recall r new = Answers Done (all_back w) r new
+Acts P w Sweep r new = Answers Done (cleared P w) r new
+
+-- A list of actions from a world on, with the answers and the world at the end.
+abbrev pub Runs : Network → World → List Action → List Reply → World → Type 0
+Runs P w [] [] new = new ≡ w
+Runs P w [] (r ∷ replies) new = ⊥
+Runs P w (action ∷ actions) [] new = ⊥
+Runs P w (action ∷ actions) (r ∷ replies) new = (between : World) × Acts P w action r between × Runs P between actions replies new
+
+abbrev pub AreActions : Network → List Action → Type 0
+AreActions P [] = Unit {0}
+AreActions P (action ∷ actions) = IsAction P action × AreActions P actions

@@ -1,0 +1,122 @@
+-- What holds of the world, whatever the workers do and in whatever order.
+use Rattle.std.specs.Prelude.{◌≡◌, ◌≢◌, ℕ, ◌+◌, ◌<◌, ◌≤◌, ◌⊎◌, min, List, [], ◌∷◌, if◌then◌else◌, ◌==◌}
+use Rattle.std.specs.List.{AllByRecursion}
+use Rattle.cfn_model.specs.declared.step.Event.{Event}
+use Rattle.cfn_model.specs.Sums.{floor}
+use Rattle.cfn_model.specs.Network.{Network, IsNetwork, Fits, Least, cost}
+use Rattle.cfn_model.specs.Tree.{Valid, bound, open_leaves}
+use Rattle.cfn_core.specs.Pool.{Mark, Free, Out, PoolTree, Leaf, Shut, Fork, tree_of, IsLeaf, leaf_of, Task, IsTask, Piece, IsSound}
+use Rattle.cfn_core.specs.World.{World, HasWordRule, opening}
+use Rattle.cfn_core.specs.Actions.{Action, Look, Lower, Note, Meet, Take, Give, Back, Recall, Sweep, Reply, Given, Gone, IsAction, Acts, Runs, AreActions}
+
+-- The pool is sound, and the word keeps its rule.
+pub record IsWorld (P : Network) (w : World) : Type 0 where
+  pub sound : IsSound P w.pool
+  pub word : HasWordRule P w
+
+-- It holds at the opening, and each action keeps it.
+abbrev pub Opens : Type 0
+Opens = (P : Network) (workers budget : ℕ) → IsNetwork P → workers ≤ 64 → IsWorld P (opening P workers budget)
+
+abbrev pub Keeps : Type 0
+Keeps = (P : Network) (w new : World) (action : Action) (r : Reply) → IsAction P action → IsWorld P w → Acts P w action r new → IsWorld P new
+
+-- The lower bound at the opening: the floor of the whole network, or the upper bound where that is less.
+abbrev pub opening_bound : Network → ℕ
+opening_bound P = min P.upper (floor P [])
+
+-- How many open leaves have a number.
+abbrev pub leaves_with : ℕ → PoolTree → ℕ
+leaves_with n (Leaf number mark) = if number == n then 1 else 0
+leaves_with n (Shut block) = 0
+leaves_with n (Fork block x a first second) = leaves_with n first + leaves_with n second
+
+-- A task is in hand.
+abbrev pub IsInHand : Task → List Task → Type 0
+IsInHand task [] = ⊥
+IsInHand task (other ∷ hands) = (task ≡ other) ⊎ IsInHand task hands
+
+-- Each open leaf has a number of its own, and the task of each leaf that is out is in hand.
+pub record IsHanded (P : Network) (w : World) : Type 0 where
+  pub different : (n : ℕ) → leaves_with n w.pool.tree ≤ 1
+  pub fresh : (n : ℕ) → w.pool.next ≤ n → leaves_with n w.pool.tree ≡ 0
+  pub in_hand : (n worker grant : ℕ) (path : List Event) → IsLeaf w.pool.tree [] n (Out worker grant) path →
+      IsInHand (record { leaf = n; worker = worker; grant = grant; floor = floor P path; path = path }) w.hands
+
+-- An assignment is covered by its leaf: the leaf is free, or out with its task in hand, or closed and the assignment
+-- costs at least the threshold that the pool has seen.
+abbrev pub IsCovered : Network → World → List ℕ → PoolTree → Type 0
+IsCovered P w values (Leaf n Free) = Unit {0}
+IsCovered P w values (Leaf n (Out worker grant)) =
+    (path : List Event) × IsInHand (record { leaf = n; worker = worker; grant = grant; floor = floor P path; path = path }) w.hands
+IsCovered P w values (Shut block) = w.pool.view.seen ≤ cost P values
+IsCovered P w values (Fork block x a first second) = ⊥
+
+abbrev pub OpensHanded : Type 0
+OpensHanded = (P : Network) (workers budget : ℕ) → IsHanded P (opening P workers budget)
+
+abbrev pub KeepsHanded : Type 0
+KeepsHanded = (P : Network) (w new : World) (action : Action) (r : Reply) → IsHanded P w → Acts P w action r new → IsHanded P new
+
+-- What holds of the world that is left after any list of actions. The pool is sound and the word keeps its rule. Every
+-- assignment is covered by its leaf. The tree is valid at the word, which may be less than what the pool has seen, so its bound
+-- there is at most every cost. The opening's lower bound is at most every cost, and at most the floor of each open leaf.
+-- Leaves have numbers of their own, and the task of each leaf that is out is in hand.
+pub record Always (P : Network) (w : World) : Type 0 where
+  pub world : IsWorld P w
+  pub covered : (values : List ℕ) → Fits P.sizes values → IsCovered P w values (leaf_of values w.pool.tree)
+  pub valid : Valid P [] (tree_of w.pool.tree) w.word
+  pub bound : (values : List ℕ) → Fits P.sizes values → bound P [] (tree_of w.pool.tree) w.word ≤ cost P values
+  pub row : (values : List ℕ) → Fits P.sizes values → opening_bound P ≤ cost P values
+  pub floors : (n : ℕ) (mark : Mark) (path : List Event) → IsLeaf w.pool.tree [] n mark path → opening_bound P ≤ floor P path
+  pub handed : IsHanded P w
+
+abbrev pub Holds : Type 0
+Holds = (P : Network) (workers budget : ℕ) (actions : List Action) (replies : List Reply) (w : World) → IsNetwork P → workers ≤ 64 → AreActions P actions →
+    Runs P (opening P workers budget) actions replies w → Always P w
+
+-- Where the word is below the upper bound, an assignment that is kept has it as its cost. So where no leaf is open the
+-- word is the least cost, or every assignment costs the upper bound.
+abbrev pub IsFound : Type 0
+IsFound = (P : Network) (w : World) → IsWorld P w → w.word < P.upper → (values : List ℕ) × Fits P.sizes values × (cost P values ≡ w.word)
+
+abbrev pub Solves : Type 0
+Solves = (P : Network) (w : World) → IsNetwork P → IsWorld P w → open_leaves (tree_of w.pool.tree) ≡ 0 →
+    (w.word < P.upper → Least P w.word) × (w.word ≡ P.upper → (values : List ℕ) → Fits P.sizes values → cost P values ≡ P.upper)
+
+-- No action calls the leaves back.
+abbrev pub IsNoRecall : Action → Type 0
+IsNoRecall (Look worker) = Unit {0}
+IsNoRecall (Lower worker found) = Unit {0}
+IsNoRecall (Note worker) = Unit {0}
+IsNoRecall (Meet worker) = Unit {0}
+IsNoRecall (Take worker want) = Unit {0}
+IsNoRecall (Give piece note) = Unit {0}
+IsNoRecall (Back task) = Unit {0}
+IsNoRecall Recall = ⊥
+IsNoRecall Sweep = Unit {0}
+
+-- As long as none does, no piece of a task in hand is refused.
+abbrev pub NeverGone : Type 0
+NeverGone = (P : Network) (workers budget : ℕ) (actions : List Action) (replies : List Reply) (w new : World) (piece : Piece) (note : ℕ) (r : Reply) →
+    AllByRecursion IsNoRecall actions → Runs P (opening P workers budget) actions replies w → IsInHand piece.task w.hands → Acts P w (Give piece note) r new → r ≢ Gone
+
+-- Each action has an answer in every world, and one alone where the leaves have numbers of their own.
+abbrev pub AnswersAll : Type 0
+AnswersAll = (P : Network) (w : World) (action : Action) → (r : Reply) × (new : World) × Acts P w action r new
+
+abbrev pub AnswersOnce : Type 0
+AnswersOnce = (P : Network) (w : World) (action : Action) (r other : Reply) (new another : World) → IsHanded P w → Acts P w action r new → Acts P w action other another → (r ≡ other) × (new ≡ another)
+
+-- So every list of actions from the opening leaves one world, with one list of answers.
+abbrev pub RunsAll : Type 0
+RunsAll = (P : Network) (workers budget : ℕ) (actions : List Action) → (replies : List Reply) × (w : World) × Runs P (opening P workers budget) actions replies w
+
+abbrev pub RunsOnce : Type 0
+RunsOnce = (P : Network) (workers budget : ℕ) (actions : List Action) (replies others : List Reply) (w another : World) →
+    Runs P (opening P workers budget) actions replies w → Runs P (opening P workers budget) actions others another → (replies ≡ others) × (w ≡ another)
+
+-- A task that is handed out keeps what a task keeps, for a worker that is there and no more nodes than it wants.
+abbrev pub HandsOutTasks : Type 0
+HandsOutTasks = (P : Network) (w new : World) (worker want : ℕ) (task : Task) → IsWorld P w → Acts P w (Take worker want) (Given task) new →
+    IsTask P task × (task.worker ≡ worker) × (task.grant ≤ want)

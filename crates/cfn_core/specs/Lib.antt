@@ -1,0 +1,5 @@
+pub mod Pool
+pub mod World
+pub mod Actions
+pub mod Laws
+pub mod Examples

@@ -1,0 +1,166 @@
+-- The pool: a search tree whose open leaves are handed out to workers (branch and bound as in Allouche et al. 2015).
+use Rattle.std.specs.Prelude.{◌≡◌, ℕ, ◌+◌, ◌<◌, ◌≤◌, ◌⊎◌, ◌^◌, List, [], ◌∷◌, length, slice_index, Option, ◌==◌, if◌then◌else◌, nat_le, pos, ◌<ℤ◌, IsTrue}
+use Rattle.cfn_model.specs.declared.step.Step.{Step}
+use Rattle.cfn_model.specs.declared.step.Event.{Event}
+use Rattle.cfn_model.specs.declared.step.Event.TheVariants.{Did, Is, IsNot}
+use Rattle.cfn_model.specs.Network.{Network, Fits}
+use Rattle.cfn_model.specs.Sums.{floor, unary, residual, is_live, is_live_tuple}
+use Rattle.cfn_model.specs.Steps.{IsValue, Allowed, after}
+use Rattle.cfn_model.specs.Network.{dims_at}
+use Rattle.cfn_model.specs.Tree.{Tree, Open, Closed, Split, count, open_leaves, Valid, Strict}
+
+-- An open leaf is free, or out: handed to a worker, who may make that many nodes.
+pub data Mark : Type 0 where
+  Free : Mark
+  Out : (worker grant : ℕ) → Mark
+
+-- A search tree whose open leaves have a number and a mark. Their blocks are empty.
+pub data PoolTree : Type 0 where
+  Leaf : (number : ℕ) (mark : Mark) → PoolTree
+  Shut : (block : List Step) → PoolTree
+  Fork : (block : List Step) (x a : ℕ) (first second : PoolTree) → PoolTree
+
+-- The search tree that it is: free leaves and leaves that are out are open.
+abbrev pub tree_of : PoolTree → Tree
+tree_of (Leaf number mark) = Open []
+tree_of (Shut block) = Closed block
+tree_of (Fork block x a first second) = Split block x a (tree_of first) (tree_of second)
+
+-- An open leaf of the tree: its number, its mark, and what stands before it, the newest event first.
+abbrev pub IsLeaf : PoolTree → List Event → ℕ → Mark → List Event → Type 0
+IsLeaf (Leaf number mark) history n m path = (number ≡ n) × (mark ≡ m) × (path ≡ history)
+IsLeaf (Shut block) history n m path = ⊥
+IsLeaf (Fork block x a first second) history n m path =
+    IsLeaf first (Is x a ∷ after block history) n m path ⊎ IsLeaf second (IsNot x a ∷ after block history) n m path
+
+-- The leaf of an assignment: at each split the first side where x has the value a, and else the second.
+abbrev pub leaf_of : List ℕ → PoolTree → PoolTree
+leaf_of values (Leaf number mark) = Leaf number mark
+leaf_of values (Shut block) = Shut block
+leaf_of values (Fork block x a first second) = if slice_index values x == a then leaf_of values first else leaf_of values second
+
+-- What a tree becomes where another takes the place of one of its open leaves: the one with this number, mark and path.
+abbrev pub Replaced : PoolTree → List Event → ℕ → Mark → List Event → PoolTree → PoolTree → Type 0
+Replaced (Leaf number mark) history n m path place new = (number ≡ n) × (mark ≡ m) × (path ≡ history) × (new ≡ place)
+Replaced (Shut block) history n m path place new = ⊥
+Replaced (Fork block x a first second) history n m path place new =
+    ((below : PoolTree) × Replaced first (Is x a ∷ after block history) n m path place below × (new ≡ Fork block x a below second))
+    ⊎ ((below : PoolTree) × Replaced second (IsNot x a ∷ after block history) n m path place below × (new ≡ Fork block x a first below))
+
+-- The nodes that may still be made below leaves that are out.
+abbrev pub grant_of : Mark → ℕ
+grant_of Free = 0
+grant_of (Out worker grant) = grant
+
+abbrev pub granted : PoolTree → ℕ
+granted (Leaf number mark) = grant_of mark
+granted (Shut block) = 0
+granted (Fork block x a first second) = granted first + granted second
+
+-- A tree's open leaves get the numbers from next on, in the order of the tree's text, and are free.
+abbrev pub numbered : ℕ → Tree → PoolTree
+numbered next (Open block) = Leaf next Free
+numbered next (Closed block) = Shut block
+numbered next (Split block x a first second) = Fork block x a (numbered next first) (numbered (next + open_leaves first) second)
+
+-- Every leaf that is out is free again.
+abbrev pub recalled : PoolTree → PoolTree
+recalled (Leaf number mark) = Leaf number Free
+recalled (Shut block) = Shut block
+recalled (Fork block x a first second) = Fork block x a (recalled first) (recalled second)
+
+-- Each free leaf whose floor is at least k is closed.
+abbrev pub swept : Network → ℕ → PoolTree → List Event → PoolTree
+swept P k (Leaf number Free) history = if nat_le k (floor P history) then Shut [] else Leaf number Free
+swept P k (Leaf number (Out worker grant)) history = Leaf number (Out worker grant)
+swept P k (Shut block) history = Shut block
+swept P k (Fork block x a first second) history =
+    Fork block x a (swept P k first (Is x a ∷ after block history)) (swept P k second (IsNot x a ∷ after block history))
+
+-- The blocks of a tree's open leaves are empty.
+abbrev pub HasEmptyOpen : Tree → Type 0
+HasEmptyOpen (Open block) = block ≡ []
+HasEmptyOpen (Closed block) = Unit {0}
+HasEmptyOpen (Split block x a first second) = HasEmptyOpen first × HasEmptyOpen second
+
+-- Each unary cost of a live value and each residual cost of a live tuple is below 2^64.
+pub record HasSmallCosts (P : Network) (history : List Event) : Type 0 where
+  pub unary : (x a : ℕ) → IsValue P x a → IsTrue (is_live history x a) → unary P history x a <ℤ pos (2 ^ 64)
+  pub residual : (f : ℕ) (tuple : List ℕ) → f < length P.functions → Fits (dims_at P f) tuple → IsTrue (is_live_tuple P history f tuple) → residual P history f tuple <ℤ pos (2 ^ 64)
+
+-- Costs stay that small along a block, and along the tree.
+abbrev pub TameBlock : Network → List Event → List Step → Type 0
+TameBlock P history [] = HasSmallCosts P history
+TameBlock P history (step ∷ steps) = HasSmallCosts P history × TameBlock P (Did step ∷ history) steps
+
+abbrev pub Tame : Network → List Event → Tree → Type 0
+Tame P history (Open block) = TameBlock P history block
+Tame P history (Closed block) = TameBlock P history block
+Tame P history (Split block x a first second) =
+    TameBlock P history block × Tame P (Is x a ∷ after block history) first × Tame P (IsNot x a ∷ after block history) second
+
+-- A leaf that a worker has in hand: its number, the worker, how many nodes it may make, the floor, and what stands
+-- before the leaf.
+pub record Task : Type 0 where
+  pub leaf : ℕ
+  pub worker : ℕ
+  pub grant : ℕ
+  pub floor : ℕ
+  pub path : List Event
+
+-- Each step of a path is allowed at k after what stands before it, and each decision is in range.
+abbrev pub RunsAlong : Network → List Event → ℕ → Type 0
+RunsAlong P [] k = Unit {0}
+RunsAlong P (Did step ∷ path) k = Allowed P path k step × RunsAlong P path k
+RunsAlong P (Is x a ∷ path) k = IsValue P x a × RunsAlong P path k
+RunsAlong P (IsNot x a ∷ path) k = IsValue P x a × RunsAlong P path k
+
+-- Costs stay small along a path.
+abbrev pub TameAlong : Network → List Event → Type 0
+TameAlong P [] = HasSmallCosts P []
+TameAlong P (event ∷ path) = HasSmallCosts P (event ∷ path) × TameAlong P path
+
+-- What a task keeps: its path runs at some threshold and is tame, and it may make a node at least.
+pub record IsTask (P : Network) (task : Task) : Type 0 where
+  pub runs : (k : ℕ) × RunsAlong P task.path k
+  pub tame : TameAlong P task.path
+  pub floor : task.floor ≡ floor P task.path
+  pub some : 1 ≤ task.grant
+
+-- What a worker made of a task: the tree below its leaf, and the threshold that it was made at.
+pub record Piece : Type 0 where
+  pub task : Task
+  pub tree : Tree
+  pub threshold : ℕ
+
+-- What a piece keeps: its tree goes on from the leaf, and has 1 to grant splits and closed leaves.
+pub record IsPiece (P : Network) (piece : Piece) : Type 0 where
+  pub valid : Valid P piece.task.path piece.tree piece.threshold
+  pub strict : Strict P piece.task.path piece.tree
+  pub tame : Tame P piece.task.path piece.tree
+  pub empty : HasEmptyOpen piece.tree
+  pub some : 1 ≤ count piece.tree
+  pub few : count piece.tree ≤ piece.task.grant
+
+-- What a holder has of the word: the best assignment that it keeps, the threshold that it has seen, and its shares.
+pub record View : Type 0 where
+  pub best : Option (List ℕ)
+  pub seen : ℕ
+  pub shares : ℕ
+
+-- The pool's state. The numbers of leaves are below next.
+pub record Pool : Type 0 where
+  pub tree : PoolTree
+  pub next : ℕ
+  pub budget : ℕ
+  pub nodes : ℕ
+  pub view : View
+
+-- A sound pool: its tree is valid, strict and tame at the threshold seen, and the nodes keep to the budget.
+pub record IsSound (P : Network) (pool : Pool) : Type 0 where
+  pub seen : pool.view.seen ≤ P.upper
+  pub valid : Valid P [] (tree_of pool.tree) pool.view.seen
+  pub strict : Strict P [] (tree_of pool.tree)
+  pub tame : Tame P [] (tree_of pool.tree)
+  pub counted : pool.nodes ≤ count (tree_of pool.tree)
+  pub within : pool.nodes + granted pool.tree ≤ pool.budget

@@ -1,0 +1,58 @@
+//! What holds of the pool machine, each the contract of a function with nothing to do.
+
+ghost use Rattle.cfn_core.specs.Examples.{SplitSpends, RecallRefuses};
+ghost use Rattle.cfn_core.specs.Laws.{Opens, Keeps, OpensHanded, KeepsHanded, Holds, IsFound, Solves, HandsOutTasks, NeverGone, AnswersAll, AnswersOnce, RunsAll, RunsOnce};
+
+/// At the opening the pool is sound and the word keeps its rule, and each action of a worker keeps both.
+pub fn each_action()
+    ensures opens { Opens }
+    ensures keeps { Keeps }
+{}
+
+/// Open leaves have numbers of their own, and the task of each leaf that is out is in some worker's hand: at the
+/// opening, and after each action.
+pub fn in_hand()
+    ensures opens { OpensHanded }
+    ensures keeps { KeepsHanded }
+{}
+
+/// What holds after every list of actions from the opening, in whatever order the workers act: the pool is sound, every
+/// assignment is covered, the word keeps its rule, the tree is valid at the word, its bound there is at most every cost,
+/// and the task of each leaf that is out is in hand.
+pub fn every_order()
+    ensures { Holds }
+{}
+
+/// Where the word is below the upper bound, an assignment has it as its cost; where no leaf is open besides, it is the
+/// least cost. Where no leaf is open and the word is the upper bound, every assignment costs that.
+pub fn solved()
+    ensures found { IsFound }
+    ensures solves { Solves }
+{}
+
+/// The path of a task that is handed out runs at some threshold, with small costs all along it, and its grant is 1 to
+/// what its worker wants.
+pub fn tasks()
+    ensures { HandsOutTasks }
+{}
+
+/// As long as no action calls the leaves back, a piece of a task that is in hand is never answered `Gone`.
+pub fn never_gone()
+    ensures { NeverGone }
+{}
+
+/// Every action has an answer in every world, and where leaves have numbers of their own it has one alone. So each list
+/// of actions from the opening has one list of answers and leaves one world.
+pub fn one_answer()
+    ensures all { AnswersAll }
+    ensures once { AnswersOnce }
+    ensures runs { RunsAll }
+    ensures one_run { RunsOnce }
+{}
+
+/// Two lists of actions with their answers: a split spends a budget of 1, and a piece of a leaf that was called back is
+/// refused and its leaf handed out again.
+pub fn examples()
+    ensures spent { SplitSpends }
+    ensures refused { RecallRefuses }
+{}

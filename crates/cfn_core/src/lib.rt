@@ -1,0 +1,8 @@
+//! The pool machine: a search tree whose open leaves are handed out to workers, and the word, the least price that any
+//! of them has found, which each reads and lowers at its own time.
+//!
+//! The machine is defined in specs/ as a relation over lists of actions, each one atomic step of one worker; `laws`
+//! says what holds after every such list, so whatever the order in which the workers act.
+#![tactic(auto)]
+
+pub mod laws;
