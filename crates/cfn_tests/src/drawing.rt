@@ -32,23 +32,22 @@ impl Dice {
         self.below(most).saturating_add(1)
     }
 
-    /// A cost, often small, often by the upper bound, and at times above it.
+    /// A cost, mostly a small one, and at times one by the upper bound or above it.
     fn cost(&mut self, upper: u64) -> u64 {
-        match self.below(9) {
+        match self.below(24) {
             0 => upper,
             1 => upper.saturating_add(1).min(MOST),
             2 => upper.saturating_sub(1),
             3 => upper / 2,
-            4 => 0,
-            _ => self.below(5),
+            _ => self.below(6),
         }
     }
 }
 
-/// The words of a network with this upper bound: 1 to 4 variables with 1 to 4 values, and at most 5 functions.
+/// The words of a network with this upper bound: 1 to 4 variables with 1 to 4 values, and 1 to 5 functions.
 pub(crate) fn draw(alloc: Global, dice: &mut Dice, upper: u64) -> Result<Vec<u64>, AllocError> {
     let variables = dice.up_to(4);
-    let functions = dice.below(6);
+    let functions = dice.up_to(5);
     let mut room = ASSIGNMENTS;
     let mut sizes = Vec::new(alloc);
     for _ in 0..variables {
@@ -89,7 +88,7 @@ fn draw_function(
 
 /// Draws up to 3 different variables, in an order that rises or falls from any one of them on, and round the end.
 fn draw_scope(alloc: Global, dice: &mut Dice, variables: u64) -> Result<Vec<u64>, AllocError> {
-    let most = dice.below(4);
+    let most = dice.below(8).min(3);
     let rises = dice.below(2) == 0;
     let mut variable = dice.below(variables);
     let mut scope = Vec::new(alloc);
