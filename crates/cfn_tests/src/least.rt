@@ -11,7 +11,7 @@ use std::test::Fail;
 const AMPLE: u64 = 1_000_000;
 
 /// How many networks are drawn for each upper bound.
-const DRAWN: u64 = 16;
+const DRAWN: u64 = 50;
 
 /// Judges the searches of a file whose least cost below its upper bound is known.
 fn judge<R: Abort>(rt: &R, alloc: Global, file: &str, least: Option<u64>) -> Result<(), Fail> {
@@ -88,53 +88,55 @@ fn drawn_networks(rt: HostRuntime) -> Result<(), Fail> {
     Ok(())
 }
 
+/// Files, and the least cost below the upper bound, worked out by hand.
+const BY_HAND: [(&str, Option<u64>); 16] = [
+    // no function: 0 where the upper bound allows it
+    ("n 1 1 0 1 1", Some(0)),
+    ("n 1 1 0 0 1", None),
+    ("n 3 4 0 9223372036854775807 4 4 4", Some(0)),
+    // a constant below the upper bound, at it and above it; the last listing counts
+    ("n 1 2 1 10 2 0 9 0", Some(9)),
+    ("n 1 2 1 10 2 0 10 0", None),
+    ("n 1 2 1 10 2 0 11 0", None),
+    ("n 1 2 1 10 2 0 11 2 12 4", Some(4)),
+    // listed twice, and the dear listing last
+    ("n 1 2 1 10 2 1 0 5 2 0 1 0 7", Some(5)),
+    // two functions on one scope, one of them turned round: 0 1 costs 2 + 0 and 1 0 costs 0 + 3
+    (
+        "n 2 2 2 10 2 2 2 0 1 9 2 0 1 2 1 0 0 2 1 0 9 2 1 0 0 0 1 3",
+        Some(2),
+    ),
+    // all different over three values costs nothing, over two values 1
+    (
+        "n 3 3 3 10 3 3 3 2 0 1 0 3 0 0 1 1 1 1 2 2 1 2 0 2 0 3 0 0 1 1 1 1 2 2 1 2 1 2 0 3 0 0 1 1 1 1 2 2 1",
+        Some(0),
+    ),
+    (
+        "n 3 2 3 10 2 2 2 2 0 1 0 2 0 0 1 1 1 1 2 0 2 0 2 0 0 1 1 1 1 2 1 2 0 2 0 0 1 1 1 1",
+        Some(1),
+    ),
+    // a table over three variables: only 1 2 3 is allowed
+    ("n 3 4 1 10 2 3 4 3 0 1 2 10 1 1 2 3 6", Some(6)),
+    // the same with the scope turned round, and a constant that leaves nothing allowed
+    ("n 3 4 2 10 2 3 4 3 2 1 0 10 1 3 2 1 6 0 4 0", None),
+    // sums just below the greatest upper bound, at it and far above it
+    (
+        "n 1 1 2 9223372036854775807 1 1 0 4611686018427387903 0 1 0 4611686018427387903 0",
+        Some(9223372036854775806),
+    ),
+    (
+        "n 1 1 2 9223372036854775807 1 1 0 4611686018427387904 0 1 0 4611686018427387903 0",
+        None,
+    ),
+    (
+        "n 1 1 3 9223372036854775807 1 0 9223372036854775807 0 1 0 9223372036854775807 0 1 0 9223372036854775807 0",
+        None,
+    ),
+];
+
 #[test]
 fn networks_by_hand(rt: HostRuntime) -> Result<(), Fail> {
-    let rows: [(&str, Option<u64>); 16] = [
-        // no function: 0 where the upper bound allows it
-        ("n 1 1 0 1 1", Some(0)),
-        ("n 1 1 0 0 1", None),
-        ("n 3 4 0 9223372036854775807 4 4 4", Some(0)),
-        // a constant below the upper bound, at it and above it; the last listing counts
-        ("n 1 2 1 10 2 0 9 0", Some(9)),
-        ("n 1 2 1 10 2 0 10 0", None),
-        ("n 1 2 1 10 2 0 11 0", None),
-        ("n 1 2 1 10 2 0 11 2 12 4", Some(4)),
-        // listed twice, and the dear listing last
-        ("n 1 2 1 10 2 1 0 5 2 0 1 0 7", Some(5)),
-        // two functions on one scope, one of them turned round: 0 1 costs 2 + 0 and 1 0 costs 0 + 3
-        (
-            "n 2 2 2 10 2 2 2 0 1 9 2 0 1 2 1 0 0 2 1 0 9 2 1 0 0 0 1 3",
-            Some(2),
-        ),
-        // all different over three values costs nothing, over two values 1
-        (
-            "n 3 3 3 10 3 3 3 2 0 1 0 3 0 0 1 1 1 1 2 2 1 2 0 2 0 3 0 0 1 1 1 1 2 2 1 2 1 2 0 3 0 0 1 1 1 1 2 2 1",
-            Some(0),
-        ),
-        (
-            "n 3 2 3 10 2 2 2 2 0 1 0 2 0 0 1 1 1 1 2 0 2 0 2 0 0 1 1 1 1 2 1 2 0 2 0 0 1 1 1 1",
-            Some(1),
-        ),
-        // a table over three variables: only 1 2 3 is allowed
-        ("n 3 4 1 10 2 3 4 3 0 1 2 10 1 1 2 3 6", Some(6)),
-        // the same with the scope turned round, and a constant that leaves nothing allowed
-        ("n 3 4 2 10 2 3 4 3 2 1 0 10 1 3 2 1 6 0 4 0", None),
-        // sums just below the greatest upper bound, at it and far above it
-        (
-            "n 1 1 2 9223372036854775807 1 1 0 4611686018427387903 0 1 0 4611686018427387903 0",
-            Some(9223372036854775806),
-        ),
-        (
-            "n 1 1 2 9223372036854775807 1 1 0 4611686018427387904 0 1 0 4611686018427387903 0",
-            None,
-        ),
-        (
-            "n 1 1 3 9223372036854775807 1 0 9223372036854775807 0 1 0 9223372036854775807 0 1 0 9223372036854775807 0",
-            None,
-        ),
-    ];
-    for (file, least) in rows {
+    for (file, least) in BY_HAND {
         judge(&rt, rt.alloc(), file, least)?;
     }
     Ok(())

@@ -4,64 +4,66 @@ use crate::running::{Run, TINY, TRI};
 use std::alloc::{AllocError, Global};
 use std::test::Fail;
 
+/// Files that are refused, and what is said of them.
+const REFUSED: [(&[u8], &[u8]); 16] = [
+    (b"", b"error short at 1\n"),
+    (b" \t\n\x0b\x0c\r", b"error short at 1\n"),
+    (b"tiny 1 2 1 10\n2\n1 0 3 1\n1", b"error short at 12\n"),
+    (
+        b"tiny 1 x 1 10\n2\n1 0 3 1\n1 1\n",
+        b"error not-number at 3\n",
+    ),
+    (
+        b"tiny 1 2 1 9223372036854775808\n2\n1 0 3 1\n1 1\n",
+        b"error too-large at 5\n",
+    ),
+    (
+        b"tiny 1 2 1 10\n2\n1 0 3 1\n1 --1\n",
+        b"error not-number at 12\n",
+    ),
+    (
+        b"tiny 1 2 1 10\n2\n1 0 3 1\n1 -1\n",
+        b"error negative-cost at 12\n",
+    ),
+    (
+        b"tiny 1 2 1 10\n2\n1 0 3 1\n2 1\n",
+        b"error value-out-of-range at 11\n",
+    ),
+    (
+        b"key 2 2 1 10\n2 2\n2 0 1 -1 >= 0 0\n",
+        b"error keyword at 11\n",
+    ),
+    (
+        b"rep 2 2 1 10\n2 2\n2 0 0 0 0\n",
+        b"error repeated-variable at 10\n",
+    ),
+    (b"int 1 3 0 10\n-3\n", b"error interval-domain at 6\n"),
+    (
+        b"wide 2 4096 1 10\n4096 4096\n2 0 1 0 0\n",
+        b"error table-too-wide at 10\n",
+    ),
+    // what a file of some ten words merely claims
+    (
+        b"arity 1 2 1 10\n2\n9223372036854775807 0 0 0\n",
+        b"error repeated-variable at 9\n",
+    ),
+    (
+        b"arity 1 2 1 10\n2\n9223372036854775807 0\n",
+        b"error short at 9\n",
+    ),
+    (
+        b"tuples 1 2 1 10\n2\n1 0 3 67108864\n",
+        b"error short at 11\n",
+    ),
+    (
+        b"tuples 1 2 1 10\n2\n1 0 3 67108865\n",
+        b"error too-many at 10\n",
+    ),
+];
+
 #[test]
 fn refused_files_name_the_word(rt: HostRuntime) -> Result<(), Fail> {
-    let rows: [(&[u8], &[u8]); 16] = [
-        (b"", b"error short at 1\n"),
-        (b" \t\n\x0b\x0c\r", b"error short at 1\n"),
-        (b"tiny 1 2 1 10\n2\n1 0 3 1\n1", b"error short at 12\n"),
-        (
-            b"tiny 1 x 1 10\n2\n1 0 3 1\n1 1\n",
-            b"error not-number at 3\n",
-        ),
-        (
-            b"tiny 1 2 1 9223372036854775808\n2\n1 0 3 1\n1 1\n",
-            b"error too-large at 5\n",
-        ),
-        (
-            b"tiny 1 2 1 10\n2\n1 0 3 1\n1 --1\n",
-            b"error not-number at 12\n",
-        ),
-        (
-            b"tiny 1 2 1 10\n2\n1 0 3 1\n1 -1\n",
-            b"error negative-cost at 12\n",
-        ),
-        (
-            b"tiny 1 2 1 10\n2\n1 0 3 1\n2 1\n",
-            b"error value-out-of-range at 11\n",
-        ),
-        (
-            b"key 2 2 1 10\n2 2\n2 0 1 -1 >= 0 0\n",
-            b"error keyword at 11\n",
-        ),
-        (
-            b"rep 2 2 1 10\n2 2\n2 0 0 0 0\n",
-            b"error repeated-variable at 10\n",
-        ),
-        (b"int 1 3 0 10\n-3\n", b"error interval-domain at 6\n"),
-        (
-            b"wide 2 4096 1 10\n4096 4096\n2 0 1 0 0\n",
-            b"error table-too-wide at 10\n",
-        ),
-        // what a file of some ten words merely claims
-        (
-            b"arity 1 2 1 10\n2\n9223372036854775807 0 0 0\n",
-            b"error repeated-variable at 9\n",
-        ),
-        (
-            b"arity 1 2 1 10\n2\n9223372036854775807 0\n",
-            b"error short at 9\n",
-        ),
-        (
-            b"tuples 1 2 1 10\n2\n1 0 3 67108864\n",
-            b"error short at 11\n",
-        ),
-        (
-            b"tuples 1 2 1 10\n2\n1 0 3 67108865\n",
-            b"error too-many at 10\n",
-        ),
-    ];
-    for (file, said) in rows {
+    for (file, said) in REFUSED {
         let run = Run::solve(&rt, file)?;
         assert_eq!(rt; run.said(), said);
         assert_eq!(rt; run.status, 4);
