@@ -1,7 +1,5 @@
 //! A whole run over a desk in memory, and questions about what it said and wrote.
 
-ghost use Rattle.std.specs.Prelude.{◌≡◌, None, false, IfOk};
-
 use cfn_app::{OpenGate, run};
 use cfn_desk::MemoryDesk;
 use std::alloc::AllocError;
