@@ -1,0 +1,143 @@
+//! Searches of small networks, judged by the plain program and by costs that are known from elsewhere.
+
+use crate::drawing::{Dice, MOST, draw, file_of, least_of};
+use cfn_net::Network;
+use cfn_search::{Outcome, Stop, solve};
+use std::alloc::{AllocError, Global};
+use std::process::Abort;
+use std::test::Fail;
+
+/// A budget that no search of these networks spends.
+const AMPLE: u64 = 1_000_000;
+
+/// How many networks are drawn for each upper bound.
+const DRAWN: u64 = 50;
+
+/// Judges the searches of a file whose least cost below its upper bound is known.
+fn judge<R: Abort>(rt: &R, alloc: Global, file: &str, least: Option<u64>) -> Result<(), Fail> {
+    let network = cfn_wcsp::read(alloc, file.as_bytes())?;
+    assert_eq!(rt; cfn_plain::least(alloc, &network)?, least, "of {file}");
+    let whole = solve(alloc, &network, AMPLE)?;
+    assert!(rt; whole.stop == Stop::Done, "of {file}");
+    assert!(rt; is_sound(alloc, &network, &whole)?, "of {file}");
+    assert_eq!(rt; price(&whole), least, "of {file}");
+    assert_eq!(rt;
+        whole.certificate.lower,
+        least.unwrap_or(network.ub()),
+        "of {file}"
+    );
+    for budget in 0..3 {
+        let cut = solve(alloc, &network, budget)?;
+        assert!(rt; is_sound(alloc, &network, &cut)?, "of {file}");
+        assert!(rt; is_within(&cut, budget), "of {file}");
+        assert!(rt;
+            cut.certificate.lower <= least.unwrap_or(network.ub()),
+            "of {file}"
+        );
+        assert!(rt;
+            least.unwrap_or(network.ub()) <= price(&cut).unwrap_or(network.ub()),
+            "of {file}"
+        );
+    }
+    Ok(())
+}
+
+/// Whether the certificate of an outcome is good, its tree strict, its lower bound the tree's bound, and the first
+/// row of bounds at most that.
+fn is_sound(alloc: Global, network: &Network, outcome: &Outcome) -> Result<bool, AllocError> {
+    let certificate = &outcome.certificate;
+    let threshold = price(outcome).unwrap_or(network.ub());
+    let bound = cfn_plain::bound(alloc, network, &certificate.tree, threshold)?;
+    let opening = outcome.rows.as_slice().first();
+    Ok(
+        cfn_plain::good(alloc, network, certificate)?
+            && cfn_plain::strict(alloc, network, &certificate.tree)?
+            && certificate.lower == bound
+            && opening.is_some_and(|row| row.lower <= bound && row.upper.is_none()),
+    )
+}
+
+/// Whether a search kept its budget, and stopped because it was done or the budget was spent.
+fn is_within(outcome: &Outcome, budget: u64) -> bool {
+    match outcome.stop {
+        Stop::Done => outcome.nodes <= budget,
+        Stop::Budget => outcome.nodes == budget,
+        Stop::Memory => false,
+    }
+}
+
+/// The cost of the best assignment of an outcome.
+fn price(outcome: &Outcome) -> Option<u64> {
+    match &outcome.certificate.best {
+        Some(scored) => Some(scored.price()),
+        None => None,
+    }
+}
+
+#[test]
+fn drawn_networks(rt: HostRuntime) -> Result<(), Fail> {
+    let mut dice = Dice { state: 2026 };
+    for upper in [0, 1, 8, 15, 40, MOST] {
+        for _ in 0..DRAWN {
+            let words = draw(rt.alloc(), &mut dice, upper)?;
+            let file = file_of(rt.alloc(), words.as_slice())?;
+            let least = least_of(rt.alloc(), words.as_slice())?;
+            judge(&rt, rt.alloc(), file.as_str(), least)?;
+        }
+    }
+    Ok(())
+}
+
+/// Files, and the least cost below the upper bound, worked out by hand.
+const BY_HAND: [(&str, Option<u64>); 16] = [
+    // no function: 0 where the upper bound allows it
+    ("n 1 1 0 1 1", Some(0)),
+    ("n 1 1 0 0 1", None),
+    ("n 3 4 0 9223372036854775807 4 4 4", Some(0)),
+    // a constant below the upper bound, at it and above it; the last listing counts
+    ("n 1 2 1 10 2 0 9 0", Some(9)),
+    ("n 1 2 1 10 2 0 10 0", None),
+    ("n 1 2 1 10 2 0 11 0", None),
+    ("n 1 2 1 10 2 0 11 2 12 4", Some(4)),
+    // listed twice, and the dear listing last
+    ("n 1 2 1 10 2 1 0 5 2 0 1 0 7", Some(5)),
+    // two functions on one scope, one of them turned round: 0 1 costs 2 + 0 and 1 0 costs 0 + 3
+    (
+        "n 2 2 2 10 2 2 2 0 1 9 2 0 1 2 1 0 0 2 1 0 9 2 1 0 0 0 1 3",
+        Some(2),
+    ),
+    // all different over three values costs nothing, over two values 1
+    (
+        "n 3 3 3 10 3 3 3 2 0 1 0 3 0 0 1 1 1 1 2 2 1 2 0 2 0 3 0 0 1 1 1 1 2 2 1 2 1 2 0 3 0 0 1 1 1 1 2 2 1",
+        Some(0),
+    ),
+    (
+        "n 3 2 3 10 2 2 2 2 0 1 0 2 0 0 1 1 1 1 2 0 2 0 2 0 0 1 1 1 1 2 1 2 0 2 0 0 1 1 1 1",
+        Some(1),
+    ),
+    // a table over three variables: only 1 2 3 is allowed
+    ("n 3 4 1 10 2 3 4 3 0 1 2 10 1 1 2 3 6", Some(6)),
+    // the same with the scope turned round, and a constant that leaves nothing allowed
+    ("n 3 4 2 10 2 3 4 3 2 1 0 10 1 3 2 1 6 0 4 0", None),
+    // sums just below the greatest upper bound, at it and far above it
+    (
+        "n 1 1 2 9223372036854775807 1 1 0 4611686018427387903 0 1 0 4611686018427387903 0",
+        Some(9223372036854775806),
+    ),
+    (
+        "n 1 1 2 9223372036854775807 1 1 0 4611686018427387904 0 1 0 4611686018427387903 0",
+        None,
+    ),
+    (
+        "n 1 1 3 9223372036854775807 1 0 9223372036854775807 0 1 0 9223372036854775807 0 1 0 9223372036854775807 0",
+        None,
+    ),
+];
+
+#[test]
+fn networks_by_hand(rt: HostRuntime) -> Result<(), Fail> {
+    for (file, least) in BY_HAND {
+        judge(&rt, rt.alloc(), file, least)?;
+    }
+    Ok(())
+}

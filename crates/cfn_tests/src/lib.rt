@@ -1,0 +1,21 @@
+//! Tests that cross the crates of the solver, and no code of its own.
+//!
+//! - `running` is a whole run over files in memory, and `drawing` draws small networks with the least cost that their
+//!   words say.
+//! - `solving`, `reading` and `failing` judge whole runs: what is found, which files are refused, and what a fault of
+//!   the outside leaves.
+//! - `least` judges searches by the plain program and by the drawn words.
+#![tactic(auto)]
+
+#[cfg(test)]
+mod drawing;
+#[cfg(test)]
+mod failing;
+#[cfg(test)]
+mod least;
+#[cfg(test)]
+mod reading;
+#[cfg(test)]
+mod running;
+#[cfg(test)]
+mod solving;
