@@ -1,18 +1,26 @@
 -- What each status of a run says, from how the run may end.
-use Rattle.std.proofs.Common.{◌≡◌, ◌≢◌, ℕ, ◌≤◌, ◌⊎◌, inl, inr, List, refl, sym, ap, ◌∙◌, subst, arith}
-use Rattle.std.specs.Prelude.{Option, Some, None, IfSome, IsSomeAnd, Ok, Err}
+use Rattle.std.proofs.Common.{◌≡◌, ◌≢◌, ℕ, zero, suc, ◌<◌, ◌≤◌, ◌⊎◌, inl, inr, List, [], ◌∷◌, refl, sym, ap, ◌∙◌, subst, arith}
+use Rattle.std.specs.Prelude.{Option, Some, None, IfSome, IsSomeAnd, Result, Ok, Err, length, slice_index}
 use Rattle.cfn_model.specs.declared.report.ResultWord.{ResultWord}
 use Rattle.cfn_model.specs.declared.report.ResultWord.TheVariants.{Optimum, Nothing, Budget, Memory}
 use Rattle.cfn_model.specs.declared.reading.Refusal.{Refusal}
-use Rattle.cfn_model.specs.Network.{Network}
+use Rattle.cfn_model.specs.Network.{Network, Fits}
 use Rattle.cfn_model.specs.Reading.{Reads, Refuses, reading}
 use Rattle.cfn_model.specs.Text.{memory_fault_text}
 use Rattle.cfn_desk.specs.Desk.{Files, Rose}
-use Rattle.cfn_app.specs.Command.{Task, usage_text}
-use Rattle.cfn_app.specs.Outside.{Outside, HasFile, Says, EndsSaying}
-use Rattle.cfn_app.specs.Headline.{status_of, unread, no_memory, refused, written, unwritten, Runs, Reports, ReportsOf, RefusedOf, IsAccepted, IsSolvedStatus, Statuses}
+use Rattle.cfn_net.specs.Fitting.{IsFirstMisfit}
+use Rattle.cfn_report.specs.Texts.{usage_text}
+use Rattle.cfn_cli.specs.Request.{Request, solve, cost, SolveRequest, CostRequest}
+use Rattle.cfn_app.specs.Outside.{Outside, ReadsFile, RefusesFile, Says, EndsSaying}
+use Rattle.cfn_app.specs.Headline.{status_of, Reports}
+use Rattle.cfn_app.specs.Runs.{Runs, no_memory, usage, unread, refused, written, unwritten, costs, wrong_number, wrong_value, file_of}
+use Rattle.cfn_app.specs.Statuses.{Solved, Costed, FileRefused, ValuesRefused, IsRefused, Tells, IsHindered, Statuses}
 
-word_status : (word : ResultWord) → IsSolvedStatus (status_of word)
+-- 0, 1, 2 or 6
+abbrev IsWordStatus : ℕ → Type 0
+IsWordStatus status = (status ≡ 0) ⊎ ((status ≡ 1) ⊎ ((status ≡ 2) ⊎ (status ≡ 6)))
+
+word_status : (word : ResultWord) → IsWordStatus (status_of word)
 word_status Optimum = inl refl
 word_status Nothing = inr (inl refl)
 word_status Budget = inr (inr (inl refl))
@@ -36,12 +44,67 @@ same_word Memory Nothing e = absurd (omega (arith, e))
 same_word Memory Budget e = absurd (omega (arith, e))
 same_word Memory Memory e = refl
 
--- what a read of a file gives, it gives alone
-one_reading : (files : Option Files) (name bytes other : List ℕ) → IsSomeAnd files (λ f. f name ≡ Some other) → IfSome files (λ f. f name ≡ Some bytes) → Some bytes ≡ Some other
-one_reading None name bytes other told has = absurd told
-one_reading (Some f) name bytes other told has = sym has ∙ told
+-- requests are one
 
-module _ (workers budget : ℕ) (old new : Outside) (status : ℕ) where
+none_some : {A : Type 0} (request : Option A) (ask : A) → request ≡ None → request ≡ Some ask → ⊥
+none_some request ask none some = cc
+
+same_ask : {A : Type 0} (request : Option A) (ask other : A) → request ≡ Some ask → request ≡ Some other → ask ≡ other
+same_ask request ask other e o = cc
+
+solve_cost : (request : Option Request) (ask : SolveRequest) (other : CostRequest) → request ≡ Some (solve ask) → request ≡ Some (cost other) → ⊥
+solve_cost request ask other e o = cc
+
+same_cost : (request : Option Request) (ask other : CostRequest) → request ≡ Some (cost ask) → request ≡ Some (cost other) → ask ≡ other
+same_cost request ask other e o = cc
+
+-- what a file reads as is one
+
+same_bytes : (bytes other : List ℕ) → Some bytes ≡ Some other → bytes ≡ other
+same_bytes bytes other e = cc
+
+ok_or_err : (r : Result Network Refusal) (P : Network) (refusal : Refusal) → r ≡ Ok P → r ≡ Err refusal → ⊥
+ok_or_err r P refusal ok err = cc
+
+one_ok : (r : Result Network Refusal) (P Q : Network) → r ≡ Ok P → r ≡ Ok Q → P ≡ Q
+one_ok r P Q p q = cc
+
+told_reading : (files : Option Files) (file bytes : List ℕ) (P : Network) → IsSomeAnd files (λ f. (b : List ℕ) × (f file ≡ Some b) × Reads b P) → IfSome files (λ f. f file ≡ Some bytes) → Reads bytes P
+told_reading None file bytes P told has = absurd told
+told_reading (Some f) file bytes P (b, told, reads) has = subst (λ w. Reads w P) (same_bytes b bytes (sym told ∙ has)) reads
+
+told_refusing : (files : Option Files) (file bytes : List ℕ) → IsSomeAnd files (λ f. (b : List ℕ) × (r : Refusal) × (f file ≡ Some b) × Refuses b r) → IfSome files (λ f. f file ≡ Some bytes) → (r : Refusal) × Refuses bytes r
+told_refusing None file bytes told has = absurd told
+told_refusing (Some f) file bytes (b, r, told, refuses) has = (r, subst (λ w. Refuses w r) (same_bytes b bytes (sym told ∙ has)) refuses)
+
+not_refused : (old : Outside) (file : List ℕ) (P : Network) (r : Refusal) → Tells old file P → RefusesFile old file r → ⊥
+not_refused old file P r told turned = ok_or_err (reading turned.bytes) P r (told_reading old.files file turned.bytes P told turned.file) turned.refuses
+
+one_network : (old : Outside) (file : List ℕ) (P Q : Network) → Tells old file P → ReadsFile old file Q → Q ≡ P
+one_network old file P Q told read = one_ok (reading read.bytes) Q P read.reads (told_reading old.files file read.bytes P told read.file)
+
+not_read : (old : Outside) (request : Option Request) (ask : Request) (P : Network) → request ≡ Some ask → IsRefused request old → ReadsFile old (file_of ask) P → ⊥
+not_read old request ask P is turned read =
+    let here = subst (λ asked. IsRefused asked old) is turned in
+    let r = told_refusing old.files (file_of ask) read.bytes here read.file in
+    ok_or_err (reading read.bytes) P r.0 read.reads r.1
+
+fits_length : (sizes values : List ℕ) → Fits sizes values → length values ≡ length sizes
+fits_length [] [] h = refl
+fits_length [] (v ∷ vs) h = absurd h
+fits_length (s ∷ ss) [] h = absurd h
+fits_length (s ∷ ss) (v ∷ vs) h = ap suc (fits_length ss vs h.1)
+
+fits_at : (sizes values : List ℕ) (i : ℕ) → Fits sizes values → i < length sizes → slice_index values i < slice_index sizes i
+fits_at [] values i h l = absurd (omega (arith, l))
+fits_at (s ∷ ss) [] i h l = absurd h
+fits_at (s ∷ ss) (v ∷ vs) zero h l = h.0
+fits_at (s ∷ ss) (v ∷ vs) (suc i) h l = fits_at ss vs i h.1 (omega (arith, l))
+
+misfit_fits : (sizes values : List ℕ) (x : ℕ) → IsFirstMisfit sizes values x → Fits sizes values → ⊥
+misfit_fits sizes values x misfit fits = let below = fits_at sizes values x fits misfit.variable in omega (arith, below, misfit.out)
+
+module _ (request : Option Request) (old new : Outside) (status : ℕ) where
   ends : (text : List ℕ) (due : ℕ) → EndsSaying old new text due status → (status ≡ due) ⊎ (status ≡ 5)
   ends text due (inl (is, says)) = inl is
   ends text due (inr (is, cut)) = inr is
@@ -50,123 +113,218 @@ module _ (workers budget : ℕ) (old new : Outside) (status : ℕ) where
   says text due (inl (is, said)) other = said
   says text due (inr (is, cut)) other = absurd (other is)
 
-  fault : (text : List ℕ) (due : ℕ) → due ≢ 5 → EndsSaying old new text due status → status ≡ 5 → Rose old.faults new.faults
-  fault text due other (inl (is, said)) five = absurd (omega (arith, other, is, five))
-  fault text due other (inr (is, cut)) five = cut.faults
+  rose : (text : List ℕ) (due : ℕ) → due ≢ 5 → EndsSaying old new text due status → status ≡ 5 → Rose old.faults new.faults
+  rose text due other (inl (is, said)) five = absurd (omega (arith, other, is, five))
+  rose text due other (inr (is, cut)) five = cut.faults
 
   -- a status with a report
-  reports : (task : Option Task) (word : ResultWord) → Runs workers budget task old new status → status ≡ status_of word → ReportsOf workers budget task old new word ⊎ ((status ≡ 6) × Says old new memory_fault_text)
-  reports None word run is = absurd (let s = word_status word in let e = ends usage_text 3 run in omega (arith, s, e, is))
-  reports (Some task) word (unread five cut) is = absurd (let s = word_status word in omega (arith, s, five, is))
-  reports (Some task) word (no_memory (inl (six, said))) is = inr (six, said)
-  reports (Some task) word (no_memory (inr (five, cut))) is = absurd (let s = word_status word in omega (arith, s, five, is))
-  reports (Some task) word (refused bytes refusal has refuses e) is = absurd (let s = word_status word in let o = ends _ 4 e in omega (arith, s, o, is))
-  reports (Some task) word (written bytes P nodes c rows found has reads promise due out) is = inl (subst (λ w. Reports workers budget task old new w) (same_word found word (sym due ∙ is)) (record {
-    bytes = bytes;
-    network = P;
-    nodes = nodes;
-    certificate = c;
-    rows = rows;
-    file = has;
-    reads = reads;
-    promise = promise;
-    written = out;
-  }))
-  reports (Some task) word (unwritten bytes P nodes c rows found has reads promise five out) is = absurd (let s = word_status word in omega (arith, s, five, is))
+  solved : (ask : SolveRequest) (found word : ResultWord) → request ≡ Some (solve ask) → Reports ask old new found → status ≡ status_of found → status ≡ status_of word → Solved request old new word
+  solved ask found word q reports due is = (ask, q, subst (λ w. Reports ask old new w) (same_word found word (sym due ∙ is)) reports)
 
-  reported : (task : Option Task) (word : ResultWord) → Runs workers budget task old new status → status ≡ status_of word → status ≢ 6 → ReportsOf workers budget task old new word
-  reported task word run is other = elim (reports task word run is) [
-    | inl r ↦ r
-    | inr m ↦ absurd (other m.0)
+  done : Runs request old new status → status ≡ 0 → Solved request old new Optimum ⊎ Costed request old new
+  done (no_memory e) is = absurd (let o = ends _ 6 e in omega (arith, o, is))
+  done (usage n e) is = absurd (let o = ends _ 3 e in omega (arith, o, is))
+  done (unread five cut) is = absurd (omega (arith, five, is))
+  done (refused ask r q file e) is = absurd (let o = ends _ 4 e in omega (arith, o, is))
+  done (written ask word q reports due) is = inl (solved ask word Optimum q reports due is)
+  done (unwritten ask P nodes c rows word q file promise five out) is = absurd (omega (arith, five, is))
+  done (costs ask P q file fits e) is = inr (ask, P, q, file, fits, says _ 0 e (omega (arith, is)))
+  done (wrong_number ask P q file other e) is = absurd (let o = ends _ 4 e in omega (arith, o, is))
+  done (wrong_value ask P x q file misfit e) is = absurd (let o = ends _ 4 e in omega (arith, o, is))
+
+  none : Runs request old new status → status ≡ 1 → Solved request old new Nothing
+  none (no_memory e) is = absurd (let o = ends _ 6 e in omega (arith, o, is))
+  none (usage n e) is = absurd (let o = ends _ 3 e in omega (arith, o, is))
+  none (unread five cut) is = absurd (omega (arith, five, is))
+  none (refused ask r q file e) is = absurd (let o = ends _ 4 e in omega (arith, o, is))
+  none (written ask word q reports due) is = solved ask word Nothing q reports due is
+  none (unwritten ask P nodes c rows word q file promise five out) is = absurd (omega (arith, five, is))
+  none (costs ask P q file fits e) is = absurd (let o = ends _ 0 e in omega (arith, o, is))
+  none (wrong_number ask P q file other e) is = absurd (let o = ends _ 4 e in omega (arith, o, is))
+  none (wrong_value ask P x q file misfit e) is = absurd (let o = ends _ 4 e in omega (arith, o, is))
+
+  spent : Runs request old new status → status ≡ 2 → Solved request old new Budget
+  spent (no_memory e) is = absurd (let o = ends _ 6 e in omega (arith, o, is))
+  spent (usage n e) is = absurd (let o = ends _ 3 e in omega (arith, o, is))
+  spent (unread five cut) is = absurd (omega (arith, five, is))
+  spent (refused ask r q file e) is = absurd (let o = ends _ 4 e in omega (arith, o, is))
+  spent (written ask word q reports due) is = solved ask word Budget q reports due is
+  spent (unwritten ask P nodes c rows word q file promise five out) is = absurd (omega (arith, five, is))
+  spent (costs ask P q file fits e) is = absurd (let o = ends _ 0 e in omega (arith, o, is))
+  spent (wrong_number ask P q file other e) is = absurd (let o = ends _ 4 e in omega (arith, o, is))
+  spent (wrong_value ask P x q file misfit e) is = absurd (let o = ends _ 4 e in omega (arith, o, is))
+
+  called : Runs request old new status → status ≡ 3 → (request ≡ None) × Says old new usage_text
+  called (no_memory e) is = absurd (let o = ends _ 6 e in omega (arith, o, is))
+  called (usage n e) is = (n, says _ 3 e (omega (arith, is)))
+  called (unread five cut) is = absurd (omega (arith, five, is))
+  called (refused ask r q file e) is = absurd (let o = ends _ 4 e in omega (arith, o, is))
+  called (written ask word q reports due) is = absurd (let s = word_status word in omega (arith, s, due, is))
+  called (unwritten ask P nodes c rows word q file promise five out) is = absurd (omega (arith, five, is))
+  called (costs ask P q file fits e) is = absurd (let o = ends _ 0 e in omega (arith, o, is))
+  called (wrong_number ask P q file other e) is = absurd (let o = ends _ 4 e in omega (arith, o, is))
+  called (wrong_value ask P x q file misfit e) is = absurd (let o = ends _ 4 e in omega (arith, o, is))
+
+  refusal : Runs request old new status → status ≡ 4 → FileRefused request old new ⊎ ValuesRefused request old new
+  refusal (no_memory e) is = absurd (let o = ends _ 6 e in omega (arith, o, is))
+  refusal (usage n e) is = absurd (let o = ends _ 3 e in omega (arith, o, is))
+  refusal (unread five cut) is = absurd (omega (arith, five, is))
+  refusal (refused ask r q file e) is = inl (ask, r, q, file, says _ 4 e (omega (arith, is)))
+  refusal (written ask word q reports due) is = absurd (let s = word_status word in omega (arith, s, due, is))
+  refusal (unwritten ask P nodes c rows word q file promise five out) is = absurd (omega (arith, five, is))
+  refusal (costs ask P q file fits e) is = absurd (let o = ends _ 0 e in omega (arith, o, is))
+  refusal (wrong_number ask P q file other e) is = inr (ask, P, q, file, inl (other, says _ 4 e (omega (arith, is))))
+  refusal (wrong_value ask P x q file misfit e) is = inr (ask, P, q, file, inr (x, misfit, says _ 4 e (omega (arith, is))))
+
+  fault : Runs request old new status → status ≡ 5 → Rose old.faults new.faults
+  fault (no_memory e) is = rose _ 6 (omega arith) e is
+  fault (usage n e) is = rose _ 3 (omega arith) e is
+  fault (unread five cut) is = cut.faults
+  fault (refused ask r q file e) is = rose _ 4 (omega arith) e is
+  fault (written ask word q reports due) is = absurd (let s = word_status word in omega (arith, s, due, is))
+  fault (unwritten ask P nodes c rows word q file promise five out) is = out.faults
+  fault (costs ask P q file fits e) is = rose _ 0 (omega arith) e is
+  fault (wrong_number ask P q file other e) is = rose _ 4 (omega arith) e is
+  fault (wrong_value ask P x q file misfit e) is = rose _ 4 (omega arith) e is
+
+  memory : Runs request old new status → status ≡ 6 → Says old new memory_fault_text ⊎ Solved request old new Memory
+  memory (no_memory e) is = inl (says _ 6 e (omega (arith, is)))
+  memory (usage n e) is = absurd (let o = ends _ 3 e in omega (arith, o, is))
+  memory (unread five cut) is = absurd (omega (arith, five, is))
+  memory (refused ask r q file e) is = absurd (let o = ends _ 4 e in omega (arith, o, is))
+  memory (written ask word q reports due) is = inr (solved ask word Memory q reports due is)
+  memory (unwritten ask P nodes c rows word q file promise five out) is = absurd (omega (arith, five, is))
+  memory (costs ask P q file fits e) is = absurd (let o = ends _ 0 e in omega (arith, o, is))
+  memory (wrong_number ask P q file other e) is = absurd (let o = ends _ 4 e in omega (arith, o, is))
+  memory (wrong_value ask P x q file misfit e) is = absurd (let o = ends _ 4 e in omega (arith, o, is))
+
+  range : Runs request old new status → status ≤ 6
+  range (no_memory e) = let o = ends _ 6 e in omega (arith, o)
+  range (usage n e) = let o = ends _ 3 e in omega (arith, o)
+  range (unread five cut) = omega (arith, five)
+  range (refused ask r q file e) = let o = ends _ 4 e in omega (arith, o)
+  range (written ask word q reports due) = let s = word_status word in omega (arith, s, due)
+  range (unwritten ask P nodes c rows word q file promise five out) = omega (arith, five)
+  range (costs ask P q file fits e) = let o = ends _ 0 e in omega (arith, o)
+  range (wrong_number ask P q file other e) = let o = ends _ 4 e in omega (arith, o)
+  range (wrong_value ask P x q file misfit e) = let o = ends _ 4 e in omega (arith, o)
+
+  faultless : Runs request old new status → status ≢ 5 → new.faults ≡ old.faults
+  faultless (no_memory e) other = (says _ 6 e other).faults
+  faultless (usage n e) other = (says _ 3 e other).faults
+  faultless (unread five cut) other = absurd (other five)
+  faultless (refused ask r q file e) other = (says _ 4 e other).faults
+  faultless (written ask word q reports due) other = reports.written.faults
+  faultless (unwritten ask P nodes c rows word q file promise five out) other = absurd (other five)
+  faultless (costs ask P q file fits e) other = (says _ 0 e other).faults
+  faultless (wrong_number ask P q file differs e) other = (says _ 4 e other).faults
+  faultless (wrong_value ask P x q file misfit e) other = (says _ 4 e other).faults
+
+  -- which status comes
+
+  hindered : (text : List ℕ) → EndsSaying old new text 6 status → IsHindered status
+  hindered text e = let o = ends text 6 e in elim o [
+    | inl six ↦ inr six
+    | inr five ↦ inl five
   ]
 
-  memory : (task : Option Task) → Runs workers budget task old new status → status ≡ 6 → Says old new memory_fault_text ⊎ ReportsOf workers budget task old new Memory
-  memory task run is = elim (reports task Memory run is) [
-    | inl r ↦ inr r
-    | inr m ↦ inl m.1
-  ]
+  due_or : (text : List ℕ) (due : ℕ) → EndsSaying old new text due status → (status ≡ due) ⊎ IsHindered status
+  due_or text due (inl (is, said)) = inl is
+  due_or text due (inr (is, cut)) = inr (inl is)
 
-  -- how a run ends that reports nothing
-  usage : (task : Option Task) → Runs workers budget task old new status → status ≡ 3 → (task ≡ None) × Says old new usage_text
-  usage None run is = (refl, says usage_text 3 run (omega (arith, is)))
-  usage (Some task) (unread five cut) is = absurd (omega (arith, five, is))
-  usage (Some task) (no_memory e) is = absurd (let o = ends _ 6 e in omega (arith, o, is))
-  usage (Some task) (refused bytes refusal has refuses e) is = absurd (let o = ends _ 4 e in omega (arith, o, is))
-  usage (Some task) (written bytes P nodes c rows word has reads promise due out) is = absurd (let s = word_status word in omega (arith, s, due, is))
-  usage (Some task) (unwritten bytes P nodes c rows word has reads promise five out) is = absurd (omega (arith, five, is))
+  no_command : Runs request old new status → request ≡ None → (status ≡ 3) ⊎ IsHindered status
+  no_command (no_memory e) is = inr (hindered _ e)
+  no_command (usage n e) is = due_or _ 3 e
+  no_command (unread five cut) is = inr (inl five)
+  no_command (refused ask r q file e) is = absurd (none_some request ask is q)
+  no_command (written ask word q reports due) is = absurd (none_some request (solve ask) is q)
+  no_command (unwritten ask P nodes c rows word q file promise five out) is = inr (inl five)
+  no_command (costs ask P q file fits e) is = absurd (none_some request (cost ask) is q)
+  no_command (wrong_number ask P q file other e) is = absurd (none_some request (cost ask) is q)
+  no_command (wrong_value ask P x q file misfit e) is = absurd (none_some request (cost ask) is q)
 
-  refusal : (task : Option Task) → Runs workers budget task old new status → status ≡ 4 → RefusedOf task old new
-  refusal None run is = absurd (let e = ends usage_text 3 run in omega (arith, e, is))
-  refusal (Some task) (unread five cut) is = absurd (omega (arith, five, is))
-  refusal (Some task) (no_memory e) is = absurd (let o = ends _ 6 e in omega (arith, o, is))
-  refusal (Some task) (refused bytes r has refuses e) is = (bytes, r, has, refuses, says _ 4 e (omega (arith, is)))
-  refusal (Some task) (written bytes P nodes c rows word has reads promise due out) is = absurd (let s = word_status word in omega (arith, s, due, is))
-  refusal (Some task) (unwritten bytes P nodes c rows word has reads promise five out) is = absurd (omega (arith, five, is))
+  file_refused : Runs request old new status → IsRefused request old → (status ≡ 4) ⊎ IsHindered status
+  file_refused (no_memory e) refuses = inr (hindered _ e)
+  file_refused (usage n e) refuses = absurd (subst (λ asked. IsRefused asked old) n refuses)
+  file_refused (unread five cut) refuses = inr (inl five)
+  file_refused (refused ask r q file e) refuses = due_or _ 4 e
+  file_refused (written ask word q reports due) refuses = absurd (not_read old request (solve ask) reports.network q refuses reports.reads)
+  file_refused (unwritten ask P nodes c rows word q file promise five out) refuses = inr (inl five)
+  file_refused (costs ask P q file fits e) refuses = absurd (not_read old request (cost ask) P q refuses file)
+  file_refused (wrong_number ask P q file other e) refuses = due_or _ 4 e
+  file_refused (wrong_value ask P x q file misfit e) refuses = due_or _ 4 e
 
-  faulted : (task : Option Task) → Runs workers budget task old new status → status ≡ 5 → Rose old.faults new.faults
-  faulted None run is = fault usage_text 3 (omega arith) run is
-  faulted (Some task) (unread five cut) is = cut.faults
-  faulted (Some task) (no_memory e) is = fault _ 6 (omega arith) e is
-  faulted (Some task) (refused bytes r has refuses e) is = fault _ 4 (omega arith) e is
-  faulted (Some task) (written bytes P nodes c rows word has reads promise due out) is = absurd (let s = word_status word in omega (arith, s, due, is))
-  faulted (Some task) (unwritten bytes P nodes c rows word has reads promise five out) is = out.faults
-
-  faultless : (task : Option Task) → Runs workers budget task old new status → status ≢ 5 → new.faults ≡ old.faults
-  faultless None run other = (says usage_text 3 run other).faults
-  faultless (Some task) (unread five cut) other = absurd (other five)
-  faultless (Some task) (no_memory e) other = (says _ 6 e other).faults
-  faultless (Some task) (refused bytes r has refuses e) other = (says _ 4 e other).faults
-  faultless (Some task) (written bytes P nodes c rows word has reads promise due out) other = out.faults
-  faultless (Some task) (unwritten bytes P nodes c rows word has reads promise five out) other = absurd (other five)
-
-  range : (task : Option Task) → Runs workers budget task old new status → status ≤ 6
-  range None run = let o = ends usage_text 3 run in omega (arith, o)
-  range (Some task) (unread five cut) = omega (arith, five)
-  range (Some task) (no_memory e) = let o = ends _ 6 e in omega (arith, o)
-  range (Some task) (refused bytes r has refuses e) = let o = ends _ 4 e in omega (arith, o)
-  range (Some task) (written bytes P nodes c rows word has reads promise due out) = let s = word_status word in omega (arith, s, due)
-  range (Some task) (unwritten bytes P nodes c rows word has reads promise five out) = omega (arith, five)
-
-  no_command : (task : Option Task) → Runs workers budget task old new status → task ≡ None → (status ≡ 3) ⊎ (status ≡ 5)
-  no_command None run is = ends usage_text 3 run
-  no_command (Some task) run is = absurd (some_none is)
+  solves : Runs request old new status → (ask : SolveRequest) (P : Network) → request ≡ Some (solve ask) → Tells old ask.file P → (status ≡ 0) ⊎ ((status ≡ 1) ⊎ ((status ≡ 2) ⊎ IsHindered status))
+  solves (no_memory e) ask P is told = inr (inr (inr (hindered _ e)))
+  solves (usage n e) ask P is told = absurd (none_some request (solve ask) n is)
+  solves (unread five cut) ask P is told = inr (inr (inr (inl five)))
+  solves (refused other r q file e) ask P is told =
+      absurd (not_refused old ask.file P r told (subst (λ asked. RefusesFile old (file_of asked) r) (same_ask request other (solve ask) q is) file))
+  solves (written other word q reports due) ask P is told = word_or_fault (word_status word)
     where
-      some_none : Some task ≡ None → ⊥
-      some_none e = cc
+      word_or_fault : IsWordStatus (status_of word) → (status ≡ 0) ⊎ ((status ≡ 1) ⊎ ((status ≡ 2) ⊎ IsHindered status))
+      word_or_fault (inl z) = inl (due ∙ z)
+      word_or_fault (inr (inl o)) = inr (inl (due ∙ o))
+      word_or_fault (inr (inr (inl t))) = inr (inr (inl (due ∙ t)))
+      word_or_fault (inr (inr (inr s))) = inr (inr (inr (inr (due ∙ s))))
+  solves (unwritten other Q nodes c rows word q file promise five out) ask P is told = inr (inr (inr (inl five)))
+  solves (costs other Q q file fits e) ask P is told = absurd (solve_cost request ask other is q)
+  solves (wrong_number other Q q file differs e) ask P is told = absurd (solve_cost request ask other is q)
+  solves (wrong_value other Q x q file misfit e) ask P is told = absurd (solve_cost request ask other is q)
 
-  other_reading : (task : Task) (bytes : List ℕ) (r : Refusal) → IsAccepted (Some task) old → HasFile old task.file bytes → Refuses bytes r → ⊥
-  other_reading task bytes r accepted has refuses = against old.files accepted has
-    where
-      clash : (P : Network) → Ok P ≡ Err r → ⊥
-      clash P e = cc
+  -- the assignment that was judged is the one that was asked for, in the network that the file reads as
+  same_fit : (ask other : CostRequest) (P Q : Network) → request ≡ Some (cost ask) → request ≡ Some (cost other) → Tells old ask.file P → ReadsFile old other.file Q → Fits Q.sizes other.values → Fits P.sizes ask.values
+  same_fit ask other P Q is q told file fits =
+      let same = same_cost request other ask q is in
+      let read = subst (λ o. ReadsFile old o.file Q) same file in
+      subst (λ N. Fits N.sizes ask.values) (one_network old ask.file P Q told read) (subst (λ o. Fits Q.sizes o.values) same fits)
 
-      against : (files : Option Files) → IsSomeAnd files (λ f. (b : List ℕ) × (P : Network) × (f task.file ≡ Some b) × Reads b P) → IfSome files (λ f. f task.file ≡ Some bytes) → ⊥
-      against None accepted has = accepted
-      against (Some f) (b, P, told, reads) has = clash P (sym reads ∙ (ap reading (same b (sym told ∙ has)) ∙ refuses))
-        where
-          same : (b : List ℕ) → Some b ≡ Some bytes → b ≡ bytes
-          same b e = cc
+  same_unfit : (ask other : CostRequest) (P Q : Network) → request ≡ Some (cost ask) → request ≡ Some (cost other) → Tells old ask.file P → ReadsFile old other.file Q → Fits P.sizes ask.values → Fits Q.sizes other.values
+  same_unfit ask other P Q is q told file fits =
+      let same = same_cost request other ask q is in
+      let read = subst (λ o. ReadsFile old o.file Q) same file in
+      subst (λ o. Fits Q.sizes o.values) (sym same) (subst (λ N. Fits N.sizes ask.values) (sym (one_network old ask.file P Q told read)) fits)
 
-  accepted : (task : Option Task) → Runs workers budget task old new status → IsAccepted task old → (status ≡ 5) ⊎ IsSolvedStatus status
-  accepted None run ok = absurd ok
-  accepted (Some task) (unread five cut) ok = inl five
-  accepted (Some task) (no_memory (inl (six, said))) ok = inr (inr (inr (inr six)))
-  accepted (Some task) (no_memory (inr (five, cut))) ok = inl five
-  accepted (Some task) (refused bytes r has refuses e) ok = absurd (other_reading task bytes r ok has refuses)
-  accepted (Some task) (written bytes P nodes c rows word has reads promise due out) ok = inr (subst IsSolvedStatus (sym due) (word_status word))
-  accepted (Some task) (unwritten bytes P nodes c rows word has reads promise five out) ok = inl five
+  costed : Runs request old new status → (ask : CostRequest) (P : Network) → request ≡ Some (cost ask) → Tells old ask.file P → Fits P.sizes ask.values → (status ≡ 0) ⊎ IsHindered status
+  costed (no_memory e) ask P is told fits = inr (hindered _ e)
+  costed (usage n e) ask P is told fits = absurd (none_some request (cost ask) n is)
+  costed (unread five cut) ask P is told fits = inr (inl five)
+  costed (refused other r q file e) ask P is told fits =
+      absurd (not_refused old ask.file P r told (subst (λ asked. RefusesFile old (file_of asked) r) (same_ask request other (cost ask) q is) file))
+  costed (written other word q reports due) ask P is told fits = absurd (solve_cost request other ask q is)
+  costed (unwritten other Q nodes c rows word q file promise five out) ask P is told fits = inr (inl five)
+  costed (costs other Q q file fitted e) ask P is told fits = due_or _ 0 e
+  costed (wrong_number other Q q file differs e) ask P is told fits =
+      absurd (differs (fits_length Q.sizes other.values (same_unfit ask other P Q is q told file fits)))
+  costed (wrong_value other Q x q file misfit e) ask P is told fits =
+      absurd (misfit_fits Q.sizes other.values x misfit (same_unfit ask other P Q is q told file fits))
 
-  pub statuses : (task : Option Task) → Runs workers budget task old new status → Statuses workers budget task old new status
-  statuses task run = record {
-    optimum = (λ is. reported task Optimum run is (omega (arith, is)));
-    none = (λ is. reported task Nothing run is (omega (arith, is)));
-    budget_spent = (λ is. reported task Budget run is (omega (arith, is)));
-    usage = (λ is. usage task run is);
-    refused = (λ is. refusal task run is);
-    fault = (λ is. faulted task run is);
-    memory = (λ is. memory task run is);
-    range = range task run;
-    faultless = (λ other. faultless task run other);
-    no_command = (λ is. no_command task run is);
-    accepted = (λ ok. accepted task run ok);
+  misfits : Runs request old new status → (ask : CostRequest) (P : Network) → request ≡ Some (cost ask) → Tells old ask.file P → (Fits P.sizes ask.values → ⊥) → (status ≡ 4) ⊎ IsHindered status
+  misfits (no_memory e) ask P is told unfit = inr (hindered _ e)
+  misfits (usage n e) ask P is told unfit = absurd (none_some request (cost ask) n is)
+  misfits (unread five cut) ask P is told unfit = inr (inl five)
+  misfits (refused other r q file e) ask P is told unfit =
+      absurd (not_refused old ask.file P r told (subst (λ asked. RefusesFile old (file_of asked) r) (same_ask request other (cost ask) q is) file))
+  misfits (written other word q reports due) ask P is told unfit = absurd (solve_cost request other ask q is)
+  misfits (unwritten other Q nodes c rows word q file promise five out) ask P is told unfit = inr (inl five)
+  misfits (costs other Q q file fitted e) ask P is told unfit = absurd (unfit (same_fit ask other P Q is q told file fitted))
+  misfits (wrong_number other Q q file differs e) ask P is told unfit = due_or _ 4 e
+  misfits (wrong_value other Q x q file misfit e) ask P is told unfit = due_or _ 4 e
+
+  pub statuses : Runs request old new status → Statuses request old new status
+  statuses run = record {
+    done = (λ is. done run is);
+    none = (λ is. none run is);
+    budget_spent = (λ is. spent run is);
+    usage = (λ is. called run is);
+    refused = (λ is. refusal run is);
+    fault = (λ is. fault run is);
+    memory = (λ is. memory run is);
+    range = range run;
+    faultless = (λ other. faultless run other);
+    no_command = (λ is. no_command run is);
+    file_refused = (λ refuses. file_refused run refuses);
+    solves = (λ ask P is told. solves run ask P is told);
+    costs = (λ ask P is told fits. costed run ask P is told fits);
+    misfits = (λ ask P is told unfit. misfits run ask P is told unfit);
   }

@@ -1,29 +1,50 @@
--- How a run of `solve` may end, from what its parts did.
-use Rattle.std.proofs.Common.{◌≡◌, ℕ, inl, inr, List}
-use Rattle.std.specs.Prelude.{Option, Bool}
+-- How a run may end, from what its parts did.
+use Rattle.std.proofs.Common.{◌≡◌, ℕ, inl, inr, List, refl}
+use Rattle.std.specs.Prelude.{Option, Some, Bool, Result, Ok, Err, is_ok, if◌then◌else◌}
 use Rattle.cfn_desk.specs.Desk.{Files}
 use Rattle.cfn_model.specs.Network.{Network}
-use Rattle.cfn_model.specs.Reading.{Reads, reading}
-use Rattle.cfn_app.specs.Command.{Task}
-use Rattle.cfn_app.specs.Outside.{Outside, outside_of, HasFile}
-use Rattle.cfn_app.specs.Headline.{Solves, written, unwritten, refused, no_memory}
-use Rattle.cfn_app.specs.Output.{EndsAt, Searches}
+use Rattle.cfn_model.specs.Reading.{reading}
+use Rattle.cfn_report.specs.Saying.{Says as SaysText}
+use Rattle.cfn_cli.specs.Request.{Request, solve, cost, SolveRequest, CostRequest}
+use Rattle.cfn_app.specs.Outside.{Outside, outside_of, HasFile, ReadsFile, EndsSaying}
+use Rattle.cfn_app.specs.Runs.{Runs, no_memory, unread, refused, written, unwritten, costs, wrong_number, wrong_value, file_of}
+use Rattle.cfn_app.specs.Output.{EndsAt, Searches, SaysCost, Unread}
 use Rattle.cfn_wcsp.specs.declared.fault.ReadFault.{ReadFault}
 use Rattle.cfn_wcsp.specs.declared.fault.ReadFault.TheVariants.{Refused, Memory}
 use Rattle.cfn_wcsp.specs.Giving.{Fails}
 
-pub solves_searched : (P : Network) (workers budget : ℕ) (task : Task) (old new : Outside) (status : ℕ) (bytes : List ℕ) → HasFile old task.file bytes → Reads bytes P → Searches P workers budget task.certificate old new status → Solves workers budget task old new status
-solves_searched P workers budget task old new status bytes has reads (inl said) = no_memory said
-solves_searched P workers budget task old new status bytes has reads (inr (nodes, c, rows, word, promise, inl w)) =
-    written bytes P nodes c rows word has reads promise w.0 w.1
-solves_searched P workers budget task old new status bytes has reads (inr (nodes, c, rows, word, promise, inr u)) =
-    unwritten bytes P nodes c rows word has reads promise u.0 u.1
+-- a file whose bytes give no network
+pub unread_at : (file : List ℕ) (old new : Outside) (status : ℕ) (bytes : List ℕ) (fault : ReadFault) → HasFile old file bytes → Fails fault (reading bytes) → EndsAt fault old new status → Unread file old new status
+unread_at file old new status bytes (Refused refusal) has fails ends = inr (inr (refusal, record { bytes = bytes; file = has; refuses = fails }, ends))
+unread_at file old new status bytes Memory has fails ends = inr (inl ends)
 
-pub solves_refused : (workers budget : ℕ) (task : Task) (old new : Outside) (status : ℕ) (bytes : List ℕ) (fault : ReadFault) → HasFile old task.file bytes → Fails fault (reading bytes) → EndsAt fault old new status → Solves workers budget task old new status
-solves_refused workers budget task old new status bytes (Refused refusal) has fails ends = refused bytes refusal has fails ends
-solves_refused workers budget task old new status bytes Memory has fails ends = no_memory ends
+module _ (old new : Outside) (status : ℕ) where
+  -- the file of a request gives no network
+  pub runs_unread : (ask : Request) → Unread (file_of ask) old new status → Runs (Some ask) old new status
+  runs_unread ask (inl (five, cut)) = unread five cut
+  runs_unread ask (inr (inl ends)) = no_memory ends
+  runs_unread ask (inr (inr (refusal, refuses, ends))) = refused ask refusal refl refuses ends
+
+  -- the network of the file was searched
+  pub runs_searched : (P : Network) (ask : SolveRequest) → ReadsFile old ask.file P → Searches P ask old new status → Runs (Some (solve ask)) old new status
+  runs_searched P ask reads (inl said) = no_memory said
+  runs_searched P ask reads (inr (nodes, c, rows, word, promise, inl w)) =
+      written ask word refl (record { network = P; nodes = nodes; certificate = c; rows = rows; reads = reads; promise = promise; written = w.1 }) w.0
+  runs_searched P ask reads (inr (nodes, c, rows, word, promise, inr u)) = unwritten ask P nodes c rows word refl reads promise u.0 u.1
+
+  -- the cost of an assignment was asked for
+  pub runs_costed : (P : Network) (ask : CostRequest) → ReadsFile old ask.file P → SaysCost P ask.values old new status → Runs (Some (cost ask)) old new status
+  runs_costed P ask reads (inl (fits, ends)) = costs ask P refl reads fits ends
+  runs_costed P ask reads (inr (inl (other, ends))) = wrong_number ask P refl reads other ends
+  runs_costed P ask reads (inr (inr (x, misfit, ends))) = wrong_value ask P x refl reads misfit ends
 
 -- Outsides are the same whose meanings are.
 module _ {D : Type 0} (files : D → Option Files) (said : D → Option (List ℕ)) (out : D → Option (List ℕ × List ℕ)) (writing : D → Bool) (faults : D → ℕ) where
   pub same_outside : (old now : D) → files now ≡ files old → said now ≡ said old → out now ≡ out old → writing now ≡ writing old → faults now ≡ faults old → outside_of files said out writing faults now ≡ outside_of files said out writing faults old
   same_outside old now f s o w n = cc
+
+-- What ends a run that says a text.
+module _ {D T E : Type 0} (files : D → Option Files) (said : D → Option (List ℕ)) (out : D → Option (List ℕ × List ℕ)) (writing : D → Bool) (faults : D → ℕ) where
+  pub ends_saying : (before now : D) (text : List ℕ) (result : Result T E) (due status : ℕ) → SaysText files said out writing faults before text result now → status ≡ (if is_ok result then due else 5) → EndsSaying (outside_of files said out writing faults before) (outside_of files said out writing faults now) text due status
+  ends_saying before now text (Ok x) due status s e = inl (e, record { files = s.same_files; said = s.says; faults = s.cause })
+  ends_saying before now text (Err x) due status s e = inr (e, record { files = s.same_files; said = s.cut; faults = s.cause })

@@ -1,6 +1,7 @@
-pub mod Command
 pub mod Outside
 pub mod Headline
+pub mod Runs
+pub mod Statuses
 pub mod Results
 pub mod Saving
 pub mod Output

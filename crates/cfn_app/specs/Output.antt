@@ -1,13 +1,16 @@
 -- How writing a certificate and saying its report may end.
-use Rattle.std.specs.Prelude.{◌≡◌, ◌⊎◌, ℕ, List}
+use Rattle.std.specs.Prelude.{◌≡◌, ◌≢◌, ◌⊎◌, ℕ, List, length, Result, Ok, Err}
 use Rattle.cfn_model.specs.declared.report.Row.{Row}
 use Rattle.cfn_model.specs.declared.report.ResultWord.{ResultWord}
 use Rattle.cfn_model.specs.Certificate.{Certificate}
-use Rattle.cfn_model.specs.Network.{Network}
-use Rattle.cfn_model.specs.Text.{memory_fault_text, refusal_text}
+use Rattle.cfn_model.specs.declared.reading.Refusal.{Refusal}
+use Rattle.cfn_model.specs.Network.{Network, Fits, cost}
+use Rattle.cfn_model.specs.Text.{memory_fault_text, read_fault_text, refusal_text, cost_text, values_fault_text, value_fault_text}
+use Rattle.cfn_net.specs.Fitting.{IsFirstMisfit}
 use Rattle.cfn_wcsp.specs.declared.fault.ReadFault.{ReadFault}
 use Rattle.cfn_wcsp.specs.declared.fault.ReadFault.TheVariants.{Refused, Memory}
-use Rattle.cfn_app.specs.Outside.{Outside, EndsSaying}
+use Rattle.cfn_cli.specs.Request.{SolveRequest}
+use Rattle.cfn_app.specs.Outside.{Outside, ReadsFile, RefusesFile, SaysCut, EndsSaying}
 use Rattle.cfn_app.specs.Headline.{status_of, Promise, Written, Unwritten}
 
 -- Written and said with the result's status, or a fault with status 5.
@@ -16,12 +19,31 @@ PutsOut workers name old new nodes c rows word status =
     ((status ≡ status_of word) × Written workers name old new nodes c rows word) ⊎ ((status ≡ 5) × Unwritten workers name old new nodes c rows word)
 
 -- A network was searched and its certificate and report put out; or memory was refused before there was a report.
-abbrev pub Searches : Network → ℕ → ℕ → List ℕ → Outside → Outside → ℕ → Type 0
-Searches P workers budget name old new status =
+abbrev pub Searches : Network → SolveRequest → Outside → Outside → ℕ → Type 0
+Searches P ask old new status =
     EndsSaying old new memory_fault_text 6 status
-    ⊎ ((nodes : ℕ) × (c : Certificate) × (rows : List Row) × (word : ResultWord) × Promise P budget nodes c rows word × PutsOut workers name old new nodes c rows word status)
+    ⊎ ((nodes : ℕ) × (c : Certificate) × (rows : List Row) × (word : ResultWord) × Promise P ask.budget nodes c rows word × PutsOut ask.workers ask.certificate old new nodes c rows word status)
 
 -- How a run ends whose file is not read: with the refusal, or for want of memory.
 abbrev pub EndsAt : ReadFault → Outside → Outside → ℕ → Type 0
 EndsAt (Refused refusal) old new status = EndsSaying old new (refusal_text refusal) 4 status
 EndsAt Memory old new status = EndsSaying old new memory_fault_text 6 status
+
+-- How a run ends whose file gives no network.
+abbrev pub Unread : List ℕ → Outside → Outside → ℕ → Type 0
+Unread file old new status =
+    ((status ≡ 5) × SaysCut old new read_fault_text)
+    ⊎ (EndsSaying old new memory_fault_text 6 status
+    ⊎ ((refusal : Refusal) × RefusesFile old file refusal × EndsSaying old new (refusal_text refusal) 4 status))
+
+-- The network of a file, the outside being as it was; or the status that the run ends with.
+abbrev pub Loads : List ℕ → Outside → Outside → Result Network ℕ → Type 0
+Loads file old new (Ok P) = ReadsFile old file P × (new ≡ old)
+Loads file old new (Err status) = Unread file old new status
+
+-- The cost of an assignment is said, or what is wrong with the assignment.
+abbrev pub SaysCost : Network → List ℕ → Outside → Outside → ℕ → Type 0
+SaysCost P values old new status =
+    (Fits P.sizes values × EndsSaying old new (cost_text P.upper (cost P values)) 0 status)
+    ⊎ (((length values ≢ length P.sizes) × EndsSaying old new (values_fault_text (length P.sizes) (length values)) 4 status)
+    ⊎ ((x : ℕ) × IsFirstMisfit P.sizes values x × EndsSaying old new (value_fault_text x) 4 status))

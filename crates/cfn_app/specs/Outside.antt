@@ -1,5 +1,8 @@
 -- The outside before and after a run, and what a run may do to it.
 use Rattle.std.specs.Prelude.{◌≡◌, ◌≢◌, ◌⊎◌, ℕ, Bool, List, ◌++◌, Option, Some, IfSome}
+use Rattle.cfn_model.specs.declared.reading.Refusal.{Refusal}
+use Rattle.cfn_model.specs.Network.{Network}
+use Rattle.cfn_model.specs.Reading.{Reads, Refuses}
 use Rattle.cfn_desk.specs.Desk.{Files, Rose, SaysPiece, SaysFront}
 
 -- The five meanings of a desk at one moment.
@@ -16,6 +19,18 @@ outside_of files said out writing faults desk = record { files = files desk; sai
 -- The desk tells that the file of this name has these bytes, where it tells its files.
 abbrev pub HasFile : Outside → List ℕ → List ℕ → Type 0
 HasFile old name bytes = IfSome old.files (λ files. files name ≡ Some bytes)
+
+-- The file of this name reads as the network P: the desk tells its bytes, where it tells its files.
+pub record ReadsFile (old : Outside) (name : List ℕ) (P : Network) : Type 0 where
+  pub bytes : List ℕ
+  pub file : HasFile old name bytes
+  pub reads : Reads bytes P
+
+-- The file of this name is refused so.
+pub record RefusesFile (old : Outside) (name : List ℕ) (refusal : Refusal) : Type 0 where
+  pub bytes : List ℕ
+  pub file : HasFile old name bytes
+  pub refuses : Refuses bytes refusal
 
 -- A text was said, the files are as they were, and no fault was counted.
 pub record Says (old new : Outside) (text : List ℕ) : Type 0 where

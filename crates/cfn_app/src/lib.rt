@@ -1,11 +1,13 @@
 //! The one call that does all that the program does.
 //!
-//! `run` reads the words of the command line, loads and reads the file, searches, writes the certificate and says
-//! the report. What it promises is defined in specs/Headline.antt.
+//! `run` reads the words of the command line, loads and reads the file, and then solves it, writes the certificate and
+//! says the report, or says the cost of an assignment. How it may end is defined in specs/Runs.antt, what each status
+//! says in specs/Statuses.antt, and what a report promises in specs/Headline.antt.
 #![tactic(auto)]
 
-mod command;
+mod costing;
 mod gate;
+mod loading;
 mod output;
 mod program;
 mod saving;

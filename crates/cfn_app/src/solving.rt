@@ -1,77 +1,49 @@
 //! The command `solve`.
 
-ghost use Rattle.std.specs.Prelude.{◌≡◌, ◌≤◌, false};
-ghost use Rattle.cfn_app.specs.Command.{Task as SpokenTask};
-ghost use Rattle.cfn_app.specs.Headline.{Solves};
+ghost use Rattle.std.specs.Prelude.{◌≡◌, ◌≤◌, Some, false};
+ghost use Rattle.cfn_cli.specs.Request.{spoken_solve, solve as solve_request};
 ghost use Rattle.cfn_app.specs.Outside.{outside_of};
-ghost use Rattle.cfn_app.specs.Output.{EndsAt, Searches};
+ghost use Rattle.cfn_app.specs.Output.{Searches};
+ghost use Rattle.cfn_app.specs.Runs.{Runs};
 
-use crate::command::Task;
+use crate::loading::load;
 use crate::output::put_out;
-use crate::status::{FAULT, MEMORY, REFUSED, ending};
-use cfn_desk::{Desk, LoadFault};
+use crate::status::{MEMORY, ending};
+use cfn_cli::SolveArguments;
+use cfn_desk::Desk;
 use cfn_net::Network;
 use cfn_search::solve;
-use cfn_wcsp::ReadFault;
 use std::alloc::{AllocError, Global};
 
-/// Loads and reads the task's file, searches it, writes its certificate and says its report. The first fault decides.
-pub fn solve_task<D: Desk>(alloc: Global, task: Task, workers: u32, budget: u64, desk: &mut D) -> u8
+/// Loads and reads the file that is asked for, searches it, writes its certificate and says its report. The first
+/// fault decides.
+pub fn solve_file<D: Desk>(alloc: Global, ask: &SolveArguments, desk: &mut D) -> u8
     requires idle { D.writing desk.old ≡ false }
-    requires budget { budget ≤ 9223372036854775807 }
-    ensures { Solves workers budget (record { file = task.entry.file.now; certificate = task.entry.certificate.now })
+    requires budget { ask.now.budget ≤ 9223372036854775807 }
+    ensures { Runs (Some (solve_request (spoken_solve ask.now)))
         (outside_of D.files D.said D.out D.writing D.faults desk.old)
         (outside_of D.files D.said D.out D.writing D.faults desk.new) result }
 {
-    let mut bytes = Vec::new(alloc);
-    match desk.load(task.file, &mut bytes) {
-        Ok(()) => {}
-        Err(LoadFault::Failed) => {
-            let _ = cfn_report::write_read_fault(desk);
-            return FAULT;
-        }
-        Err(LoadFault::Memory) => {
-            return ending(cfn_report::write_memory_fault(desk), MEMORY);
-        }
-    }
-    match cfn_wcsp::read(alloc, &bytes) {
-        Ok(network) => {
-            drop(bytes);
-            solve_network(alloc, &network, task.certificate, workers, budget, desk)
-        }
-        Err(fault) => say_fault(fault, desk),
+    match load(alloc, ask.file.as_str(), desk) {
+        Ok(network) => search(alloc, &network, ask, desk),
+        Err(status) => status,
     }
 }
 
-/// Says why a file is not read as a network.
-fn say_fault<D: Desk>(fault: ReadFault, desk: &mut D) -> u8
-    ensures { EndsAt fault (outside_of D.files D.said D.out D.writing D.faults desk.old)
-        (outside_of D.files D.said D.out D.writing D.faults desk.new) result }
-{
-    match fault {
-        ReadFault::Refused(refusal) => ending(cfn_report::write_refusal(&refusal, desk), REFUSED),
-        ReadFault::Memory => ending(cfn_report::write_memory_fault(desk), MEMORY),
-    }
-}
-
-/// Searches a network, writes its certificate and says its report.
-fn solve_network<D: Desk>(
-    alloc: Global,
-    network: &Network,
-    certificate: &str,
-    workers: u32,
-    budget: u64,
-    desk: &mut D,
-) -> u8
+/// Searches a network as is asked, writes its certificate and says its report.
+fn search<D: Desk>(alloc: Global, network: &Network, ask: &SolveArguments, desk: &mut D) -> u8
     requires idle { D.writing desk.old ≡ false }
-    requires budget { budget ≤ 9223372036854775807 }
-    ensures { Searches network.now workers budget certificate.now
+    requires budget { ask.now.budget ≤ 9223372036854775807 }
+    ensures { Searches network.now (spoken_solve ask.now)
         (outside_of D.files D.said D.out D.writing D.faults desk.old)
         (outside_of D.files D.said D.out D.writing D.faults desk.new) result }
 {
     network.limits();
-    match solve(alloc, network, budget) {
-        Ok(outcome) => put_out(&outcome, workers, certificate, desk),
+    match solve(alloc, network, ask.budget) {
+        Ok(outcome) => {
+            let workers = u32::from(ask.workers);
+            put_out(&outcome, workers, ask.certificate.as_str(), desk)
+        }
         Err(AllocError) => ending(cfn_report::write_memory_fault(desk), MEMORY),
     }
 }

@@ -4,9 +4,11 @@ ghost use Rattle.std.specs.Prelude.{◌≡◌, is_ok, if◌then◌else◌};
 
 use cfn_desk::Failed;
 
+/// What was asked for is done.
+pub const DONE: u8 = 0;
 /// The words are no command.
 pub const USAGE: u8 = 3;
-/// The file is refused.
+/// The file or an assignment is refused.
 pub const REFUSED: u8 = 4;
 /// A read or a write failed.
 pub const FAULT: u8 = 5;

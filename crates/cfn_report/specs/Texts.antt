@@ -10,9 +10,13 @@ abbrev pub word_text : Word → List ℕ
 word_text (Name name) = name.now
 word_text (Number n) = decimal n
 
--- What is said of a wrong call, and how the program is called.
+-- What is said of words that are no command: how the program is called.
 abbrev pub usage_text : List ℕ
-usage_text = text ((codes "error" ∷ codes "usage" ∷ []) ∷ (codes "wcspsolve" ∷ codes "solve" ∷ codes "FILE" ∷ codes "CERT" ∷ []) ∷ [])
+usage_text =
+    text ((codes "error" ∷ codes "usage" ∷ [])
+    ∷ (codes "wcspsolve" ∷ codes "solve" ∷ codes "FILE" ∷ codes "CERT" ∷ codes "[--workers" ∷ codes "W]" ∷ codes "[--budget" ∷ codes "B]" ∷ [])
+    ∷ (codes "wcspsolve" ∷ codes "cost" ∷ codes "FILE" ∷ codes "VALUES.." ∷ [])
+    ∷ [])
 
 -- The parts of a report around its rows.
 abbrev pub size_lines : ℕ → ℕ → ℕ → List (List (List ℕ))

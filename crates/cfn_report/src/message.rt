@@ -53,7 +53,10 @@ pub fn write_memory_fault<D: Desk>(desk: &mut D) -> Result<(), Failed>
 pub fn write_usage<D: Desk>(desk: &mut D) -> Result<(), Failed>
     ensures { Says D.files D.said D.out D.writing D.faults desk.old usage_text result desk.new }
 {
-    say_bytes(b"error usage\nwcspsolve solve FILE CERT\n", desk)
+    say_bytes(
+        b"error usage\nwcspsolve solve FILE CERT [--workers W] [--budget B]\nwcspsolve cost FILE VALUES..\n",
+        desk,
+    )
 }
 
 /// Says the cost of an assignment, and whether it is allowed: an assignment whose cost reaches the upper bound is

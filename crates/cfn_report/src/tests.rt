@@ -139,7 +139,7 @@ fn says_each_message(rt: HostRuntime) -> Result<(), Fail> {
     assert_eq!(rt; write_values_fault(3, 4, &mut desk), Ok(()));
     assert_eq!(rt; write_value_fault(2, &mut desk), Ok(()));
     let text = b"error table-too-wide at 17\nerror read\nerror write\nerror memory\nerror usage\n\
-        wcspsolve solve FILE CERT\ncost 9 allowed\ncost 10 forbidden\nerror values expected 3 got 4\n\
+        wcspsolve solve FILE CERT [--workers W] [--budget B]\nwcspsolve cost FILE VALUES..\ncost 9 allowed\ncost 10 forbidden\nerror values expected 3 got 4\n\
         error value at 2\n";
     assert_eq!(rt; desk.said_bytes(), text.as_slice());
     Ok(())

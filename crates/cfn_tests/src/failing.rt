@@ -1,4 +1,4 @@
-//! What a run says and leaves where a call on the outside fails, or where the words are no command.
+//! What a run says and leaves where a call on the outside fails.
 
 use crate::running::{Run, TINY};
 use std::test::Fail;
@@ -66,24 +66,5 @@ fn each_failing_call_is_a_fault(rt: HostRuntime) -> Result<(), Fail> {
     // the last call says the end of the report
     assert!(rt; calls > 5 && calls < 199);
     assert!(rt; said > 0 && said < whole.said().len());
-    Ok(())
-}
-
-#[test]
-fn other_words_are_no_command(rt: HostRuntime) -> Result<(), Fail> {
-    let rows: [&[&str]; 3] = [
-        &["wcspsolve", "solve", "in"],
-        &["wcspsolve", "solve"],
-        &["wcspsolve", "dissolve", "in", "out"],
-    ];
-    for words in rows {
-        let run = Run::of(&rt, words, TINY, &[])?;
-        assert_eq!(rt; run.status, 3);
-        assert!(rt;
-            run.said()
-                .starts_with(b"error usage\nwcspsolve solve FILE CERT")
-        );
-        assert_eq!(rt; run.certificate(), b"".as_slice());
-    }
     Ok(())
 }

@@ -2,11 +2,13 @@
 //!
 //! - `running` is a whole run over files in memory, and `drawing` draws small networks with the least cost that their
 //!   words say.
-//! - `solving`, `reading` and `failing` judge whole runs: what is found, which files are refused, and what a fault of
-//!   the outside leaves.
+//! - `solving`, `asking`, `reading` and `failing` judge whole runs: what is found, what the words of a command line ask
+//!   for, which files are refused, and what a fault of the outside leaves.
 //! - `least` judges searches by the plain program and by the drawn words.
 #![tactic(auto)]
 
+#[cfg(test)]
+mod asking;
 #[cfg(test)]
 mod drawing;
 #[cfg(test)]

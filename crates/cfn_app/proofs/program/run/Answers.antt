@@ -1,18 +1,30 @@
-use Rattle.std.proofs.Common.{subst, map}
-use Rattle.cfn_app.specs.Headline.{Runs}
+use Rattle.std.proofs.Common.{sym, ap, ◌∙◌, subst, map, Some}
+use Rattle.cfn_cli.specs.Request.{request, request_of}
 use Rattle.cfn_app.specs.Outside.{outside_of}
+use Rattle.cfn_app.specs.Runs.{Runs}
 use Rattle.cfn_app.proofs.Ending.{statuses}
-use Rattle.cfn_app.specs.Command.{task_of}
 use Rattle.cfn_app.proofs.program.run.Goals as goal
 
--- src/program.rt:28:1
-pub returns-in-Some-clause-runs : goal.returns-in-Some-clause-runs
-returns-in-Some-clause-runs g c =
+-- src/program.rt:24:1
+pub returns-in-Ok-Solve-clause-runs : goal.returns-in-Ok-Solve-clause-runs
+returns-in-Ok-Solve-clause-runs g c =
     let d = g.D.Desk in
-    subst (λ task. Runs 1 9223372036854775807 task (outside_of d.files d.said d.out d.writing d.faults c.args.desk.now) (outside_of d.files d.said d.out d.writing d.faults c.solve_task.new.desk) c.solve_task.result) c.in-Some.ensures c.solve_task.ensures
+    subst (λ request. Runs request (outside_of d.files d.said d.out d.writing d.faults c.args.desk.now) (outside_of d.files d.said d.out d.writing d.faults c.solve_file.new.desk) c.solve_file.result) (sym (c.in-Ok-Solve.ensures.command ∙ ap (λ command. Some (request command)) c.in-Ok-Solve.field-0-is)) c.solve_file.ensures
 
--- src/program.rt:28:1
-pub returns-in-Some-clause-statuses : goal.returns-in-Some-clause-statuses
-returns-in-Some-clause-statuses g c =
+-- src/program.rt:24:1
+pub returns-in-Ok-Solve-clause-statuses : goal.returns-in-Ok-Solve-clause-statuses
+returns-in-Ok-Solve-clause-statuses g c =
     let d = g.D.Desk in
-    statuses 1 9223372036854775807 (outside_of d.files d.said d.out d.writing d.faults c.args.desk.now) (outside_of d.files d.said d.out d.writing d.faults c.solve_task.new.desk) c.solve_task.result (task_of (map (λ w. w.now) c.args.words.now)) (returns-in-Some-clause-runs g c)
+    statuses (request_of (map (λ w. w.now) c.args.words.now)) (outside_of d.files d.said d.out d.writing d.faults c.args.desk.now) (outside_of d.files d.said d.out d.writing d.faults c.solve_file.new.desk) c.solve_file.result (returns-in-Ok-Solve-clause-runs g c)
+
+-- src/program.rt:24:1
+pub returns-in-Ok-Cost-clause-runs : goal.returns-in-Ok-Cost-clause-runs
+returns-in-Ok-Cost-clause-runs g c =
+    let d = g.D.Desk in
+    subst (λ request. Runs request (outside_of d.files d.said d.out d.writing d.faults c.args.desk.now) (outside_of d.files d.said d.out d.writing d.faults c.cost_file.new.desk) c.cost_file.result) (sym (c.in-Ok-Cost.ensures.command ∙ ap (λ command. Some (request command)) c.in-Ok-Cost.field-0-is)) c.cost_file.ensures
+
+-- src/program.rt:24:1
+pub returns-in-Ok-Cost-clause-statuses : goal.returns-in-Ok-Cost-clause-statuses
+returns-in-Ok-Cost-clause-statuses g c =
+    let d = g.D.Desk in
+    statuses (request_of (map (λ w. w.now) c.args.words.now)) (outside_of d.files d.said d.out d.writing d.faults c.args.desk.now) (outside_of d.files d.said d.out d.writing d.faults c.cost_file.new.desk) c.cost_file.result (returns-in-Ok-Cost-clause-runs g c)

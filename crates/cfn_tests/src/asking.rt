@@ -1,0 +1,270 @@
+//! What the words of a command line ask for: `solve` with its options, and `cost`.
+
+use crate::running::{Run, TINY, TRI, has_front};
+use std::test::Fail;
+
+/// A network that is one constant, 4 or 10, below an upper bound of 10.
+const FOUR: &[u8] = b"const 1 2 1 10\n2\n0 4 0\n";
+
+const TEN: &[u8] = b"const 1 2 1 10\n2\n0 10 0\n";
+
+/// Two costs of the greatest number on one value.
+const TOP: &[u8] =
+    b"top 1 1 2 9223372036854775807\n1\n1 0 9223372036854775807 0\n1 0 9223372036854775807 0\n";
+
+#[test]
+fn one_node_splits_the_root(rt: HostRuntime) -> Result<(), Fail> {
+    let words = ["wcspsolve", "solve", "in", "out", "--budget", "1"];
+    let run = Run::of(&rt, &words, TRI, &[])?;
+    assert_eq!(rt; run.status, 2);
+    let said =
+        b"variables 3\nfunctions 3\nworkers 1\nrow 0 none\nlower 0\nupper none\nnodes 1\nresult budget\n";
+    assert_eq!(rt; run.said(), said.as_slice());
+    let certificate =
+        b"wcspcert 1\nnetwork 3 3 10\nlower 0\nbest none\ntree\nsplit 0 0\nopen\nopen\nend\n";
+    assert_eq!(rt; run.certificate(), certificate.as_slice());
+    Ok(())
+}
+
+#[test]
+fn no_node_leaves_the_constant_as_the_bound(rt: HostRuntime) -> Result<(), Fail> {
+    let words = ["wcspsolve", "solve", "in", "out", "--budget", "0"];
+    let run = Run::of(&rt, &words, FOUR, &[])?;
+    assert_eq!(rt; run.status, 2);
+    let said =
+        b"variables 1\nfunctions 1\nworkers 1\nrow 4 none\nlower 4\nupper none\nnodes 0\nresult budget\n";
+    assert_eq!(rt; run.said(), said.as_slice());
+    let certificate = b"wcspcert 1\nnetwork 1 1 10\nlower 4\nbest none\ntree\nopen\nend\n";
+    assert_eq!(rt; run.certificate(), certificate.as_slice());
+    Ok(())
+}
+
+/// A constant at the upper bound closes the root before any node, whatever the budget.
+#[test]
+fn closed_root_needs_no_budget(rt: HostRuntime) -> Result<(), Fail> {
+    for budget in ["0", "1", "9223372036854775807"] {
+        let words = ["wcspsolve", "solve", "in", "out", "--budget", budget];
+        let run = Run::of(&rt, &words, TEN, &[])?;
+        assert_eq!(rt; run.status, 1);
+        let said =
+            b"variables 1\nfunctions 1\nworkers 1\nrow 10 none\nlower 10\nupper none\nnodes 0\nresult none\n";
+        assert_eq!(rt; run.said(), said.as_slice());
+        let certificate = b"wcspcert 1\nnetwork 1 1 10\nlower 10\nbest none\ntree\nclosed\nend\n";
+        assert_eq!(rt; run.certificate(), certificate.as_slice());
+    }
+    Ok(())
+}
+
+/// The plainest search takes three nodes on one variable with two values, so each smaller budget is spent whole.
+#[test]
+fn budget_is_spent_to_its_end(rt: HostRuntime) -> Result<(), Fail> {
+    let rows: [(&str, u8, &[u8]); 5] = [
+        ("0", 2, b"nodes 0"),
+        ("1", 2, b"nodes 1"),
+        ("2", 2, b"nodes 2"),
+        ("3", 0, b"nodes 3"),
+        ("4", 0, b"nodes 3"),
+    ];
+    for (budget, status, nodes) in rows {
+        let words = ["wcspsolve", "solve", "in", "out", "--budget", budget];
+        let run = Run::of(&rt, &words, TINY, &[])?;
+        assert_eq!(rt; run.status, status, "with {budget}");
+        assert!(rt; run.says(nodes), "with {budget}");
+    }
+    Ok(())
+}
+
+#[test]
+fn options_stand_anywhere(rt: HostRuntime) -> Result<(), Fail> {
+    let rows: [&[&str]; 5] = [
+        &[
+            "wcspsolve",
+            "solve",
+            "in",
+            "out",
+            "--budget",
+            "5",
+            "--workers",
+            "64",
+        ],
+        &[
+            "wcspsolve",
+            "solve",
+            "in",
+            "out",
+            "--budget=5",
+            "--workers=64",
+        ],
+        &[
+            "wcspsolve",
+            "solve",
+            "--workers",
+            "64",
+            "--budget=5",
+            "in",
+            "out",
+        ],
+        &[
+            "wcspsolve",
+            "solve",
+            "--budget=5",
+            "in",
+            "--workers=64",
+            "out",
+        ],
+        &["wcspsolve", "solve", "in", "--workers", "64", "out"],
+    ];
+    for words in rows {
+        let run = Run::of(&rt, words, TINY, &[])?;
+        assert_eq!(rt; run.status, 0);
+        assert!(rt; run.says(b"workers 64\nlower 1\nupper 1\nvalues 1\nnodes 3\nresult optimum"));
+        assert!(rt; run.certifies(b"network 1 1 10\nlower 1\nbest 1\nvalues 1\n"));
+    }
+    Ok(())
+}
+
+#[test]
+fn other_words_are_no_command(rt: HostRuntime) -> Result<(), Fail> {
+    let rows: [&[&str]; 16] = [
+        &["wcspsolve"],
+        &["wcspsolve", "solve"],
+        &["wcspsolve", "solve", "in"],
+        &["wcspsolve", "solve", "in", "out", "more"],
+        &["wcspsolve", "dissolve", "in", "out"],
+        &["wcspsolve", "solve", "in", "out", "--workers", "65"],
+        &["wcspsolve", "solve", "in", "out", "--workers", "0"],
+        &["wcspsolve", "solve", "in", "out", "--workers"],
+        &[
+            "wcspsolve",
+            "solve",
+            "in",
+            "out",
+            "--budget",
+            "9223372036854775808",
+        ],
+        &["wcspsolve", "solve", "in", "out", "--budget", "-1"],
+        &["wcspsolve", "solve", "in", "out", "--fast"],
+        &["wcspsolve", "--help"],
+        &["wcspsolve", "solve", "-h"],
+        &["wcspsolve", "cost", "in"],
+        &["wcspsolve", "cost", "nowhere", "4294967296"],
+        &["wcspsolve", "cost", "in", "one"],
+    ];
+    for words in rows {
+        let run = Run::of(&rt, words, TINY, &[])?;
+        assert_eq!(rt; run.status, 3);
+        let said =
+            b"error usage\nwcspsolve solve FILE CERT [--workers W] [--budget B]\nwcspsolve cost FILE VALUES..\n";
+        assert_eq!(rt; run.said(), said.as_slice());
+        assert_eq!(rt; run.certificate(), b"".as_slice());
+    }
+    Ok(())
+}
+
+#[test]
+fn costs_are_said(rt: HostRuntime) -> Result<(), Fail> {
+    let rows: [(&[u8], &[&str], &[u8]); 7] = [
+        (
+            TRI,
+            &["wcspsolve", "cost", "in", "0", "0", "0"],
+            b"cost 3 allowed\n",
+        ),
+        (
+            TRI,
+            &["wcspsolve", "cost", "in", "0", "1", "0"],
+            b"cost 1 allowed\n",
+        ),
+        (TINY, &["wcspsolve", "cost", "in", "0"], b"cost 3 allowed\n"),
+        (
+            TINY,
+            &["wcspsolve", "cost", "in", "01"],
+            b"cost 1 allowed\n",
+        ),
+        (
+            TOP,
+            &["wcspsolve", "cost", "in", "0"],
+            b"cost 9223372036854775807 forbidden\n",
+        ),
+        // a cost of the upper bound is forbidden, and one below it allowed
+        (
+            TEN,
+            &["wcspsolve", "cost", "in", "1"],
+            b"cost 10 forbidden\n",
+        ),
+        (
+            b"near 1 2 1 10\n2\n0 9 0\n",
+            &["wcspsolve", "cost", "in", "1"],
+            b"cost 9 allowed\n",
+        ),
+    ];
+    for (file, words, said) in rows {
+        let run = Run::of(&rt, words, file, &[])?;
+        assert_eq!(rt; run.status, 0);
+        assert_eq!(rt; run.said(), said);
+        assert_eq!(rt; run.certificate(), b"".as_slice());
+    }
+    Ok(())
+}
+
+#[test]
+fn values_that_do_not_fit_are_refused(rt: HostRuntime) -> Result<(), Fail> {
+    let rows: [(&[&str], &[u8]); 6] = [
+        (
+            &["wcspsolve", "cost", "in", "0", "0"],
+            b"error values expected 3 got 2\n",
+        ),
+        (
+            &["wcspsolve", "cost", "in", "0", "0", "0", "0"],
+            b"error values expected 3 got 4\n",
+        ),
+        (
+            &["wcspsolve", "cost", "in", "0", "0", "2"],
+            b"error value at 2\n",
+        ),
+        // the first of two
+        (
+            &["wcspsolve", "cost", "in", "0", "2", "2"],
+            b"error value at 1\n",
+        ),
+        (
+            &["wcspsolve", "cost", "in", "4294967295", "0", "2"],
+            b"error value at 0\n",
+        ),
+        // their number comes first
+        (
+            &["wcspsolve", "cost", "in", "2", "2"],
+            b"error values expected 3 got 2\n",
+        ),
+    ];
+    for (words, said) in rows {
+        let run = Run::of(&rt, words, TRI, &[])?;
+        assert_eq!(rt; run.status, 4);
+        assert_eq!(rt; run.said(), said);
+    }
+    Ok(())
+}
+
+/// The words are judged first, then the file is loaded and read, and then the values are judged.
+#[test]
+fn first_fault_decides(rt: HostRuntime) -> Result<(), Fail> {
+    let run = Run::of(&rt, &["wcspsolve", "cost", "nowhere", "0"], TINY, &[])?;
+    assert_eq!(rt; run.status, 5);
+    assert_eq!(rt; run.said(), b"error read\n".as_slice());
+    let run = Run::of(
+        &rt,
+        &["wcspsolve", "cost", "in", "7", "7"],
+        b"tiny 1 2 1 10\n2\n1 0 3 1\n1",
+        &[],
+    )?;
+    assert_eq!(rt; run.status, 4);
+    assert_eq!(rt; run.said(), b"error short at 12\n".as_slice());
+    for failing in [1, 2] {
+        let run = Run::of(&rt, &["wcspsolve", "cost", "in", "0"], TINY, &[failing])?;
+        assert_eq!(rt; run.status, 5);
+        assert!(rt; !has_front(run.said(), b"cost"));
+    }
+    let run = Run::of(&rt, &["wcspsolve", "solve"], TINY, &[1])?;
+    assert_eq!(rt; run.status, 5);
+    assert_eq!(rt; run.said(), b"".as_slice());
+    Ok(())
+}
