@@ -23,6 +23,6 @@ returns-in-Ok g c =
       o.rows.items,
       word,
       promised c.args.network.now c.args.ask.now.budget o.nodes k o.rows.items o.stop c.limits.ensures c.in-Ok.ensures,
-      subst (λ workers. PutsOut workers ask.certificate old new o.nodes k o.rows.items word c.put_out.result) c.from.ensures
-          (subst (λ name. PutsOut c.from.result name old new o.nodes k o.rows.items word c.put_out.result) c.as_str.ensures.value c.put_out.ensures),
+      subst (λ workers. PutsOut workers ask.certificate old new o.nodes k o.rows.items word c.put_out.result) c.from-workers.ensures
+          (subst (λ name. PutsOut c.from-workers.result name old new o.nodes k o.rows.items word c.put_out.result) c.as_str.ensures.value c.put_out.ensures),
     )
