@@ -107,7 +107,7 @@ words_back word [] all = words_last word all.0
 words_back word (next ∷ words) all = words_more word (front_of (next ∷ words)) all.0 ∙ ap (λ r. word ∷ r) (words_back next words all.1)
 
 -- and bytes come back from their words
-words_some : (bytes : List ℕ) → (word : List ℕ) × (words : List (List ℕ)) × (words_in bytes ≡ word ∷ words)
+pub words_some : (bytes : List ℕ) → (word : List ℕ) × (words : List (List ℕ)) × (words_in bytes ≡ word ∷ words)
 words_some [] = ([], [], refl)
 words_some (b ∷ bytes) =
     elim (cases_Bool (b == 32)) [
