@@ -1,3 +1,4 @@
 pub mod Chain
 pub mod Lines
 pub mod Order
+pub mod Words

@@ -9,6 +9,8 @@
 #![tactic(auto)]
 
 mod certificate;
+mod event;
+mod fields;
 mod line;
 mod nodes;
 mod walk;
