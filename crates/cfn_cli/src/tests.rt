@@ -64,6 +64,18 @@ fn solve_is_read(rt: HostRuntime) {
 }
 
 #[test]
+fn check_is_read(rt: HostRuntime) {
+    let alloc = rt.alloc();
+    let taken = match parse(alloc, &["w", "check", "a", "b"]) {
+        Ok(Command::Check(asked)) => {
+            asked.file.as_str() == "a" && asked.certificate.as_str() == "b"
+        }
+        _ => false,
+    };
+    assert!(rt; taken);
+}
+
+#[test]
 fn cost_is_read(rt: HostRuntime) {
     let alloc = rt.alloc();
     assert!(rt; costs(alloc, &["w", "cost", "f", "0", "1", "2"], &[0, 1, 2]));
@@ -82,7 +94,9 @@ fn other_words_are_usage(rt: HostRuntime) {
         &["w", "-V"],
         &["w", "help"],
         &["w", "help", "solve"],
-        &["w", "check", "a", "b"],
+        &["w", "check", "a"],
+        &["w", "check", "a", "b", "c"],
+        &["w", "check", "a", "b", "--budget", "1"],
         &["w", "solve"],
         &["w", "solve", "a"],
         &["w", "solve", "a", "b", "c"],
