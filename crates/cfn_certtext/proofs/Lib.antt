@@ -2,3 +2,5 @@ pub mod Chain
 pub mod Lines
 pub mod Order
 pub mod Words
+pub mod Stages
+pub mod Telling

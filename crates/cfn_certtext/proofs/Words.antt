@@ -1,14 +1,15 @@
 -- The next word of a line, and the number that a word is.
 use Rattle.std.proofs.Common.{◌≡◌, ℕ, zero, suc, ◌+◌, ◌-◌, ◌<◌, ◌≤◌, Bool, true, false, List, [], ◌∷◌, length, take, drop, refl, sym, ap, ◌∙◌, arith, add-one, inl, inr}
-use Rattle.std.proofs.lemmas.Bool.{cases_Bool, cases_lt, lt-ltb, le-ltb, eqb-false, eqb-true, not-true, and_parts, leb-true, ne_eqb}
+use Rattle.std.proofs.lemmas.Bool.{cases_Bool, cases_lt, lt-ltb, le-ltb, and_parts, leb-true, ne_eqb}
 use Rattle.std.proofs.lemmas.List.{take_rest}
 use Rattle.std.proofs.Math.Numerals.{one-add}
-use Rattle.std.specs.Prelude.{Option, Some, None, Ok, Err, Result, ℤ, pos, position, not, ◌&&◌, ◌||◌, ◌==◌, nat_le, nat_lt, if◌then◌else◌, unsigned_abs, is_some}
+use Rattle.std.specs.Prelude.{Option, Some, None, Ok, Err, Result, ℤ, position, ◌==◌, nat_le, unsigned_abs, is_some, unwrap_or, IfNone}
 use Rattle.std.specs.List.{list_all, position_or_len}
 use Rattle.cfn_model.specs.declared.reading.NumberFault.{NumberFault}
-use Rattle.cfn_model.specs.declared.reading.NumberFault.TheVariants.{NotNumber, TooLarge}
-use Rattle.cfn_model.specs.Words.{is_digit, is_number, magnitude_of, magnitude, has_minus, digits_behind, greatest, number_of, with_first}
-use Rattle.cfn_fault.specs.Decoding.{◌>>=◌, words_in, word_from, has_one_form, numeral, numbers_in}
+use Rattle.cfn_model.specs.Words.{is_digit, is_number, magnitude_of, has_minus, digits_behind, greatest, number_of, with_first}
+use Rattle.cfn_fault.specs.Lines.{Values}
+use Rattle.cfn_fault.specs.Decoding.{◌>>=◌, words_in, word_from, has_one_form, numeral, numbers_in, are_values}
+use Rattle.cfn_certtext.specs.Stages.{values_of}
 
 abbrev is_space : ℕ → Bool
 is_space b = b == 32
@@ -52,27 +53,27 @@ to_end (b ∷ bytes) le =
       | inr e ↦ letter_first b bytes e ∙ longer b (words_in bytes) bytes [] (to_end bytes (omega (arith, len_at_word b bytes e)))
     ]
 
-position_some : (bytes : List ℕ) (n : ℕ) → position is_space bytes ≡ Some n → (first_len bytes ≡ n) × (n < length bytes)
-position_some bytes n e =
-    elim (cases_lt (first_len bytes) (length bytes)) [
-      | inl lt ↦ let some = rw (lt-ltb (first_len bytes) (length bytes) lt) at e in let is : first_len bytes ≡ n = cc in (is, omega arith)
-      | inr ge ↦ let none = rw (le-ltb (first_len bytes) (length bytes) ge) at e in absurd (cc)
+pub position_some : (p : ℕ → Bool) (bytes : List ℕ) (n : ℕ) → position p bytes ≡ Some n → (position_or_len p bytes ≡ n) × (n < length bytes)
+position_some p bytes n e =
+    elim (cases_lt (position_or_len p bytes) (length bytes)) [
+      | inl lt ↦ let some = rw (lt-ltb (position_or_len p bytes) (length bytes) lt) at e in let is : position_or_len p bytes ≡ n = cc in (is, omega arith)
+      | inr ge ↦ let none = rw (le-ltb (position_or_len p bytes) (length bytes) ge) at e in absurd (cc)
     ]
 
-position_none : (bytes : List ℕ) → position is_space bytes ≡ None → length bytes ≤ first_len bytes
-position_none bytes e =
-    elim (cases_lt (first_len bytes) (length bytes)) [
-      | inl lt ↦ let some = rw (lt-ltb (first_len bytes) (length bytes) lt) at e in absurd (cc)
+pub position_none : (p : ℕ → Bool) (bytes : List ℕ) → position p bytes ≡ None → length bytes ≤ position_or_len p bytes
+position_none p bytes e =
+    elim (cases_lt (position_or_len p bytes) (length bytes)) [
+      | inl lt ↦ let some = rw (lt-ltb (position_or_len p bytes) (length bytes) lt) at e in absurd (cc)
       | inr ge ↦ ge
     ]
 
 pub word_to_space : (bytes : List ℕ) (n : ℕ) → position is_space bytes ≡ Some n → word_from (words_in bytes) ≡ Some (take n bytes, words_in (take (length bytes - (n + 1)) (drop (n + 1) bytes)))
 word_to_space bytes n e =
-    let at = position_some bytes n e in
+    let at = position_some is_space bytes n e in
     ap word_from (to_space bytes n at.0 at.1 ∙ ap (λ k. take n bytes ∷ words_in (drop k bytes)) (sym (add-one n)) ∙ ap (λ r. take n bytes ∷ words_in r) (sym (take_rest bytes (n + 1))))
 
 pub word_to_end : (bytes : List ℕ) → position is_space bytes ≡ None → word_from (words_in bytes) ≡ Some (bytes, [])
-word_to_end bytes e = ap word_from (to_end bytes (position_none bytes e))
+word_to_end bytes e = ap word_from (to_end bytes (position_none is_space bytes e))
 
 -- a word that is no minus and digits
 some_digit : (word : List ℕ) → has_one_form word ≡ true → list_all is_digit word ≡ true → (magnitude_of word ≡ word) × (has_minus word ≡ false) × (is_number word ≡ true)
@@ -136,3 +137,28 @@ no_number [] word rest e none = absurd cc
 no_number (w ∷ words) word rest e none =
     let same : w ≡ word = ap (λ p. p.0) (one_pair e) in
     by_none (numeral w) (numbers_in words) (ap (λ x. is_some (numeral x)) same ∙ none)
+
+-- the values of a line
+its_values : (words : List (List ℕ)) → is_some (numbers_in words) ≡ true → numbers_in words ≡ Some (values_of words)
+unfolding numbers_in
+its_values [] e = refl
+its_values (word ∷ words) e =
+    let first : is_some (numeral word) ≡ true = some_numeral (numeral word) (numbers_in words) e in
+    let rest = its_values words (sym (by_numeral (numeral word) (numbers_in words) first) ∙ e) in
+    ap (λ r. numeral word >>= λ n. r >>= λ ns. Some (n ∷ ns)) rest ∙ given (numeral word) (values_of words) first
+  where
+    some_numeral : (o : Option ℕ) (rest : Option (List ℕ)) → is_some (o >>= λ n. rest >>= λ ns. Some (n ∷ ns)) ≡ true → is_some o ≡ true
+    some_numeral None rest e = e
+    some_numeral (Some n) rest e = refl
+
+    given : (o : Option ℕ) (values : List ℕ) → is_some o ≡ true → (o >>= λ n. Some (n ∷ values)) ≡ Some (unwrap_or o 0 ∷ values)
+    given None values e = absurd cc
+    given (Some n) values e = refl
+
+pub values_said : (words : List (List ℕ)) → (words ≡ [] → ⊥) → is_some (numbers_in words) ≡ true → are_values words ≡ Some (Values (values_of words))
+values_said [] some e = absurd (some refl)
+values_said (word ∷ words) some e = ap (λ o. o >>= λ values. Some (Values values)) (its_values (word ∷ words) e)
+
+pub not_there : {A : Type 0} (o : Option A) (P : Type 0) → is_some o ≡ false → IfNone o P → P
+not_there None P e h = h
+not_there (Some x) P e h = absurd cc

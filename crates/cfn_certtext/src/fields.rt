@@ -58,7 +58,8 @@ impl<'a> Fields<'a> {
 
     /// Takes the next word.
     pub fn word(&mut self) -> Option<&'a [u8]>
-        ensures { Gives (λ w. (w.now, self.new)) result (word_from self.old) }
+        ensures gives { Gives (λ w. (w.now, self.new)) result (word_from self.old) }
+        ensures unchanged { IfNone result (self.new ≡ self.old) }
     {
         if self.ended {
             return None;

@@ -1,19 +1,18 @@
 -- Which certificates begin with the lines that a text has.
-use Rattle.std.proofs.Common.{◌≡◌, ℕ, zero, suc, ◌<◌, ◌≤◌, ◌+◌, List, [], ◌∷◌, ◌++◌, length, refl, sym, ap, ap₂, subst, ◌∙◌, arith, append_assoc}
-use Rattle.std.proofs.lemmas.List.{map-append, append_cancel_right}
-use Rattle.std.proofs.lemmas.Grind.{flat_map-append}
-use Rattle.std.specs.Prelude.{Option, Some, None, map, flat_map, slice_index_or, codes}
+use Rattle.std.proofs.Common.{◌≡◌, ℕ, zero, suc, ◌<◌, ◌≤◌, ◌+◌, List, [], ◌∷◌, ◌++◌, length, refl, sym, ap, ap₂, subst, ◌∙◌, arith}
+use Rattle.std.proofs.lemmas.List.{map-append}
+use Rattle.std.specs.Prelude.{Option, Some, None, map, slice_index_or, codes}
 use Rattle.std.specs.List.{AllByRecursion}
 use Rattle.cfn_model.specs.declared.step.Step.{Step}
 use Rattle.cfn_model.specs.Tree.{Tree, Open, Closed, Split}
 use Rattle.cfn_model.specs.Certificate.{Solution, Certificate}
-use Rattle.cfn_model.specs.Text.{line, text, step_words, split_words, tree_lines, best_lines, head_lines, certificate_lines, spelling, IsSpelled}
-use Rattle.cfn_fault.specs.Fault.{lines, line_at, Begins, Item, Makes, LeavesOpen, Closes, Splits}
-use Rattle.cfn_fault.specs.Lines.{Line, Version, Numbers, Lower, Root, Node, End, words_of, bytes_of, IsSpelledLine, tree_of_lines, best_of_lines, lines_of, State, AtVersion, AtOver, Follows, Runs}
-use Rattle.cfn_fault.specs.Decoding.{words_in, line_of}
-use Rattle.cfn_fault.proofs.Running.{same_end, run_split, run_append, runs_certificate, spelled_lines, spelled_front, spelled_back, begun, told}
+use Rattle.cfn_model.specs.Text.{text, step_words, split_words, tree_lines, best_lines, certificate_lines, spelling, IsSpelled}
+use Rattle.cfn_fault.specs.Fault.{lines, line_at, Begins, Makes, LeavesOpen, Closes, Splits}
+use Rattle.cfn_fault.specs.Lines.{Line, Version, Numbers, Lower, Root, Node, End, words_of, bytes_of, text_of, IsSpelledLine, tree_of_lines, best_of_lines, lines_of, State, AtVersion, AtOver, Follows, Runs}
+use Rattle.cfn_fault.specs.Decoding.{line_of}
+use Rattle.cfn_fault.proofs.Running.{same_end, run_split, runs_certificate, spelled_lines, spelled_front, spelled_back}
 use Rattle.cfn_fault.proofs.Decoding.{says}
-use Rattle.cfn_fault.proofs.Bytes.{Fronted, fronted, same_words, text_of, lines_of_text}
+use Rattle.cfn_fault.proofs.Bytes.{fronted, same_words, lines_of_text}
 
 -- the words of a certificate's lines
 block_words : (block : List Step) → map words_of (map (λ step. Node (Makes step)) block) ≡ map step_words block
@@ -65,7 +64,7 @@ same_line a b ha hb e =
     some_same : {x y : Line} → Some x ≡ Some y → x ≡ y
     some_same e = cc
 
-some_bytes : (l : Line) → IsSpelledLine l → bytes_of l ≡ [] → ⊥
+pub some_bytes : (l : Line) → IsSpelledLine l → bytes_of l ≡ [] → ⊥
 some_bytes l h e = let f = fronted l h in no_end f.front (sym f.bytes ∙ e)
   where
     no_end : (front : List ℕ) → front ++ 10 ∷ [] ≡ [] → ⊥

@@ -1,14 +1,14 @@
 -- Lines and their words, as bytes: a line is one spelling of its words, and a text is one spelling of its lines.
-use Rattle.std.proofs.Common.{◌≡◌, ℕ, zero, suc, ◌<◌, ◌≤◌, ◌+◌, Bool, true, false, List, [], ◌∷◌, ◌++◌, length, refl, sym, ap, subst, ◌∙◌, arith, inl, inr, append_assoc}
-use Rattle.std.proofs.lemmas.Bool.{cases_Bool, ne_eqb, eqb-true, eqb-false, not-true, not_from_false, and_parts, and_from, leb-true}
+use Rattle.std.proofs.Common.{◌≡◌, ℕ, ◌≤◌, Bool, true, false, List, [], ◌∷◌, ◌++◌, refl, sym, ap, subst, ◌∙◌, arith, inl, inr, append_assoc}
+use Rattle.std.proofs.lemmas.Bool.{cases_Bool, ne_eqb, eqb-true, not-true, not_from_false, and_parts, and_from, leb-true}
 use Rattle.std.proofs.lemmas.List.{append_cancel_right}
-use Rattle.std.specs.Prelude.{decimal, map, flat_map, not, ◌&&◌, ◌==◌, nat_le, if◌then◌else◌, codes}
+use Rattle.std.specs.Prelude.{decimal, map, not, ◌&&◌, ◌==◌, nat_le}
 use Rattle.std.specs.List.{AllByRecursion, list_all}
 use Rattle.cfn_model.specs.declared.step.Step.TheVariants.{Project, Extend, Lift, CutValue, CutTuple}
 use Rattle.cfn_model.specs.Words.{greatest, is_digit, with_first}
-use Rattle.cfn_model.specs.Text.{line, behind, text}
+use Rattle.cfn_model.specs.Text.{line}
 use Rattle.cfn_fault.specs.Fault.{lines, Makes, LeavesOpen, Closes, Splits}
-use Rattle.cfn_fault.specs.Lines.{Line, Version, Numbers, Lower, NoBest, Best, Values, Root, Node, End, words_of, bytes_of, IsSpelledLine}
+use Rattle.cfn_fault.specs.Lines.{Line, Version, Numbers, Lower, NoBest, Best, Values, Root, Node, End, words_of, bytes_of, text_of, IsSpelledLine}
 use Rattle.cfn_fault.specs.Decoding.{words_in}
 use Rattle.cfn_fault.proofs.Numerals.{decimal_digits}
 
@@ -192,9 +192,6 @@ lines_last b (c ∷ rest) e =
     rw (not_end, lines_last c rest parts.1) refl
 
 -- the lines of a text of lines
-abbrev pub text_of : List Line → List ℕ
-text_of ls = flat_map bytes_of ls
-
 pub lines_of_text : (ls : List Line) (rest : List ℕ) → AllByRecursion IsSpelledLine ls → lines (text_of ls ++ rest) ≡ map bytes_of ls ++ lines rest
 lines_of_text [] rest all = refl
 lines_of_text (l ∷ ls) rest all =

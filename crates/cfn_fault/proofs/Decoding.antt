@@ -1,15 +1,15 @@
 -- Words say a line exactly where they are its words and each of its numbers has a spelling.
-use Rattle.std.proofs.Common.{◌≡◌, ℕ, zero, suc, ◌<◌, ◌≤◌, Bool, true, false, List, [], ◌∷◌, length, get_or, refl, sym, ap, subst, ◌∙◌, arith, rules, inl, inr, lit<}
-use Rattle.std.proofs.lemmas.Bool.{ltb-false, ne_eqb, eqb-false, false_from_ne_true, and_parts, leb-true}
+use Rattle.std.proofs.Common.{◌≡◌, ℕ, zero, suc, ◌<◌, ◌≤◌, true, false, List, [], ◌∷◌, length, refl, sym, ap, subst, ◌∙◌, arith, inl, inr}
+use Rattle.std.proofs.lemmas.Bool.{ne_eqb, eqb-false, false_from_ne_true}
 use Rattle.std.proofs.lemmas.Slice.Eq.{bytes_eq-Decides}
-use Rattle.std.specs.Prelude.{Option, Some, None, decimal, map, codes, not, ◌&&◌, ◌==◌, ◌⊎◌, if◌then◌else◌, nat_le}
+use Rattle.std.specs.Prelude.{Option, Some, None, decimal, map, codes, ◌==◌, if◌then◌else◌}
 use Rattle.std.specs.List.{AllByRecursion, list_all}
 use Rattle.std.specs.Str.{bytes_eq}
 use Rattle.cfn_model.specs.declared.step.Step.TheVariants.{Project, Extend, Lift, CutValue, CutTuple}
 use Rattle.cfn_model.specs.Words.{greatest, is_digit}
 use Rattle.cfn_fault.specs.Fault.{Item, Makes, LeavesOpen, Closes, Splits}
 use Rattle.cfn_fault.specs.Lines.{Line, Version, Numbers, Lower, NoBest, Best, Values, Root, Node, End, words_of, IsSpelledLine}
-use Rattle.cfn_fault.specs.Decoding.{◌>>=◌, numeral, word_from, with_rest, number_from, amount_from, at_end, numbers_in, numbers_line, lower_line, best_line, are_values, version_line, project_line, extend_line, lift_line, value_line, tuple_line, split_line, node_line, line_by, line_of}
+use Rattle.cfn_fault.specs.Decoding.{◌>>=◌, numeral, with_rest, number_from, amount_from, at_end, numbers_in, numbers_line, lower_line, best_line, are_values, version_line, project_line, extend_line, lift_line, value_line, tuple_line, split_line, node_line, item_line, line_by, line_of}
 use Rattle.cfn_fault.proofs.Numerals.{numeral_of_decimal, numeral_is, decimal_digits, chose, chose_other, chose_either}
 
 -- the words of a line whose numbers have a spelling say that line
@@ -35,7 +35,7 @@ values_say [] some all = absurd (omega arith)
 values_say (a ∷ values) some all = rw (numbers (a ∷ values) all) refl
 
 item_says : (item : Item) → IsSpelledLine (Node item) → line_of (words_of (Node item)) ≡ Some (Node item)
-unfolding line_of line_by node_line project_line extend_line lift_line value_line tuple_line split_line
+unfolding line_of line_by item_line node_line project_line extend_line lift_line value_line tuple_line split_line
 item_says (Makes (Project f i a m)) h = rw (number f (decimal i ∷ decimal a ∷ decimal m ∷ []) h.0, number i (decimal a ∷ decimal m ∷ []) h.1, number a (decimal m ∷ []) h.2, amount m [] h.3 h.4) refl
 item_says (Makes (Extend f i a m)) h = rw (number f (decimal i ∷ decimal a ∷ decimal m ∷ []) h.0, number i (decimal a ∷ decimal m ∷ []) h.1, number a (decimal m ∷ []) h.2, amount m [] h.3 h.4) refl
 item_says (Makes (Lift x m)) h = rw (number x (decimal m ∷ []) h.0, amount m [] h.1 h.2) refl
@@ -46,7 +46,7 @@ item_says Closes h = refl
 item_says (Splits x a) h = rw (number x (decimal a ∷ []) h.0, number a [] h.1) refl
 
 pub says : (l : Line) → IsSpelledLine l → line_of (words_of l) ≡ Some l
-unfolding line_of line_by version_line numbers_line lower_line best_line
+unfolding line_of line_by item_line version_line numbers_line lower_line best_line
 says Version h = refl
 says (Numbers n e upper) h = rw (number n (decimal e ∷ decimal upper ∷ []) h.0, number e (decimal upper ∷ []) h.1, number upper [] h.2) refl
 says (Lower lower) h = rw (number lower [] h) refl
@@ -254,9 +254,13 @@ node_says : (word : List ℕ) (words : List (List ℕ)) (l : Line) → node_line
 unfolding node_line
 node_says word words l = by_key (codes "p") word words l (project_line words) (if bytes_eq word (codes "e") then extend_line words else (if bytes_eq word (codes "u") then lift_line words else (if bytes_eq word (codes "v") then value_line words else (if bytes_eq word (codes "t") then tuple_line words else (if bytes_eq word (codes "open") then at_end (Node LeavesOpen) words else (if bytes_eq word (codes "closed") then at_end (Node Closes) words else (if bytes_eq word (codes "split") then split_line words else (None)))))))) (project_says words l) (by_key (codes "e") word words l (extend_line words) (if bytes_eq word (codes "u") then lift_line words else (if bytes_eq word (codes "v") then value_line words else (if bytes_eq word (codes "t") then tuple_line words else (if bytes_eq word (codes "open") then at_end (Node LeavesOpen) words else (if bytes_eq word (codes "closed") then at_end (Node Closes) words else (if bytes_eq word (codes "split") then split_line words else (None))))))) (extend_says words l) (by_key (codes "u") word words l (lift_line words) (if bytes_eq word (codes "v") then value_line words else (if bytes_eq word (codes "t") then tuple_line words else (if bytes_eq word (codes "open") then at_end (Node LeavesOpen) words else (if bytes_eq word (codes "closed") then at_end (Node Closes) words else (if bytes_eq word (codes "split") then split_line words else (None)))))) (lift_says words l) (by_key (codes "v") word words l (value_line words) (if bytes_eq word (codes "t") then tuple_line words else (if bytes_eq word (codes "open") then at_end (Node LeavesOpen) words else (if bytes_eq word (codes "closed") then at_end (Node Closes) words else (if bytes_eq word (codes "split") then split_line words else (None))))) (value_says words l) (by_key (codes "t") word words l (tuple_line words) (if bytes_eq word (codes "open") then at_end (Node LeavesOpen) words else (if bytes_eq word (codes "closed") then at_end (Node Closes) words else (if bytes_eq word (codes "split") then split_line words else (None)))) (tuple_says words l) (by_key (codes "open") word words l (at_end (Node LeavesOpen) words) (if bytes_eq word (codes "closed") then at_end (Node Closes) words else (if bytes_eq word (codes "split") then split_line words else (None))) (end_says (codes "open") (Node LeavesOpen) refl tt words l) (by_key (codes "closed") word words l (at_end (Node Closes) words) (if bytes_eq word (codes "split") then split_line words else (None)) (end_says (codes "closed") (Node Closes) refl tt words l) (by_key (codes "split") word words l (split_line words) (None) (split_says words l) (no_line word words l))))))))
 
+item_line_says : (word : List ℕ) (words : List (List ℕ)) (l : Line) → item_line word words ≡ Some l → Says word words l
+unfolding item_line
+item_line_says word words l = by_key (codes "wcspcert") word words l (version_line words) (if bytes_eq word (codes "network") then numbers_line words else (if bytes_eq word (codes "lower") then lower_line words else (if bytes_eq word (codes "best") then best_line words else (if bytes_eq word (codes "tree") then at_end Root words else (if bytes_eq word (codes "end") then at_end End words else (node_line word words)))))) (version_says words l) (by_key (codes "network") word words l (numbers_line words) (if bytes_eq word (codes "lower") then lower_line words else (if bytes_eq word (codes "best") then best_line words else (if bytes_eq word (codes "tree") then at_end Root words else (if bytes_eq word (codes "end") then at_end End words else (node_line word words))))) (numbers_say words l) (by_key (codes "lower") word words l (lower_line words) (if bytes_eq word (codes "best") then best_line words else (if bytes_eq word (codes "tree") then at_end Root words else (if bytes_eq word (codes "end") then at_end End words else (node_line word words)))) (lower_says words l) (by_key (codes "best") word words l (best_line words) (if bytes_eq word (codes "tree") then at_end Root words else (if bytes_eq word (codes "end") then at_end End words else (node_line word words))) (best_says words l) (by_key (codes "tree") word words l (at_end Root words) (if bytes_eq word (codes "end") then at_end End words else (node_line word words)) (end_says (codes "tree") Root refl tt words l) (by_key (codes "end") word words l (at_end End words) (node_line word words) (end_says (codes "end") End refl tt words l) (node_says word words l))))))
+
 line_says : (word : List ℕ) (words : List (List ℕ)) (l : Line) → line_by word words ≡ Some l → Says word words l
 unfolding line_by
-line_says word words l = by_key (codes "wcspcert") word words l (version_line words) (if bytes_eq word (codes "network") then numbers_line words else (if bytes_eq word (codes "lower") then lower_line words else (if bytes_eq word (codes "best") then best_line words else (if bytes_eq word (codes "values") then are_values words else (if bytes_eq word (codes "tree") then at_end Root words else (if bytes_eq word (codes "end") then at_end End words else (node_line word words))))))) (version_says words l) (by_key (codes "network") word words l (numbers_line words) (if bytes_eq word (codes "lower") then lower_line words else (if bytes_eq word (codes "best") then best_line words else (if bytes_eq word (codes "values") then are_values words else (if bytes_eq word (codes "tree") then at_end Root words else (if bytes_eq word (codes "end") then at_end End words else (node_line word words)))))) (numbers_say words l) (by_key (codes "lower") word words l (lower_line words) (if bytes_eq word (codes "best") then best_line words else (if bytes_eq word (codes "values") then are_values words else (if bytes_eq word (codes "tree") then at_end Root words else (if bytes_eq word (codes "end") then at_end End words else (node_line word words))))) (lower_says words l) (by_key (codes "best") word words l (best_line words) (if bytes_eq word (codes "values") then are_values words else (if bytes_eq word (codes "tree") then at_end Root words else (if bytes_eq word (codes "end") then at_end End words else (node_line word words)))) (best_says words l) (by_key (codes "values") word words l (are_values words) (if bytes_eq word (codes "tree") then at_end Root words else (if bytes_eq word (codes "end") then at_end End words else (node_line word words))) (values_said words l) (by_key (codes "tree") word words l (at_end Root words) (if bytes_eq word (codes "end") then at_end End words else (node_line word words)) (end_says (codes "tree") Root refl tt words l) (by_key (codes "end") word words l (at_end End words) (node_line word words) (end_says (codes "end") End refl tt words l) (node_says word words l)))))))
+line_says word words l = by_key (codes "values") word words l (are_values words) (item_line word words) (values_said words l) (item_line_says word words l)
 
 pub record IsLineOf (words : List (List ℕ)) (l : Line) : Type 0 where
   pub its : words ≡ words_of l

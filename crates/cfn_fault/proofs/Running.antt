@@ -1,6 +1,6 @@
 -- The lines of a certificate run from its begin to its end; and lines that run so are those of a certificate.
-use Rattle.std.proofs.Common.{◌≡◌, ℕ, ◌≤◌, List, [], ◌∷◌, ◌++◌, length, map, refl, sym, ap, ap₂, ◌∙◌, subst, arith, append_assoc, lit<, lit≤}
-use Rattle.std.specs.Prelude.{Option, Some, None, flat_map}
+use Rattle.std.proofs.Common.{◌≡◌, ℕ, ◌≤◌, List, [], ◌∷◌, ◌++◌, map, refl, sym, ap, ◌∙◌, subst, append_assoc, lit<, lit≤}
+use Rattle.std.specs.Prelude.{Option, Some, None}
 use Rattle.std.specs.List.{AllByRecursion}
 use Rattle.cfn_model.specs.declared.step.Step.{Step}
 use Rattle.cfn_model.specs.declared.step.Event.{Event}
@@ -53,9 +53,11 @@ pub runs_tree : (history : List Event) (paths : List (List Event)) (tree : Tree)
 runs_tree history paths (Open block) = run_append _ _ _ _ _ (runs_block history paths block) (AtNodes paths, NodeFollows, refl)
 runs_tree history paths (Closed block) = run_append _ _ _ _ _ (runs_block history paths block) (AtNodes paths, NodeFollows, refl)
 runs_tree history paths (Split block x a first second) =
-    run_append (AtNodes (history ∷ paths)) (AtNodes (after block history ∷ paths)) (AtNodes paths) _ (Node (Splits x a) ∷ (tree_of_lines first ++ tree_of_lines second)) (runs_block history paths block)
-    (AtNodes ((Is x a ∷ after block history) ∷ (IsNot x a ∷ after block history) ∷ paths), NodeFollows,
-    run_append _ _ _ _ _ (runs_tree (Is x a ∷ after block history) ((IsNot x a ∷ after block history) ∷ paths) first) (runs_tree (IsNot x a ∷ after block history) paths second))
+    run_append (AtNodes (history ∷ paths)) (AtNodes (after block history ∷ paths)) (AtNodes paths) _ (Node (Splits x a) ∷ (tree_of_lines first ++ tree_of_lines second)) (runs_block history paths block) (
+      AtNodes ((Is x a ∷ after block history) ∷ (IsNot x a ∷ after block history) ∷ paths),
+      NodeFollows,
+      run_append _ _ _ _ _ (runs_tree (Is x a ∷ after block history) ((IsNot x a ∷ after block history) ∷ paths) first) (runs_tree (IsNot x a ∷ after block history) paths second),
+    )
 
 abbrev head_of : Certificate → List Line
 head_of c = Version ∷ Numbers c.variables c.functions c.upper ∷ Lower c.lower ∷ best_of_lines c.best

@@ -1,5 +1,5 @@
 -- The line that some words say, if they say one: the definitions of Lines.antt read backwards.
-use Rattle.std.specs.Prelude.{◌≡◌, ℕ, ◌≤◌, Bool, true, false, not, ◌&&◌, List, [], ◌∷◌, Option, Some, None, codes, if◌then◌else◌, ◌==◌, nat_lt, nat_le}
+use Rattle.std.specs.Prelude.{ℕ, Bool, true, false, not, ◌&&◌, List, [], ◌∷◌, Option, Some, None, codes, if◌then◌else◌, ◌==◌, nat_lt}
 use Rattle.std.specs.List.{list_all}
 use Rattle.std.specs.Str.{bytes_eq}
 use Rattle.cfn_model.specs.declared.step.Step.TheVariants.{Project, Extend, Lift, CutValue, CutTuple}
@@ -141,16 +141,18 @@ node_line word words =
     else if bytes_eq word (codes "split") then split_line words
     else None
 
-unfoldable pub line_by : List ℕ → List (List ℕ) → Option Line
-line_by word words =
+unfoldable pub item_line : List ℕ → List (List ℕ) → Option Line
+item_line word words =
     if bytes_eq word (codes "wcspcert") then version_line words
     else if bytes_eq word (codes "network") then numbers_line words
     else if bytes_eq word (codes "lower") then lower_line words
     else if bytes_eq word (codes "best") then best_line words
-    else if bytes_eq word (codes "values") then are_values words
     else if bytes_eq word (codes "tree") then at_end Root words
     else if bytes_eq word (codes "end") then at_end End words
     else node_line word words
+
+unfoldable pub line_by : List ℕ → List (List ℕ) → Option Line
+line_by word words = if bytes_eq word (codes "values") then are_values words else item_line word words
 
 unfoldable pub line_of : List (List ℕ) → Option Line
 line_of words = do

@@ -1,14 +1,13 @@
 -- What each line of a certificate says, and what may stand behind the lines before it.
-use Rattle.std.specs.Prelude.{◌≡◌, ℕ, ◌<◌, ◌≤◌, List, [], ◌∷◌, ◌++◌, length, map, slice_index_or, Option, Some, None, decimal, codes}
+use Rattle.std.specs.Prelude.{◌≡◌, ℕ, ◌<◌, ◌≤◌, List, [], ◌∷◌, ◌++◌, length, map, flat_map, Option, Some, None, decimal, codes}
 use Rattle.std.specs.List.{AllByRecursion}
-use Rattle.cfn_model.specs.declared.step.Step.{Step}
 use Rattle.cfn_model.specs.declared.step.Event.{Event}
 use Rattle.cfn_model.specs.declared.step.Event.TheVariants.{Did, Is, IsNot}
 use Rattle.cfn_model.specs.Words.{greatest}
 use Rattle.cfn_model.specs.Tree.{Tree, Open, Closed, Split}
 use Rattle.cfn_model.specs.Certificate.{Solution, Certificate}
 use Rattle.cfn_model.specs.Text.{line, step_words, split_words, IsSpelledStep}
-use Rattle.cfn_fault.specs.Fault.{Item, Makes, LeavesOpen, Closes, Splits, line_at}
+use Rattle.cfn_fault.specs.Fault.{Item, Makes, LeavesOpen, Closes, Splits}
 
 -- What a line of a certificate says.
 pub data Line : Type 0 where
@@ -42,6 +41,10 @@ words_of End = codes "end" ∷ []
 
 abbrev pub bytes_of : Line → List ℕ
 bytes_of l = line (words_of l)
+
+-- The text that lines are.
+abbrev pub text_of : List Line → List ℕ
+text_of ls = flat_map bytes_of ls
 
 -- Each number of a line has a spelling, and there is at least one value.
 abbrev pub IsSpelledItem : Item → Type 0

@@ -1,5 +1,4 @@
-use Rattle.std.proofs.Common.{◌≡◌, true, false, sym, ◌∙◌, ap, not, Some, None, rules, arith}
-use Rattle.std.proofs.lemmas.Bool.{not-true, not-false, cases_Bool}
+use Rattle.std.proofs.Common.{◌≡◌, true, false, sym, ◌∙◌, ap, Some, None, rules}
 use Rattle.std.proofs.lemmas.Int.{ints, to_z-of_z}
 use Rattle.std.specs.List.{list_all}
 use Rattle.std.specs.Prelude.{unsigned_abs}

@@ -1,5 +1,4 @@
-use Rattle.std.proofs.Common.{◌≡◌, [], sym, ◌∙◌}
-use Rattle.cfn_fault.specs.Decoding.{words_in}
+use Rattle.std.proofs.Common.{sym, ◌∙◌}
 use Rattle.cfn_fault.proofs.Bytes.{words_some}
 use Rattle.cfn_certtext.proofs.fields.Fields.end.Goals as goal
 
