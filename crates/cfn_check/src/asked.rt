@@ -124,6 +124,14 @@ fn is_place(network: &Network, f: u64, place: u64, value: u64) -> bool
     ensures answer { IsTrue result ↔ IsPlace network.now f place value }
     ensures small { IsTrue result → (f < 4294967296) × (place < 4294967296) × (value < 4294967296) }
 {
+    network.limits();
+    has_value(network, f, place, value)
+}
+
+/// Whether `f` is a function, `place` one of its places, and `value` one of the values there.
+fn has_value(network: &Network, f: u64, place: u64, value: u64) -> bool
+    ensures { IsTrue result ↔ IsPlace network.now f place value }
+{
     if f >= network.functions() as u64 {
         return false;
     }

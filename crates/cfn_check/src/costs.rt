@@ -46,6 +46,7 @@ impl Costs {
     pub(crate) fn of(alloc: Global, network: &Network) -> Result<Costs, AllocError>
         ensures { IfOk result (λ t. Says network.now [] t) }
     {
+        network.limits();
         Ok(Costs {
             floor: constants(network),
             domains: domains_of(alloc, network)?,
@@ -263,6 +264,7 @@ impl Costs {
             (λ g tuple. pos 0) self.old self.new }
         ensures functions { self.new.functions ≡ self.old.functions }
     {
+        network.limits();
         let domain = &mut self.domains[x as usize];
         let before = domain.has_none();
         domain.take(value);

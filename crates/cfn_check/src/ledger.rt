@@ -241,6 +241,7 @@ impl Ledger {
         ensures ok { OnOk result (self.new ≡ with_event event self.old) }
         ensures err { OnErr result (self.new ≡ self.old) }
     {
+        network.limits();
         if self.trail.len() >= Ledger::MOST {
             return Err(AllocError);
         }
@@ -267,6 +268,7 @@ impl Ledger {
         requires some { 0 < length self.old.history }
         ensures { self.new ≡ without 1 self.old }
     {
+        network.limits();
         if let Some(entry) = self.trail.pop() {
             self.costs.revert(network, entry.event, entry.fresh);
         }

@@ -68,6 +68,7 @@ impl Residuals {
     pub(crate) fn shift(&mut self, column: Column, amount: i128)
         requires cells { column.above * (column.size * column.stride) ≡ length self.old.costs }
         requires value { column.value < column.size }
+        requires some { 0 < column.stride }
         requires few { length self.old.costs ≤ 4194304 }
         requires wide { (c : ℕ) → c < length self.old.costs → IsWide (slice_index_or self.old.costs c (pos 0)) }
         requires amount { IsAmount amount }
@@ -84,6 +85,7 @@ impl Residuals {
 fn add_along(costs: &mut [i128], column: Column, amount: i128)
     requires cells { column.above * (column.size * column.stride) ≡ length costs.old }
     requires value { column.value < column.size }
+    requires some { 0 < column.stride }
     requires few { length costs.old ≤ 4194304 }
     requires wide { (c : ℕ) → c < length costs.old → IsWide (slice_index_or costs.old c (pos 0)) }
     requires amount { IsAmount amount }
