@@ -13,12 +13,12 @@ gains_one costs a amount z there is = record {
   size = length-set costs a z;
   each = λ b l. elim (cases_eq a b) [
     | inl same ↦ (let w = when_true (a == b) amount (eqb_same a b same) in
-      let e = ap (λ i. get_or (set costs a z) i (pos 0)) (sym same) ∙ get_or-set_same costs a z (pos 0) there in
-      let s = ap (λ i. get_or costs i (pos 0)) same in
-      omega (arith, ints, w, e, s, is))
+        let e = ap (λ i. get_or (set costs a z) i (pos 0)) (sym same) ∙ get_or-set_same costs a z (pos 0) there in
+        let s = ap (λ i. get_or costs i (pos 0)) same in
+        omega (arith, ints, w, e, s, is))
     | inr other ↦ (let w = when_false (a == b) amount (eqb_other a b other) in
-      let e = get_or-set_other costs a b z (pos 0) (λ e. other (sym e)) in
-      omega (arith, ints, w, e))
+        let e = get_or-set_other costs a b z (pos 0) (λ e. other (sym e)) in
+        omega (arith, ints, w, e))
   ];
 }
 

@@ -19,6 +19,7 @@ arity_small P f network there =
     apart : (xs : List ℕ) (i j d : ℕ) → i < j → j < length xs → (slice_index xs i ≡ slice_index xs j → ⊥) → eqb (get_or xs i d) (get_or xs j d) ≡ false
     apart xs i j d l m h =
         ne_eqb (get_or xs i d) (get_or xs j d) (λ e. let a = get_or_default xs i d 0 (omega arith) in let b = get_or_default xs j d 0 m in h (cc))
+
     found : (xs : List ℕ) (n : ℕ) → ((place : ℕ) → place < length xs → slice_index xs place < n) → (q : ℕ) → list_any (eqb q) xs ≡ true → q < n
     found [] n all q h = absurd (false≢true h)
     found (x ∷ xs) n all q h = elim (or_cases (eqb q x) (list_any (eqb q) xs) h) [

@@ -40,8 +40,10 @@ in_block o s k c some from to =
   where
     from_product : (o s k c : ℕ) → o * (s * k) ≤ c → o * s * k ≤ c
     from_product o s k c h = grind arith
+
     to_product : (o s k c : ℕ) → c < (o + 1) * (s * k) → c < (o + 1) * s * k
     to_product o s k c h = grind arith
+
     less : (o s q : ℕ) → q < (o + 1) * s → o * s ≤ q → q - o * s < s
     less o s q h l = grind arith
 
@@ -108,10 +110,10 @@ added_more column amount z old new n there is sum a = record {
   size = length-set new n z ∙ a.size;
   done = λ c l m. elim (cases_eq c n) [
     | inl same ↦ (let w = when_true (in_column column c) amount (ap (in_column column) same ∙ is) in
-      let r = a.rest c (omega arith) in
-      let e = ap (λ i. get_or (set new n z) i (pos 0)) same ∙ get_or-set_same new n z (pos 0) (omega (arith, a.size)) in
-      let s = ap (λ i. get_or new i (pos 0)) same in
-      omega (arith, ints, w, r, e, s, sum))
+        let r = a.rest c (omega arith) in
+        let e = ap (λ i. get_or (set new n z) i (pos 0)) same ∙ get_or-set_same new n z (pos 0) (omega (arith, a.size)) in
+        let s = ap (λ i. get_or new i (pos 0)) same in
+        omega (arith, ints, w, r, e, s, sum))
     | inr other ↦ get_or-set_other new n c z (pos 0) other ∙ a.done c (omega arith) m
   ];
   rest = λ c l. get_or-set_other new n c z (pos 0) (λ e. omega arith) ∙ a.rest c (omega arith);

@@ -105,9 +105,9 @@ room P t entries network ledger =
       unary = λ x a l m. (let e = says.unary x a l m in let w = unary_within P entries x a ledger.trail in record { low = omega (arith, ints, e, w.low, ledger.short); high = omega (arith, ints, e, w.high, ledger.short) });
       takers = λ x a l m. (let e = says.takers x a l m in let w = takers_within entries x a in omega (arith, e, w, ledger.short));
       residual = λ f c l m. (let n = tuple_of-numbered (dims_at P f) c m in
-        let tuple = tuple_of (dims_at P f) c in
-        let e = sym (ap (residual_at t f) n.number) ∙ says.residual f tuple l n.fits in
-        let k = (network.functions f l).capped (cell (dims_at P f) tuple) in
-        let w = residual_within P entries f tuple (omega (arith, k, network.upper)) ledger.trail in
-        record { low = omega (arith, ints, e, w.low, ledger.short); high = omega (arith, ints, e, w.high, ledger.short) });
+          let tuple = tuple_of (dims_at P f) c in
+          let e = sym (ap (residual_at t f) n.number) ∙ says.residual f tuple l n.fits in
+          let k = (network.functions f l).capped (cell (dims_at P f) tuple) in
+          let w = residual_within P entries f tuple (omega (arith, k, network.upper)) ledger.trail in
+          record { low = omega (arith, ints, e, w.low, ledger.short); high = omega (arith, ints, e, w.high, ledger.short) });
     }

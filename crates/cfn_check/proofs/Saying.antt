@@ -45,9 +45,11 @@ says_less P event fresh history old new s marked shape adds cut = record {
     same : (b c d : Bool) → (b ≡ true → d ≡ c) → (if b then d else (b || c)) ≡ c
     same true c d h = h refl
     same false c d h = refl
+
     double : (b : Bool) → not (not b) ≡ b
     double true = refl
     double false = refl
+
     uncut : (event : Event) (history : List Event) (fresh : Bool) (f c : ℕ) (before : Bool) → IsMarked event fresh history → before ≡ (cuts event f c || is_cut history f c) → (if cuts event f c then not fresh else before) ≡ is_cut history f c
     uncut (Did (Project g i a m)) history fresh f c before marked is = is
     uncut (Did (Extend g i a m)) history fresh f c before marked is = is

@@ -33,13 +33,13 @@ shifted P f i a x gain loss column old v t shape range there at is gains same lo
   floor = omega arith;
   unary = λ y b l m. elim (cases_eq x y) [
     | inl here ↦ (let e = ap (λ w. get_or w.costs b (pos 0)) (ap (λ n. get_or (set old.variables x v) n no_values) (sym here) ∙ get_or-set_same old.variables x v no_values (omega (arith, shape.variables))) in
-      let g = gains.each b (omega (arith, ap (λ n. length (values_at old n).costs) here, shape.unary y l)) in
-      let r = ap (λ n. unary_at old n b) here in
-      let w = first_holds (variable_at P f i == y) (a == b) gain (eqb_same (variable_at P f i) y (sym at ∙ here)) in
-      omega (arith, ints, e, g, r, w))
+        let g = gains.each b (omega (arith, ap (λ n. length (values_at old n).costs) here, shape.unary y l)) in
+        let r = ap (λ n. unary_at old n b) here in
+        let w = first_holds (variable_at P f i == y) (a == b) gain (eqb_same (variable_at P f i) y (sym at ∙ here)) in
+        omega (arith, ints, e, g, r, w))
     | inr apart ↦ (let e = ap (λ w. get_or w.costs b (pos 0)) (get_or-set_other old.variables x y v no_values (λ e. apart (sym e))) in
-      let w = first_fails (variable_at P f i == y) (a == b) gain (eqb_other (variable_at P f i) y (λ e. apart (at ∙ e))) in
-      omega (arith, ints, e, w))
+        let w = first_fails (variable_at P f i == y) (a == b) gain (eqb_other (variable_at P f i) y (λ e. apart (at ∙ e))) in
+        omega (arith, ints, e, w))
   ];
   takers = λ y b l m. elim (cases_eq x y) [
     | inl here ↦ ap (λ w. get_or w.takers b 0) (ap (λ n. get_or (set old.variables x v) n no_values) (sym here) ∙ get_or-set_same old.variables x v no_values (omega (arith, shape.variables))) ∙ ap (λ ns. get_or ns b 0) same ∙ ap (λ n. takers_at old n b) here ∙ sym (zero-add (takers_at old y b))
@@ -47,16 +47,16 @@ shifted P f i a x gain loss column old v t shape range there at is gains same lo
   ];
   residual = λ g tuple l fits. elim (cases_eq f g) [
     | inl here ↦ (let e = ap (λ w. get_or w.costs (cell (dims_at P g) tuple) (pos 0)) (ap (λ n. get_or (set old.functions f t) n no_tuples) (sym here) ∙ get_or-set_same old.functions f t no_tuples (omega (arith, shape.functions))) in
-      let within : cell (dims_at P g) tuple < length (tuples_at old f).costs = omega (arith, cell-below (dims_at P g) tuple fits, shape.residual g l, ap (λ n. length (tuples_at old n).costs) here) in
-      let s = losses (cell (dims_at P g) tuple) within in
-      let r = ap (λ n. residual_at old n (cell (dims_at P g) tuple)) here in
-      let fits_f : Fits (dims_at P f) tuple = subst (λ n. Fits (dims_at P n) tuple) (sym here) fits in
-      let c = ap (λ n. in_column column (cell (dims_at P n) tuple)) (sym here) ∙ column_is (dims_at P f) tuple i a column (omega (arith, range.place, length-dims P.sizes (scope_at P f))) fits_f is in
-      let w = first_holds (f == g) (slice_index tuple i == a) loss (eqb_same f g here) in
-      let k = ap (λ b. when b loss) c in
-      omega (arith, ints, e, s, r, w, k))
+        let within : cell (dims_at P g) tuple < length (tuples_at old f).costs = omega (arith, cell-below (dims_at P g) tuple fits, shape.residual g l, ap (λ n. length (tuples_at old n).costs) here) in
+        let s = losses (cell (dims_at P g) tuple) within in
+        let r = ap (λ n. residual_at old n (cell (dims_at P g) tuple)) here in
+        let fits_f : Fits (dims_at P f) tuple = subst (λ n. Fits (dims_at P n) tuple) (sym here) fits in
+        let c = ap (λ n. in_column column (cell (dims_at P n) tuple)) (sym here) ∙ column_is (dims_at P f) tuple i a column (omega (arith, range.place, length-dims P.sizes (scope_at P f))) fits_f is in
+        let w = first_holds (f == g) (slice_index tuple i == a) loss (eqb_same f g here) in
+        let k = ap (λ b. when b loss) c in
+        omega (arith, ints, e, s, r, w, k))
     | inr apart ↦ (let e = ap (λ w. get_or w.costs (cell (dims_at P g) tuple) (pos 0)) (get_or-set_other old.functions f g t no_tuples (λ e. apart (sym e))) in
-      let w = first_fails (f == g) (slice_index tuple i == a) loss (eqb_other f g apart) in
-      omega (arith, ints, e, w))
+        let w = first_fails (f == g) (slice_index tuple i == a) loss (eqb_other f g apart) in
+        omega (arith, ints, e, w))
   ];
 }

@@ -32,9 +32,9 @@ first_counted p d [] h = absurd (omega arith)
 first_counted p d (x ∷ xs) h = elim (cases_Bool (p x)) [
   | inl passes ↦ (0, omega arith, passes)
   | inr fails ↦ (let e = sum_by-cons (λ y. cond (p y) 1 0) x xs in
-    let z = ap {B = ℕ} (λ b. cond b 1 0) fails in
-    let r = first_counted p d xs (omega (arith, e, z)) in
-    (suc r.0, omega (arith, r.1), r.2))
+      let z = ap {B = ℕ} (λ b. cond b 1 0) fails in
+      let r = first_counted p d xs (omega (arith, e, z)) in
+      (suc r.0, omega (arith, r.1), r.2))
 ]
 
 -- before any event no variable is without live values
@@ -51,9 +51,9 @@ values_none : (P : Network) (history : List Event) (t : Tables) (x : ℕ) → Sa
 values_none P history t x s l none a m = elim (cases_Bool (is_live history x a)) [
   | inr dead ↦ dead
   | inl live ↦ absurd (let test : (takers_at t x a == 0) ≡ true = ap (λ n. n == 0) (s.takers x a l m) ∙ live_is history x a ∙ live in
-    let some = counted (λ n. n == 0) 0 (values_at t x).takers a (omega (arith, s.shape.takers x l)) test in
-    let zero = eqb-true (live_count (values_at t x).takers) 0 none in
-    omega (arith, some, zero))
+      let some = counted (λ n. n == 0) 0 (values_at t x).takers a (omega (arith, s.shape.takers x l)) test in
+      let zero = eqb-true (live_count (values_at t x).takers) 0 none in
+      omega (arith, some, zero))
 ]
 
 none_values : (P : Network) (history : List Event) (t : Tables) (x : ℕ) → Says P history t → x < length P.sizes → ((a : ℕ) → a < slice_index P.sizes x → IsFalse (is_live history x a)) → has_none (values_at t x) ≡ true

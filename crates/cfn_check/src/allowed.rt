@@ -29,7 +29,8 @@ pub(crate) fn allowed(ledger: &Ledger, network: &Network, k: u64, step: Step) ->
             value,
             amount,
         } => amount > 0 && can_extend_at(ledger, network, function, place, value, amount),
-        Step::Lift { variable, amount } => amount > 0 && can_lift(ledger, network, variable, amount),
+        Step::Lift { variable, amount } => amount > 0
+            && can_lift(ledger, network, variable, amount),
         Step::CutValue { variable, value } => can_cut_value(ledger, k, variable, value),
         Step::CutTuple { function, cell } => can_cut_tuple(ledger, network, k, function, cell),
     }

@@ -25,11 +25,20 @@ pub enum AskedStep {
         amount: u64,
     },
     /// Move `amount` from the unary cost of each value of `variable` to the floor (unary project).
-    Lift { variable: u64, amount: u64 },
+    Lift {
+        variable: u64,
+        amount: u64,
+    },
     /// Take `value` from `variable`.
-    CutValue { variable: u64, value: u64 },
+    CutValue {
+        variable: u64,
+        value: u64,
+    },
     /// Take the tuple of `function` with the number `cell`.
-    CutTuple { function: u64, cell: u64 },
+    CutTuple {
+        function: u64,
+        cell: u64,
+    },
 }
 
 /// What became of a step that was asked for.

@@ -201,15 +201,7 @@ impl Costs {
     }
 
     /// Adds `gain` to the cost of a value at a place of a function, and `loss` to that of each tuple that has it there.
-    fn shift(
-        &mut self,
-        network: &Network,
-        f: u32,
-        place: u32,
-        value: u32,
-        gain: i128,
-        loss: i128,
-    )
+    fn shift(&mut self, network: &Network, f: u32, place: u32, value: u32, gain: i128, loss: i128)
         requires shape { HasShape network.now self.old }
         requires room { HasRoom network.now self.old }
         requires place { IsPlace network.now f place value }

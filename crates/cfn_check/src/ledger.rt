@@ -67,8 +67,14 @@ impl Ledger {
 
     /// Judges a step at the threshold `k`, and makes it where it is allowed. Any other answer, and an `Err`, want of
     /// memory, leaves all as it was.
-    pub fn judge(&mut self, network: &Network, k: u64, step: AskedStep) -> Result<Judged, AllocError>
+    pub fn judge(
+        &mut self,
+        network: &Network,
+        k: u64,
+        step: AskedStep,
+    ) -> Result<Judged, AllocError>
         requires { network.now ≡ self.old.network }
+        ensures network { self.new.network ≡ self.old.network }
         ensures ok { IfOk result (IsJudged self.old k (step_of step) self.new) }
         ensures err { OnErr result (self.new ≡ self.old) }
     {
@@ -86,6 +92,7 @@ impl Ledger {
     /// An `Err`, want of memory, leaves all as it was too.
     pub fn is(&mut self, network: &Network, x: u64, value: u64) -> Result<bool, AllocError>
         requires { network.now ≡ self.old.network }
+        ensures network { self.new.network ≡ self.old.network }
         ensures ok { IfOk result (IsDecided self.old x value (Is x value) self.new) }
         ensures err { OnErr result (self.new ≡ self.old) }
     {
@@ -106,6 +113,7 @@ impl Ledger {
     /// was. An `Err`, want of memory, leaves all as it was too.
     pub fn is_not(&mut self, network: &Network, x: u64, value: u64) -> Result<bool, AllocError>
         requires { network.now ≡ self.old.network }
+        ensures network { self.new.network ≡ self.old.network }
         ensures ok { IfOk result (IsDecided self.old x value (IsNot x value) self.new) }
         ensures err { OnErr result (self.new ≡ self.old) }
     {
@@ -158,7 +166,7 @@ impl Ledger {
     }
 
     /// The unary cost of a value. It may be below 0 where the value is not live.
-    pub fn unary(&self, x: u32, value: u32) -> i128
+    pub(crate) fn unary(&self, x: u32, value: u32) -> i128
         requires { IsValue self.now.network x value }
         ensures { result ≡ unary self.now.network self.now.history x value }
     {
@@ -166,7 +174,7 @@ impl Ledger {
     }
 
     /// Whether a value is live.
-    pub fn is_live(&self, x: u32, value: u32) -> bool
+    pub(crate) fn is_live(&self, x: u32, value: u32) -> bool
         requires { IsValue self.now.network x value }
         ensures { result ≡ is_live self.now.history x value }
     {
@@ -174,7 +182,7 @@ impl Ledger {
     }
 
     /// The residual cost of the tuple of a function with a number. It may be below 0 where the tuple is not live.
-    pub fn residual(&self, f: u32, number: u32) -> i128
+    pub(crate) fn residual(&self, f: u32, number: u32) -> i128
         requires { IsCell self.now.network f number }
         ensures { (tuple : List ℕ) → Fits (dims_at self.now.network f) tuple
             → cell (dims_at self.now.network f) tuple ≡ number
@@ -185,7 +193,7 @@ impl Ledger {
 
     /// Whether the tuple of a function with a number is live: its values are live, its entry is below the upper bound,
     /// and it is not cut. It takes time for its places.
-    pub fn is_live_tuple(&self, network: &Network, f: u32, number: u32) -> bool
+    pub(crate) fn is_live_tuple(&self, network: &Network, f: u32, number: u32) -> bool
         requires same { network.now ≡ self.now.network }
         requires number { IsCell network.now f number }
         ensures { (tuple : List ℕ) → Fits (dims_at network.now f) tuple

@@ -11,7 +11,7 @@ returns c =
     let low = rw (← c.requires.same) at c.floor.ensures in (
       λ yes tuple fits is. (let r = clause tuple fits is in let h = c.reaches.ensures.0 yes in omega (arith, ints, r, h, low)),
       λ can. (let t = tuple_of-numbered (dims_at P c.args.f) c.args.number c.requires.number.cell in
-        let r = clause (tuple_of (dims_at P c.args.f) c.args.number) t.fits t.number in
-        let h = can (tuple_of (dims_at P c.args.f) c.args.number) t.fits t.number in
-        c.reaches.ensures.1 (omega (arith, ints, r, h, low))),
+          let r = clause (tuple_of (dims_at P c.args.f) c.args.number) t.fits t.number in
+          let h = can (tuple_of (dims_at P c.args.f) c.args.number) t.fits t.number in
+          c.reaches.ensures.1 (omega (arith, ints, r, h, low))),
     )

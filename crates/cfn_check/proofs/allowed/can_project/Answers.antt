@@ -36,5 +36,6 @@ returns c = (
   where
     reaches : (block above u n : ℕ) → above ≤ block → above * u ≡ n → n ≤ block * u
     reaches block above u n l e = grind arith
+
     ends : (c : goal.After-loop-block) → cells (dims_at c.args.network.now c.args.f) ≤ c.loop-block.block * (c.of-column.result.size * c.of-column.result.stride)
     ends c = reaches c.loop-block.block c.of-column.result.above _ _ c.loop-block-test.false c.of-column.ensures.all
