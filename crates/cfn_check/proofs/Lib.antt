@@ -1,0 +1,10 @@
+pub mod Arities
+pub mod Cells
+pub mod Amounts
+pub mod Live
+pub mod Projecting
+pub mod Walks
+pub mod Shifted
+pub mod Saying
+pub mod Rooms
+pub mod Wiped

@@ -1,0 +1,160 @@
+//! Steps as a text has them, and which of them are in range.
+
+ghost use Rattle.std.specs.Prelude.{◌≡◌, ◌<◌, ◌↔◌, length, IsTrue, MatchOption};
+ghost use Rattle.cfn_model.specs.Steps.{IsValue, IsPlace, IsCell, InRange};
+ghost use Rattle.cfn_check.specs.Asking.{step_of};
+
+use cfn_model::Step;
+use cfn_net::Network;
+
+/// A step with numbers of 64 bits, which may be far out of range.
+#[derive(Clone, Copy, Debug, PartialEq, Eq)]
+pub enum AskedStep {
+    /// Move `amount` from each tuple of `function` that has `value` at `place` to that value's unary cost.
+    Project {
+        function: u64,
+        place: u64,
+        value: u64,
+        amount: u64,
+    },
+    /// Move `amount` from a value's unary cost to each tuple of `function` that has it at `place`.
+    Extend {
+        function: u64,
+        place: u64,
+        value: u64,
+        amount: u64,
+    },
+    /// Move `amount` from the unary cost of each value of `variable` to the floor (unary project).
+    Lift {
+        variable: u64,
+        amount: u64,
+    },
+    /// Take `value` from `variable`.
+    CutValue {
+        variable: u64,
+        value: u64,
+    },
+    /// Take the tuple of `function` with the number `cell`.
+    CutTuple {
+        function: u64,
+        cell: u64,
+    },
+}
+
+/// What became of a step that was asked for.
+#[derive(Clone, Copy, Debug, PartialEq, Eq)]
+pub enum Judged {
+    /// The step is allowed, and made.
+    Done,
+    /// A number is out of range.
+    Range,
+    /// All numbers are in range, and the step is not allowed.
+    NotAllowed,
+}
+
+/// The step that is asked for, where its numbers are in range.
+pub(crate) fn in_range(network: &Network, step: AskedStep) -> Option<Step>
+    ensures { MatchOption result (InRange network.now (step_of step) → ⊥)
+        (λ found. (found ≡ step_of step) × InRange network.now (step_of step)) }
+{
+    match step {
+        AskedStep::Project {
+            function,
+            place,
+            value,
+            amount,
+        } => {
+            if !is_place(network, function, place, value) {
+                return None;
+            }
+            Some(Step::Project {
+                function: function as u32,
+                place: place as u32,
+                value: value as u32,
+                amount,
+            })
+        }
+        AskedStep::Extend {
+            function,
+            place,
+            value,
+            amount,
+        } => {
+            if !is_place(network, function, place, value) {
+                return None;
+            }
+            Some(Step::Extend {
+                function: function as u32,
+                place: place as u32,
+                value: value as u32,
+                amount,
+            })
+        }
+        AskedStep::Lift { variable, amount } => {
+            if variable >= network.variables() as u64 {
+                return None;
+            }
+            Some(Step::Lift {
+                variable: variable as u32,
+                amount,
+            })
+        }
+        AskedStep::CutValue { variable, value } => {
+            if !is_value(network, variable, value) {
+                return None;
+            }
+            Some(Step::CutValue {
+                variable: variable as u32,
+                value: value as u32,
+            })
+        }
+        AskedStep::CutTuple { function, cell } => {
+            if !is_cell(network, function, cell) {
+                return None;
+            }
+            Some(Step::CutTuple {
+                function: function as u32,
+                cell: cell as u32,
+            })
+        }
+    }
+}
+
+/// Whether `x` is a variable, and `value` one of its values.
+pub(crate) fn is_value(network: &Network, x: u64, value: u64) -> bool
+    ensures answer { IsTrue result ↔ IsValue network.now x value }
+    ensures small { IsTrue result → (x < 4294967296) × (value < 4294967296) }
+{
+    x < network.variables() as u64 && value < network.size(x as u32) as u64
+}
+
+/// Whether `f` is a function, `place` one of its places, and `value` one of the values there.
+fn is_place(network: &Network, f: u64, place: u64, value: u64) -> bool
+    ensures answer { IsTrue result ↔ IsPlace network.now f place value }
+    ensures small { IsTrue result → (f < 4294967296) × (place < 4294967296) × (value < 4294967296) }
+{
+    network.limits();
+    has_value(network, f, place, value)
+}
+
+/// Whether `f` is a function, `place` one of its places, and `value` one of the values there.
+fn has_value(network: &Network, f: u64, place: u64, value: u64) -> bool
+    ensures { IsTrue result ↔ IsPlace network.now f place value }
+{
+    if f >= network.functions() as u64 {
+        return false;
+    }
+    network.limits();
+    match network.scope(f as u32).get(place as usize) {
+        Some(x) => value < network.size(*x) as u64,
+        None => false,
+    }
+}
+
+/// Whether `f` is a function, and `cell` the number of one of its tuples.
+fn is_cell(network: &Network, f: u64, cell: u64) -> bool
+    ensures answer { IsTrue result ↔ IsCell network.now f cell }
+    ensures small { IsTrue result → (f < 4294967296) × (cell < 4294967296) }
+{
+    f < network.functions() as u64 && cell < network.cells(f as u32) as u64
+}

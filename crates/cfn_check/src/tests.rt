@@ -1,0 +1,201 @@
+ghost use Rattle.std.specs.Prelude.{◌≡◌, IfOk};
+
+use crate::{AskedStep, Judged, Ledger};
+use cfn_net::{Builder, Network};
+use std::alloc::AllocError;
+use std::test::Fail;
+
+/// The greatest amount of a certificate.
+const MOST: u64 = 9223372036854775807;
+
+/// One variable of 2 values, and one function over it: it costs 3, and 1 where the value is 1.
+fn tiny(rt: &HostRuntime) -> Result<Network, Fail> {
+    let mut builder = Builder::make(rt.alloc(), b"tiny", &[2], 10)?;
+    builder.function(&[0], 3, &[(&[1], 1)])?;
+    Ok(builder.finish()?)
+}
+
+/// Two variables of 2 values, and one function over both that costs the upper bound everywhere.
+fn hard(rt: &HostRuntime) -> Result<Network, Fail> {
+    let mut builder = Builder::make(rt.alloc(), b"hard", &[2, 2], 5)?;
+    builder.function(&[0, 1], 5, &[])?;
+    Ok(builder.finish()?)
+}
+
+/// Three variables of 2 values; two of them with the same value cost 1.
+fn tri(rt: &HostRuntime) -> Result<Network, Fail> {
+    let mut builder = Builder::make(rt.alloc(), b"tri", &[2, 2, 2], 10)?;
+    builder.function(&[0, 1], 0, &[(&[0, 0], 1), (&[1, 1], 1)])?;
+    builder.function(&[0, 2], 0, &[(&[0, 0], 1), (&[1, 1], 1)])?;
+    builder.function(&[1, 2], 0, &[(&[0, 0], 1), (&[1, 1], 1)])?;
+    Ok(builder.finish()?)
+}
+
+fn project(function: u64, place: u64, value: u64, amount: u64) -> AskedStep {
+    AskedStep::Project {
+        function,
+        place,
+        value,
+        amount,
+    }
+}
+
+fn extend(function: u64, place: u64, value: u64, amount: u64) -> AskedStep {
+    AskedStep::Extend {
+        function,
+        place,
+        value,
+        amount,
+    }
+}
+
+fn lift(variable: u64, amount: u64) -> AskedStep {
+    AskedStep::Lift { variable, amount }
+}
+
+fn cut(variable: u64, value: u64) -> AskedStep {
+    AskedStep::CutValue { variable, value }
+}
+
+fn cut_tuple(function: u64, cell: u64) -> AskedStep {
+    AskedStep::CutTuple { function, cell }
+}
+
+/// Judges steps one after another, and answers whether this becomes of each of them.
+fn all_are(
+    judged: Judged,
+    ledger: &mut Ledger,
+    network: &Network,
+    k: u64,
+    steps: &[AskedStep],
+) -> Result<bool, AllocError>
+    requires { network.now ≡ ledger.old.network }
+    ensures { ledger.new.network ≡ ledger.old.network }
+{
+    for step in steps {
+        if ledger.judge(network, k, *step)? != judged {
+            return Ok(false);
+        }
+    }
+    Ok(true)
+}
+
+/// Closes a side of a split of `tri`: where x0 is not `other`, x1 and x2 are `other` both.
+fn closes_side(
+    ledger: &mut Ledger,
+    network: &Network,
+    value: u64,
+    other: u64,
+) -> Result<bool, AllocError>
+    requires { network.now ≡ ledger.old.network }
+    ensures { ledger.new.network ≡ ledger.old.network }
+{
+    let steps = [
+        project(0, 1, value, 1),
+        cut(1, value),
+        project(1, 1, value, 1),
+        cut(2, value),
+        project(2, 0, other, 1),
+        lift(1, 1),
+    ];
+    let done = all_are(Judged::Done, ledger, network, 1, &steps)?;
+    Ok(done && ledger.can_close(1))
+}
+
+#[test]
+fn shifts_add_up(rt: HostRuntime) -> Result<(), Fail> {
+    let network = tiny(&rt)?;
+    let mut ledger = Ledger::make(rt.alloc(), &network)?;
+    let steps = [project(0, 0, 0, 3), project(0, 0, 1, 1)];
+    assert!(rt; all_are(Judged::Done, &mut ledger, &network, 1, &steps)?);
+    assert_eq!(rt; ledger.judge(&network, 1, lift(0, 2))?, Judged::NotAllowed);
+    assert!(rt; !ledger.can_close(1));
+    assert_eq!(rt; ledger.judge(&network, 1, lift(0, 1))?, Judged::Done);
+    assert_eq!(rt; ledger.floor(), 1);
+    assert!(rt; ledger.can_close(1));
+    assert!(rt; !ledger.can_close(2));
+    assert_eq!(rt;
+        ledger.judge(&network, 1, project(0, 0, 0, 1))?,
+        Judged::NotAllowed
+    );
+    assert_eq!(rt; ledger.mark().events, 3);
+    Ok(())
+}
+
+#[test]
+fn both_sides_close(rt: HostRuntime) -> Result<(), Fail> {
+    let network = tri(&rt)?;
+    let mut ledger = Ledger::make(rt.alloc(), &network)?;
+    let root = ledger.mark();
+    assert!(rt; ledger.is(&network, 0, 0)?);
+    assert!(rt; closes_side(&mut ledger, &network, 0, 1)?);
+    assert!(rt; root.events <= ledger.mark().events);
+    ledger.undo(&network, root);
+    assert!(rt; !ledger.can_close(1));
+    assert!(rt; ledger.is_not(&network, 0, 0)?);
+    assert!(rt; closes_side(&mut ledger, &network, 1, 0)?);
+    assert!(rt; root.events <= ledger.mark().events);
+    ledger.undo(&network, root);
+    assert!(rt; !ledger.can_close(1));
+    assert_eq!(rt; ledger.floor(), 0);
+    Ok(())
+}
+
+#[test]
+fn sums_pass_64_bits(rt: HostRuntime) -> Result<(), Fail> {
+    let network = hard(&rt)?;
+    let mut ledger = Ledger::make(rt.alloc(), &network)?;
+    let steps = [
+        project(0, 0, 0, MOST),
+        project(0, 0, 0, MOST),
+        project(0, 0, 0, MOST),
+        project(0, 0, 1, MOST),
+        project(0, 0, 1, MOST),
+        project(0, 0, 1, MOST),
+        lift(0, MOST),
+        lift(0, MOST),
+        lift(0, MOST),
+    ];
+    assert!(rt; all_are(Judged::Done, &mut ledger, &network, 5, &steps)?);
+    assert_eq!(rt; ledger.floor(), 3 * MOST as u128);
+    assert_eq!(rt; ledger.judge(&network, 5, lift(0, 1))?, Judged::NotAllowed);
+    Ok(())
+}
+
+#[test]
+fn what_is_not_live_may_be_below_0(rt: HostRuntime) -> Result<(), Fail> {
+    let network = tiny(&rt)?;
+    let mut ledger = Ledger::make(rt.alloc(), &network)?;
+    let steps = [project(0, 0, 0, 3), cut(0, 0), extend(0, 0, 0, MOST)];
+    assert!(rt; all_are(Judged::Done, &mut ledger, &network, 1, &steps)?);
+    assert_eq!(rt; ledger.judge(&network, 1, cut(0, 0))?, Judged::NotAllowed);
+    let steps = [project(0, 0, 1, 1), lift(0, 1), cut_tuple(0, 0), cut(0, 1)];
+    assert!(rt; all_are(Judged::Done, &mut ledger, &network, 1, &steps)?);
+    assert!(rt; ledger.can_close(MOST));
+    Ok(())
+}
+
+#[test]
+fn numbers_out_of_range(rt: HostRuntime) -> Result<(), Fail> {
+    let network = tiny(&rt)?;
+    let mut ledger = Ledger::make(rt.alloc(), &network)?;
+    let far = 4294967296;
+    let steps = [
+        project(far, 0, 0, 1),
+        project(0, far, 0, 1),
+        project(0, 0, far, 1),
+        project(1, 0, 0, 1),
+        extend(0, 1, 0, 1),
+        lift(far, 1),
+        lift(MOST, 1),
+        cut(far, 0),
+        cut(0, 2),
+        cut_tuple(0, far),
+        cut_tuple(0, 2),
+    ];
+    assert!(rt; all_are(Judged::Range, &mut ledger, &network, 0, &steps)?);
+    assert!(rt; !ledger.is(&network, far, 0)?);
+    assert!(rt; !ledger.is_not(&network, 0, far)?);
+    assert_eq!(rt; ledger.mark().events, 0);
+    Ok(())
+}
