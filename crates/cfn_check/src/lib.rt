@@ -11,6 +11,8 @@
 
 mod allowed;
 mod asked;
+mod answer;
+mod judging;
 mod column;
 mod costs;
 mod domain;
@@ -18,6 +20,8 @@ mod entry;
 mod ledger;
 mod residuals;
 
+pub use answer::Check;
+pub use judging::check;
 pub use asked::{AskedStep, Judged};
 pub use ledger::{Ledger, Mark};
 
