@@ -1,8 +1,10 @@
 -- When a line fails, said by the lines before it: what a checker that goes over the lines has to look at.
-use Rattle.std.specs.Prelude.{◌≡◌, ℕ, ◌≤◌, min, List, [], ◌∷◌, ◌++◌, length, fold}
+use Rattle.std.specs.Prelude.{◌≡◌, ℕ, ◌<◌, ◌≤◌, min, List, [], ◌∷◌, ◌++◌, length, fold}
 use Rattle.cfn_model.specs.declared.step.Event.{Event}
 use Rattle.cfn_model.specs.Network.{Network, Fits, cost}
 use Rattle.cfn_model.specs.Sums.{floor}
+use Rattle.cfn_model.specs.Steps.{IsValue, Allowed}
+use Rattle.cfn_model.specs.Tree.{CanClose}
 use Rattle.cfn_fault.specs.declared.kind.FaultKind.{FaultKind}
 use Rattle.cfn_fault.specs.declared.kind.FaultKind.TheVariants as kinds
 use Rattle.cfn_fault.specs.Fault.{Item, Makes, LeavesOpen, Closes, Splits, FailsPlace}
@@ -41,6 +43,40 @@ LineFails P front s End kind = ⊥
 -- None of these lines fails.
 abbrev pub NoneFails : Network → List Line → Type 0
 NoneFails P ls = (front back : List Line) (l : Line) (s : State) (kind : FaultKind) → ls ≡ front ++ l ∷ back → Runs AtVersion front s → LineFails P front s l kind → ⊥
+
+-- What a place's line says is right at the threshold k.
+abbrev pub PassesPlace : Network → ℕ → List Event → Item → Type 0
+PassesPlace P k history (Makes step) = Allowed P history k step
+PassesPlace P k history LeavesOpen = Unit {0}
+PassesPlace P k history Closes = CanClose P history k
+PassesPlace P k history (Splits x a) = IsValue P x a
+
+abbrev pub NodePasses : Network → ℕ → State → Item → Type 0
+NodePasses P k (AtNodes (history ∷ paths)) item = PassesPlace P k history item
+NodePasses P k (AtNodes []) item = Unit {0}
+NodePasses P k AtVersion item = Unit {0}
+NodePasses P k AtNumbers item = Unit {0}
+NodePasses P k AtLower item = Unit {0}
+NodePasses P k AtBest item = Unit {0}
+NodePasses P k AtValues item = Unit {0}
+NodePasses P k AtRoot item = Unit {0}
+NodePasses P k AtOver item = Unit {0}
+
+-- A line is right behind these lines, which lead to that state.
+abbrev pub LinePasses : Network → List Line → State → Line → Type 0
+LinePasses P front s Version = Unit {0}
+LinePasses P front s (Numbers n e upper) = (n ≡ length P.sizes) × (e ≡ length P.functions) × (upper ≡ P.upper)
+LinePasses P front s (Lower lower) = Unit {0}
+LinePasses P front s NoBest = Unit {0}
+LinePasses P front s (Best cost) = cost < P.upper
+LinePasses P front s (Values values) = Fits P.sizes values × (cost P values ≡ threshold_in front)
+LinePasses P front s Root = Unit {0}
+LinePasses P front s (Node item) = NodePasses P (threshold_in front) s item
+LinePasses P front s End = Unit {0}
+
+-- Each of these lines is right.
+abbrev pub AllPass : Network → List Line → Type 0
+AllPass P ls = (front back : List Line) (l : Line) (s : State) → ls ≡ front ++ l ∷ back → Runs AtVersion front s → LinePasses P front s l
 
 -- The floors of the open leaves among these lines, where these paths are due.
 abbrev pub floor_at : Network → List Event → Item → List ℕ
