@@ -154,6 +154,31 @@ pub record FailsAt (P : Network) (c : Certificate) (l : ℕ) (kind : FaultKind) 
 nodes_of : Tree → List Line
 nodes_of tree = tree_of_lines tree ++ End ∷ []
 
+-- a place of a certificate's tree is one of its lines
+pub record PlaceLine (c : Certificate) (before : List Place) (at : Place) : Type 0 where
+  pub front : List Line
+  pub back : List Line
+  pub others : List (List Event)
+  pub whole : lines_of c ≡ front ++ Node at.item ∷ back
+  pub long : length front ≡ length (head_lines c) + 1 + length before
+  pub run : Runs AtVersion front (AtNodes (at.history ∷ others))
+  pub threshold : threshold_in front ≡ threshold c
+
+pub place_line : (c : Certificate) (before : List Place) (at : Place) (behind : List Place) → places [] c.tree ≡ before ++ at ∷ behind → PlaceLine c before at
+unfolding nodes_of
+place_line c before at behind is =
+    let it = line_of_place (nodes_of c.tree) ([] ∷ []) before at behind (walk_nodes c.tree ∙ is) in
+    let head = heads_of c in
+    record {
+      front = (head ++ Root ∷ []) ++ it.front;
+      back = it.back;
+      others = it.others;
+      whole = ap (λ r. head ++ Root ∷ r) it.whole ∙ sym (append_assoc head (Root ∷ []) (it.front ++ Node at.item ∷ it.back)) ∙ sym (append_assoc (head ++ Root ∷ []) it.front (Node at.item ∷ it.back));
+      long = omega (arith, it.long, head_count c c.best refl, length-append (head ++ Root ∷ []) it.front, length-append head (Root ∷ []));
+      run = run_append AtVersion (AtNodes ([] ∷ [])) (AtNodes (at.history ∷ it.others)) (head ++ Root ∷ []) it.front (runs_heads c.variables c.functions c.upper c.lower c.best) it.run;
+      threshold = ap threshold_in (append_assoc head (Root ∷ []) it.front) ∙ head_threshold c.variables c.functions c.upper c.lower c.best (Root ∷ it.front);
+    }
+
 pub fails_at : (P : Network) (c : Certificate) (l : ℕ) (kind : FaultKind) → FailsLine P c l kind → FailsAt P c l kind
 unfolding nodes_of
 fails_at P c l kind (OtherNetwork number is other) = record {
@@ -187,19 +212,9 @@ fails_at P c l kind (NoSolution best number is some none) = record {
   fails = (is, none);
 }
 fails_at P c l kind (AtPlace before behind at number is fails) =
-    let it = line_of_place (nodes_of c.tree) ([] ∷ []) before at behind (walk_nodes c.tree ∙ is) in
-    let head = heads_of c in
+    let it = place_line c before at behind is in
     let Q : ℕ → Type 0 = λ k. FailsPlace P k at.history at.item kind in
-    record {
-      front = (head ++ Root ∷ []) ++ it.front;
-      line = Node at.item;
-      back = it.back;
-      state = AtNodes (at.history ∷ it.others);
-      whole = ap (λ r. head ++ Root ∷ r) it.whole ∙ sym (append_assoc head (Root ∷ []) (it.front ++ Node at.item ∷ it.back)) ∙ sym (append_assoc (head ++ Root ∷ []) it.front (Node at.item ∷ it.back));
-      number = omega (arith, number, it.long, head_count c c.best refl, length-append (head ++ Root ∷ []) it.front, length-append head (Root ∷ []));
-      run = run_append AtVersion (AtNodes ([] ∷ [])) (AtNodes (at.history ∷ it.others)) (head ++ Root ∷ []) it.front (runs_heads c.variables c.functions c.upper c.lower c.best) it.run;
-      fails = subst Q (sym (ap threshold_in (append_assoc head (Root ∷ []) it.front) ∙ head_threshold c.variables c.functions c.upper c.lower c.best (Root ∷ it.front))) fails;
-    }
+    record { front = it.front; line = Node at.item; back = it.back; state = AtNodes (at.history ∷ it.others); whole = it.whole; number = omega (arith, number, it.long); run = it.run; fails = subst Q (sym it.threshold) fails }
 
 -- and the other way round: in the tree all lines are those of nodes
 IsNodeLine : Line → Type 0
