@@ -24,10 +24,10 @@ use Rattle.cfn_fault.proofs.Beginning.{spelling_is, FrontOf, front_of_lines, beg
 use Rattle.cfn_fault.proofs.Placing.{FailsAt, fails_at, fails_line}
 
 -- two ways to part a list
-same_head : {A : Type 0} {x y : A} {xs ys : List A} → x ∷ xs ≡ y ∷ ys → x ≡ y
+pub same_head : {A : Type 0} {x y : A} {xs ys : List A} → x ∷ xs ≡ y ∷ ys → x ≡ y
 same_head e = cc
 
-same_tail : {A : Type 0} {x y : A} {xs ys : List A} → x ∷ xs ≡ y ∷ ys → xs ≡ ys
+pub same_tail : {A : Type 0} {x y : A} {xs ys : List A} → x ∷ xs ≡ y ∷ ys → xs ≡ ys
 same_tail e = cc
 
 record Parted {A : Type 0} (ls : List A) (last : A) (front : List A) (l : A) (back : List A) : Type 0 where
@@ -73,7 +73,7 @@ step_right : (P : Network) (k : ℕ) (history : List Event) (step : Step) (kind 
 step_right P k history step kind allowed (OutOfRange is out) = out (allowed_in_range P history k step allowed)
 step_right P k history step kind allowed (NotAllowed is within not) = not allowed
 
-place_right : (P : Network) (k : ℕ) (history : List Event) (item : Item) (kind : FaultKind) → PassesPlace P k history item → FailsPlace P k history item kind → ⊥
+pub place_right : (P : Network) (k : ℕ) (history : List Event) (item : Item) (kind : FaultKind) → PassesPlace P k history item → FailsPlace P k history item kind → ⊥
 place_right P k history (Makes step) kind passes fails = step_right P k history step kind passes fails
 place_right P k history LeavesOpen kind passes fails = fails
 place_right P k history Closes kind passes fails = fails.1 passes
@@ -116,7 +116,7 @@ cut ls zero le = record { front = []; back = ls; whole = refl; long = refl }
 cut [] (suc n) le = absurd (omega arith)
 cut (l ∷ ls) (suc n) le = let more = cut ls n (omega arith) in record { front = l ∷ more.front; back = more.back; whole = ap (λ r. l ∷ r) more.whole; long = omega (arith, more.long) }
 
-same_front : {A : Type 0} (a b : List A) (x : A) (xs ys : List A) → a ++ xs ≡ b ++ x ∷ ys → length a ≡ length b + 1 → a ≡ b ++ x ∷ []
+pub same_front : {A : Type 0} (a b : List A) (x : A) (xs ys : List A) → a ++ xs ≡ b ++ x ∷ ys → length a ≡ length b + 1 → a ≡ b ++ x ∷ []
 same_front [] b x xs ys e long = absurd (omega arith)
 same_front (y ∷ []) [] x xs ys e long = ap (λ z. z ∷ []) (same_head e)
 same_front (y ∷ z ∷ a) [] x xs ys e long = absurd (omega arith)

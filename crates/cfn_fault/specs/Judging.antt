@@ -16,6 +16,11 @@ threshold_in (Version ∷ Numbers n e upper ∷ Lower lower ∷ NoBest ∷ ls) =
 threshold_in (Version ∷ Numbers n e upper ∷ Lower lower ∷ Best cost ∷ ls) = cost
 threshold_in ls = 0
 
+-- The lower bound that lines say, once they have said it.
+abbrev pub lower_in : List Line → ℕ
+lower_in (Version ∷ Numbers n e upper ∷ Lower lower ∷ ls) = lower
+lower_in ls = 0
+
 -- A line of a node fails at the path that is due.
 abbrev pub NodeFails : Network → ℕ → State → Item → FaultKind → Type 0
 NodeFails P k (AtNodes (history ∷ paths)) item kind = FailsPlace P k history item kind
@@ -94,3 +99,7 @@ open_floors P (history ∷ paths) (l ∷ ls) = open_floors P (history ∷ paths)
 -- The least of a threshold and floors.
 abbrev pub lowest : ℕ → List ℕ → ℕ
 lowest k floors = fold min k floors
+
+-- The bound that the lines of a certificate show.
+abbrev pub bound_in : Network → List Line → ℕ
+bound_in P ls = lowest (threshold_in ls) (open_floors P ([] ∷ []) ls)

@@ -2,3 +2,4 @@ pub mod Fault
 pub mod Lines
 pub mod Decoding
 pub mod Judging
+pub mod Laws
