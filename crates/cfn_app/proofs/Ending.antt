@@ -13,6 +13,7 @@ use Rattle.cfn_model.specs.Certificate.{Certificate, Good}
 use Rattle.cfn_model.specs.Text.{Spells}
 use Rattle.cfn_fault.specs.declared.kind.FaultKind.{FaultKind}
 use Rattle.cfn_fault.specs.Fault.{Fault}
+use Rattle.cfn_fault.proofs.Faults.{no_fault_where_good}
 use Rattle.cfn_report.specs.Texts.{usage_text}
 use Rattle.cfn_cli.specs.Request.{Request, solve, check, cost, SolveRequest, CheckRequest, CostRequest}
 use Rattle.cfn_app.specs.Outside.{Outside, HasFile, ReadsFile, RefusesFile, Says, EndsSaying}
@@ -85,9 +86,6 @@ one_ok r P Q p q = cc
 told_bytes : (files : Option Files) (name bytes other : List ℕ) → IsSomeAnd files (λ f. f name ≡ Some other) → IfSome files (λ f. f name ≡ Some bytes) → bytes ≡ other
 told_bytes None name bytes other told has = absurd told
 told_bytes (Some f) name bytes other told has = same_bytes bytes other (sym has ∙ told)
-
-good_or_fault : (P : Network) (bytes : List ℕ) (c : Certificate) (l : ℕ) (kind : FaultKind) → Spells c bytes → Good P c → Fault P bytes l kind → ⊥
-good_or_fault P bytes c l kind spells good fails = ?
 
 told_reading : (files : Option Files) (file bytes : List ℕ) (P : Network) → IsSomeAnd files (λ f. (b : List ℕ) × (f file ≡ Some b) × Reads b P) → IfSome files (λ f. f file ≡ Some bytes) → Reads bytes P
 told_reading None file bytes P told has = absurd told
@@ -388,7 +386,7 @@ module _ (request : Option Request) (old new : Outside) (status : ℕ) where
   checks (verified other Q text d q file has verifies e) ask P bytes c is told tells spells good = due_or _ 0 e
   checks (disproved other Q text l kind q file has fails e) ask P bytes c is told tells spells good =
       let same = against ask other P Q bytes text (same_check request other ask q is) told tells file has in
-      absurd (good_or_fault P bytes c l kind spells good (subst (λ t. Fault P t l kind) same.1 (subst (λ N. Fault N text l kind) same.0 fails)))
+      absurd (no_fault_where_good P bytes c l kind spells good (subst (λ t. Fault P t l kind) same.1 (subst (λ N. Fault N text l kind) same.0 fails)))
   checks (costs other Q q file fits e) ask P bytes c is told tells spells good = absurd (check_cost request ask other is q)
   checks (wrong_number other Q q file differs e) ask P bytes c is told tells spells good = absurd (check_cost request ask other is q)
   checks (wrong_value other Q x q file misfit e) ask P bytes c is told tells spells good = absurd (check_cost request ask other is q)
@@ -403,7 +401,7 @@ module _ (request : Option Request) (old new : Outside) (status : ℕ) where
   refutes (unwritten other Q nodes d rows word q file promise five out) ask P bytes l kind is told tells fails = inr (inl five)
   refutes (verified other Q text d q file has verifies e) ask P bytes l kind is told tells fails =
       let same = against ask other P Q bytes text (same_check request other ask q is) told tells file has in
-      absurd (good_or_fault P bytes d l kind (subst (λ t. Spells d t) same.1 verifies.spells) (subst (λ N. Good N d) same.0 verifies.good) fails)
+      absurd (no_fault_where_good P bytes d l kind (subst (λ t. Spells d t) same.1 verifies.spells) (subst (λ N. Good N d) same.0 verifies.good) fails)
   refutes (disproved other Q text line its q file has fault e) ask P bytes l kind is told tells fails = due_or _ 7 e
   refutes (costs other Q q file fits e) ask P bytes l kind is told tells fails = absurd (check_cost request ask other is q)
   refutes (wrong_number other Q q file differs e) ask P bytes l kind is told tells fails = absurd (check_cost request ask other is q)

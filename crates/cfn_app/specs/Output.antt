@@ -1,5 +1,5 @@
 -- How writing a certificate and saying its report may end.
-use Rattle.std.specs.Prelude.{◌≡◌, ◌≢◌, ◌⊎◌, ℕ, List, length, option_map, Result, Ok, Err}
+use Rattle.std.specs.Prelude.{◌≡◌, ◌≢◌, ◌⊎◌, ℕ, List, length, Result, Ok, Err}
 use Rattle.cfn_model.specs.declared.report.Row.{Row}
 use Rattle.cfn_model.specs.declared.report.ResultWord.{ResultWord}
 use Rattle.cfn_model.specs.Certificate.{Certificate}
@@ -10,6 +10,7 @@ use Rattle.cfn_model.specs.Reading.{Reads, Refuses}
 use Rattle.cfn_net.specs.Fitting.{IsFirstMisfit}
 use Rattle.cfn_fault.specs.declared.kind.FaultKind.{FaultKind}
 use Rattle.cfn_fault.specs.Fault.{Fault}
+use Rattle.cfn_check.specs.Checking.{cost_of}
 use Rattle.cfn_report.specs.Texts.{verified_text, refused_text}
 use Rattle.cfn_wcsp.specs.declared.fault.ReadFault.{ReadFault}
 use Rattle.cfn_wcsp.specs.declared.fault.ReadFault.TheVariants.{Refused, Memory}
@@ -60,7 +61,7 @@ Loads file old new (Err status) = NotLoaded file old new status
 -- What is said of a certificate: its bounds where it is good, or else its first line that fails.
 abbrev pub SaysCheck : Network → List ℕ → Outside → Outside → ℕ → Type 0
 SaysCheck P bytes old new status =
-    ((c : Certificate) × Verifies P bytes c × EndsSaying old new (verified_text c.lower (option_map (λ best. best.cost) c.best)) 0 status)
+    ((c : Certificate) × Verifies P bytes c × EndsSaying old new (verified_text c.lower (cost_of c.best)) 0 status)
     ⊎ (((l : ℕ) × (kind : FaultKind) × Fault P bytes l kind × EndsSaying old new (refused_text kind l) 7 status)
     ⊎ EndsSaying old new memory_fault_text 6 status)
 

@@ -1,5 +1,5 @@
 -- How a run may end, in full.
-use Rattle.std.specs.Prelude.{◌≡◌, ◌≢◌, ℕ, List, length, Option, Some, None, option_map}
+use Rattle.std.specs.Prelude.{◌≡◌, ◌≢◌, ℕ, List, length, Option, Some, None}
 use Rattle.cfn_model.specs.declared.report.Row.{Row}
 use Rattle.cfn_model.specs.declared.report.ResultWord.{ResultWord}
 use Rattle.cfn_model.specs.declared.reading.Refusal.{Refusal}
@@ -9,6 +9,7 @@ use Rattle.cfn_model.specs.Certificate.{Certificate}
 use Rattle.cfn_model.specs.Text.{refusal_text, read_fault_text, memory_fault_text, cost_text, values_fault_text, value_fault_text}
 use Rattle.cfn_fault.specs.declared.kind.FaultKind.{FaultKind}
 use Rattle.cfn_fault.specs.Fault.{Fault}
+use Rattle.cfn_check.specs.Checking.{cost_of}
 use Rattle.cfn_report.specs.Texts.{usage_text, verified_text, refused_text}
 use Rattle.cfn_cli.specs.Request.{Request, solve, check, cost, SolveRequest, CheckRequest, CostRequest}
 use Rattle.cfn_app.specs.Outside.{Outside, HasFile, ReadsFile, RefusesFile, SaysCut, EndsSaying}
@@ -35,7 +36,7 @@ pub data Runs (request : Option Request) (old new : Outside) (status : ℕ) : Ty
   -- solved, and the output failed
   unwritten : (ask : SolveRequest) (P : Network) (nodes : ℕ) (c : Certificate) (rows : List Row) (word : ResultWord) → request ≡ Some (solve ask) → ReadsFile old ask.file P → Promise P ask.budget nodes c rows word → status ≡ 5 → Unwritten ask.workers ask.certificate old new nodes c rows word → Runs request old new status
   -- the certificate is good
-  verified : (ask : CheckRequest) (P : Network) (bytes : List ℕ) (c : Certificate) → request ≡ Some (check ask) → ReadsFile old ask.file P → HasFile old ask.certificate bytes → Verifies P bytes c → EndsSaying old new (verified_text c.lower (option_map (λ best. best.cost) c.best)) 0 status → Runs request old new status
+  verified : (ask : CheckRequest) (P : Network) (bytes : List ℕ) (c : Certificate) → request ≡ Some (check ask) → ReadsFile old ask.file P → HasFile old ask.certificate bytes → Verifies P bytes c → EndsSaying old new (verified_text c.lower (cost_of c.best)) 0 status → Runs request old new status
   -- the certificate is refused
   disproved : (ask : CheckRequest) (P : Network) (bytes : List ℕ) (l : ℕ) (kind : FaultKind) → request ≡ Some (check ask) → ReadsFile old ask.file P → HasFile old ask.certificate bytes → Fault P bytes l kind → EndsSaying old new (refused_text kind l) 7 status → Runs request old new status
   -- the cost of an assignment is said

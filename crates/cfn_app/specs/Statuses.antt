@@ -1,5 +1,5 @@
 -- What each status of a run says.
-use Rattle.std.specs.Prelude.{◌≡◌, ◌≢◌, ◌⊎◌, ℕ, ◌≤◌, List, length, Option, Some, None, IsSomeAnd, option_map}
+use Rattle.std.specs.Prelude.{◌≡◌, ◌≢◌, ◌⊎◌, ℕ, ◌≤◌, List, length, Option, Some, None, IsSomeAnd}
 use Rattle.cfn_model.specs.declared.report.ResultWord.{ResultWord}
 use Rattle.cfn_model.specs.declared.report.ResultWord.TheVariants.{Optimum, Nothing, Budget, Memory}
 use Rattle.cfn_model.specs.declared.reading.Refusal.{Refusal}
@@ -11,6 +11,7 @@ use Rattle.cfn_net.specs.Fitting.{IsFirstMisfit}
 use Rattle.cfn_model.specs.Certificate.{Certificate, Good}
 use Rattle.cfn_fault.specs.declared.kind.FaultKind.{FaultKind}
 use Rattle.cfn_fault.specs.Fault.{Fault}
+use Rattle.cfn_check.specs.Checking.{cost_of}
 use Rattle.cfn_report.specs.Texts.{usage_text, verified_text, refused_text}
 use Rattle.cfn_cli.specs.Request.{Request, solve, check, cost, SolveRequest, CheckRequest, CostRequest}
 use Rattle.cfn_app.specs.Outside.{Outside, HasFile, ReadsFile, RefusesFile, Says}
@@ -25,7 +26,7 @@ Solved request old new word = (ask : SolveRequest) × (request ≡ Some (solve a
 abbrev pub Verified : Option Request → Outside → Outside → Type 0
 Verified request old new =
     (ask : CheckRequest) × (P : Network) × (bytes : List ℕ) × (c : Certificate) × (request ≡ Some (check ask)) × ReadsFile old ask.file P × HasFile old ask.certificate bytes × Verifies P bytes c
-    × Says old new (verified_text c.lower (option_map (λ best. best.cost) c.best))
+    × Says old new (verified_text c.lower (cost_of c.best))
 
 -- The words ask for `check`, a line of the certificate fails, no earlier one does, and how it fails is said.
 abbrev pub Disproved : Option Request → Outside → Outside → Type 0

@@ -12,7 +12,7 @@ use cfn_check::{Check, check};
 use cfn_cli::CheckArguments;
 use cfn_desk::Desk;
 use cfn_net::Network;
-use std::alloc::Global;
+use std::alloc::{AllocError, Global};
 
 /// Loads both files that are asked for, reads the network, judges the certificate and says whether it is good, or the
 /// first fault.
@@ -34,12 +34,12 @@ fn judge<D: Desk>(alloc: Global, network: &Network, certificate: &[u8], desk: &m
 {
     network.limits();
     match check(alloc, network, certificate) {
-        Check::Verified { lower, best } => {
+        Ok(Check::Verified { lower, best }) => {
             ending(cfn_report::write_verified(lower, best, desk), DONE)
         }
-        Check::Refused { kind, line } => {
+        Ok(Check::Refused { kind, line }) => {
             ending(cfn_report::write_refused(kind, line, desk), DISPROVED)
         }
-        Check::Memory => ending(cfn_report::write_memory_fault(desk), MEMORY),
+        Err(AllocError) => ending(cfn_report::write_memory_fault(desk), MEMORY),
     }
 }
