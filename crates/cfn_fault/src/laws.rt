@@ -1,0 +1,1 @@
+//! What follows from the definitions, each the contract of a function with nothing to do.
