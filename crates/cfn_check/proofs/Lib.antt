@@ -2,6 +2,7 @@ pub mod Arities
 pub mod Cells
 pub mod Amounts
 pub mod Live
+pub mod Walking
 pub mod Projecting
 pub mod Walks
 pub mod Shifted

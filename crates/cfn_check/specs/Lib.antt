@@ -4,3 +4,4 @@ pub mod Columns
 pub mod Standing
 pub mod Asking
 pub mod Lacking
+pub mod Walking

@@ -16,7 +16,9 @@ mod costs;
 mod domain;
 mod entry;
 mod ledger;
+mod owed;
 mod residuals;
+mod walk;
 
 pub use asked::Judged;
 pub use ledger::{Ledger, Mark};
