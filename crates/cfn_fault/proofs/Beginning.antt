@@ -76,7 +76,7 @@ pub record FrontOf (cs ls : List Line) : Type 0 where
   pub rest : List Line
   pub whole : cs ≡ ls ++ rest
 
-agree : (cs ls : List Line) (tail : List (List ℕ)) → AllByRecursion IsSpelledLine cs → AllByRecursion IsSpelledLine ls
+pub agree : (cs ls : List Line) (tail : List (List ℕ)) → AllByRecursion IsSpelledLine cs → AllByRecursion IsSpelledLine ls
     → ((i : ℕ) → i < length ls → slice_index_or (map bytes_of cs) i [] ≡ slice_index_or (map bytes_of ls ++ tail) i []) → FrontOf cs ls
 agree cs [] tail hc hl same = record { rest = cs; whole = refl }
 agree [] (l ∷ ls) tail hc hl same = absurd (some_bytes l hl.0 (sym (same 0 (omega arith))))
