@@ -98,3 +98,8 @@ parted s s' k least over owed o x a is_x is_a mark are value is history paths e 
       ap (walking k least over (o ∷ owed)) is
       ∙ ap (λ ps. record { network = s.network; threshold = k; paths = ps; least = least }) (ap (λ b. due_paths b (Is x a ∷ s.history) (o ∷ owed)) d.due ∙ ap₂ (λ h hs. (Is x a ∷ h) ∷ hs) d.first (ap₂ (λ p ps. p ∷ ps) other (more ∙ d.rest))),
     )
+
+pub still_owed : (s s' : Standing) (o : Owed) (owed : List Owed) → AreOwed s.network (length s.history) (o ∷ owed) → s' ≡ with_event (IsNot o.variable o.value) (without (length s.history - o.mark.events) s) → AreOwed s'.network (length s'.history) owed
+still_owed s s' o owed are is =
+    let back = length-drop (length s.history - o.mark.events) s.history in
+    subst (λ (z : Standing). AreOwed z.network (length z.history) owed) (sym is) (owed_longer s.network o.mark.events (suc (length (drop (length s.history - o.mark.events) s.history))) owed (omega (arith, back, are.0)) are.2)
