@@ -1,5 +1,5 @@
 -- Which certificates begin with the lines that a text has.
-use Rattle.std.proofs.Common.{◌≡◌, ℕ, zero, suc, ◌<◌, ◌≤◌, ◌+◌, List, [], ◌∷◌, ◌++◌, length, refl, sym, ap, ap₂, subst, ◌∙◌, arith}
+use Rattle.std.proofs.Common.{◌≡◌, ℕ, zero, suc, ◌<◌, ◌≤◌, ◌+◌, List, [], ◌∷◌, ◌++◌, length, refl, sym, ap, ap₂, subst, ◌∙◌, arith, append_assoc}
 use Rattle.std.proofs.lemmas.List.{map-append}
 use Rattle.std.specs.Prelude.{Option, Some, None, map, slice_index_or, codes}
 use Rattle.std.specs.List.{AllByRecursion}
@@ -132,3 +132,8 @@ none_begins bytes rest ls s run spelled is no_line more c all begins =
     by_rest : (more_lines : List Line) → Runs s more_lines AtOver → AllByRecursion IsSpelledLine more_lines → slice_index_or (map bytes_of more_lines) 0 [] ≡ line_at rest 0 → ⊥
     by_rest [] run its here = more run (sym here)
     by_rest (l ∷ others) run its here = no_line l run.0 its.0 run.1 (sym here)
+
+-- the text of one line more
+pub text_append : (ls : List Line) (l : Line) → text_of (ls ++ l ∷ []) ≡ text_of ls ++ bytes_of l
+text_append [] l = nil_right (bytes_of l)
+text_append (m ∷ ls) l = ap (λ r. bytes_of m ++ r) (text_append ls l) ∙ sym (append_assoc (bytes_of m) (text_of ls) (bytes_of l))

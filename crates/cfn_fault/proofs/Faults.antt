@@ -1,25 +1,23 @@
 -- One fault at most, none where the certificate is good, and what the lines of a text say of its fault.
-use Rattle.std.proofs.Common.{◌≡◌, ℕ, zero, suc, ◌<◌, ◌≤◌, ◌+◌, ◌⊎◌, inl, inr, min, List, [], ◌∷◌, ◌++◌, length, map, refl, sym, ap, ap₂, subst, ◌∙◌, arith, append_assoc, length-append}
+use Rattle.std.proofs.Common.{◌≡◌, ℕ, ◌<◌, ◌+◌, inl, inr, List, [], ◌∷◌, ◌++◌, length, map, refl, sym, ap, ap₂, subst, ◌∙◌, arith, append_assoc, length-append}
 use Rattle.std.proofs.lemmas.Bool.{cases_order}
 use Rattle.std.proofs.lemmas.List.{map-append}
 use Rattle.std.specs.Prelude.{Option, Some, None, slice_index_or}
 use Rattle.std.specs.List.{AllByRecursion}
 use Rattle.cfn_model.specs.declared.step.Step.{Step}
 use Rattle.cfn_model.specs.declared.step.Event.{Event}
-use Rattle.cfn_model.specs.Network.{Network, Fits, cost}
-use Rattle.cfn_model.specs.Steps.{InRange, Allowed}
-use Rattle.cfn_model.specs.Tree.{Tree, Valid, bound}
+use Rattle.cfn_model.specs.Network.{Network, cost}
+use Rattle.cfn_model.specs.Tree.{bound}
 use Rattle.cfn_model.specs.Certificate.{Solution, Certificate, Good, threshold, threshold_of, IsBest}
-use Rattle.cfn_model.specs.Text.{IsSpelled, Spells, spelling, head_lines}
+use Rattle.cfn_model.specs.Text.{IsSpelled, Spells}
 use Rattle.cfn_fault.specs.declared.kind.FaultKind.{FaultKind}
-use Rattle.cfn_fault.specs.declared.kind.FaultKind.TheVariants as kinds
-use Rattle.cfn_fault.specs.Fault.{lines, line_at, Begins, Item, Makes, LeavesOpen, Closes, Splits, Place, places, FailsStep, OutOfRange, NotAllowed, FailsPlace, FailsLine, OtherNetwork, NotBelow, NoSolution, AtPlace, Fails, AsText, InCertificate, Fault, First, LowerAbove}
+use Rattle.cfn_fault.specs.Fault.{lines, Begins, Item, Makes, LeavesOpen, Closes, Splits, Place, FailsStep, OutOfRange, NotAllowed, FailsPlace, FailsLine, OtherNetwork, NotBelow, NoSolution, AtPlace, Fails, AsText, InCertificate, First, LowerAbove}
 use Rattle.cfn_fault.specs.Lines.{Line, Version, Numbers, Lower, NoBest, Best, Values, Root, Node, End, bytes_of, text_of, IsSpelledLine, tree_of_lines, best_of_lines, lines_of, State, AtVersion, AtNumbers, AtLower, AtBest, AtValues, AtRoot, AtNodes, AtOver, Follows, Runs}
-use Rattle.cfn_fault.specs.Judging.{threshold_in, lower_in, NodeFails, LineFails, PassesPlace, AllPass, open_floors, lowest, bound_in}
-use Rattle.cfn_fault.specs.Laws.{OneFault, NoFaultWhereGood, Fronts, TextFaults, LineFaults, IsWhole, WholeTexts, OneMorePasses}
+use Rattle.cfn_fault.specs.Judging.{threshold_in, lower_in, NodeFails, LineFails, AllPass, open_floors, lowest, bound_in}
+use Rattle.cfn_fault.specs.Laws.{OneFault, NoFaultWhereGood, TextFaults, LineFaults, WholeTexts, OneMorePasses}
 use Rattle.cfn_fault.proofs.Running.{same_end, run_split, runs_certificate, spelled_lines, spelled_front, nothing_over, told}
 use Rattle.cfn_fault.proofs.Beginning.{FrontOf, agree, lines_of_spelling, spelling_is}
-use Rattle.cfn_fault.proofs.Placing.{FailsAt, fails_at, fails_line}
+use Rattle.cfn_fault.proofs.Placing.{fails_at, fails_line}
 use Rattle.cfn_fault.proofs.Judging.{none_fails, text_fault, line_fault, none_at_all, one_more_passes, same_front, same_head, same_tail, place_right}
 use Rattle.cfn_fault.proofs.Whole.{AllPlaces, places_by_valid, place_passes, good_by_lines, bound_by_lines}
 
@@ -185,13 +183,15 @@ whole_texts P bytes ls fronts all =
     let spells : Spells c.certificate bytes = record { spelled = c.spelled; exact = text ∙ ap text_of c.lines ∙ sym (spelling_is c.certificate) } in
     let Q : List Line → Type 0 = AllPass P in
     let bounds : bound P [] c.certificate.tree (threshold c.certificate) ≡ bound_in P ls = bound_of_lines P c.certificate ∙ ap (bound_in P) (sym c.lines) in
-    let lower : c.certificate.lower ≡ lower_in ls = ap lower_in (sym c.lines) in
-    (c.certificate, record {
-      spells = spells;
-      lines = sym c.lines;
-      good = λ le. good_by_lines P c.certificate (subst Q c.lines all) (omega arith);
-      fault = λ lt. LowerAbove c.certificate refl refl (none_at_all P bytes ls fronts.run fronts.spelled text (none_fails P ls all)) spells (omega arith);
-    })
+    let lower : c.certificate.lower ≡ lower_in ls = ap lower_in (sym c.lines) in (
+      c.certificate,
+      record {
+        spells = spells;
+        lines = sym c.lines;
+        good = λ le. good_by_lines P c.certificate (subst Q c.lines all) (omega arith);
+        fault = λ lt. LowerAbove c.certificate refl refl (none_at_all P bytes ls fronts.run fronts.spelled text (none_fails P ls all)) spells (omega arith);
+      },
+    )
   where
     nil_right : {A : Type 0} (a : List A) → a ++ [] ≡ a
     nil_right [] = refl

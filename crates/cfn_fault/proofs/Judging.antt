@@ -1,27 +1,24 @@
 -- A text whose lines are right up to one that fails has its fault there; where all are right, the certificate is good but
 -- for its lower bound.
-use Rattle.std.proofs.Common.{◌≡◌, ℕ, zero, suc, ◌<◌, ◌≤◌, ◌+◌, ◌⊎◌, inl, inr, min, List, [], ◌∷◌, ◌++◌, length, refl, sym, ap, ap₂, subst, ◌∙◌, arith, append_assoc, length-append}
+use Rattle.std.proofs.Common.{◌≡◌, ℕ, zero, suc, ◌≤◌, ◌+◌, ◌⊎◌, inl, inr, List, [], ◌∷◌, ◌++◌, length, refl, sym, ap, ap₂, subst, ◌∙◌, arith, append_assoc, length-append}
 use Rattle.std.proofs.lemmas.Bool.{cases_lt}
 use Rattle.std.proofs.lemmas.Grind.{flat_map-append}
-use Rattle.std.specs.Prelude.{Option, Some, None, fold}
 use Rattle.std.specs.List.{AllByRecursion}
 use Rattle.cfn_model.specs.declared.step.Step.{Step}
 use Rattle.cfn_model.specs.declared.step.Step.TheVariants.{Project, Extend, Lift, CutValue, CutTuple}
 use Rattle.cfn_model.specs.declared.step.Event.{Event}
-use Rattle.cfn_model.specs.declared.step.Event.TheVariants.{Did, Is, IsNot}
-use Rattle.cfn_model.specs.Network.{Network, Fits, cost}
-use Rattle.cfn_model.specs.Steps.{InRange, Allowed, Run, after}
-use Rattle.cfn_model.specs.Tree.{Tree, Open, Closed, Split, Valid, bound}
-use Rattle.cfn_model.specs.Certificate.{Solution, Certificate, Good, threshold, IsBest}
-use Rattle.cfn_model.specs.Text.{IsSpelled, Spells, spelling}
+use Rattle.cfn_model.specs.Network.{Network, cost}
+use Rattle.cfn_model.specs.Steps.{InRange, Allowed}
+use Rattle.cfn_model.specs.Certificate.{Certificate}
+use Rattle.cfn_model.specs.Text.{IsSpelled, spelling}
 use Rattle.cfn_fault.specs.declared.kind.FaultKind.{FaultKind}
 use Rattle.cfn_fault.specs.declared.kind.FaultKind.TheVariants as kinds
-use Rattle.cfn_fault.specs.Fault.{Begins, Item, Makes, LeavesOpen, Closes, Splits, Place, place, block_places, places, FailsStep, OutOfRange, NotAllowed, FailsPlace, HasNumbers, FailsLine, Fails, AsText, InCertificate, Fault, First, LowerAbove}
+use Rattle.cfn_fault.specs.Fault.{Begins, Item, Makes, LeavesOpen, Closes, Splits, FailsStep, OutOfRange, NotAllowed, FailsPlace, Fails, AsText, InCertificate, Fault, First}
 use Rattle.cfn_fault.specs.Lines.{Line, Version, Numbers, Lower, NoBest, Best, Values, Root, Node, End, bytes_of, text_of, IsSpelledLine, lines_of, State, AtVersion, AtNumbers, AtLower, AtBest, AtValues, AtRoot, AtNodes, AtOver, Follows, Runs}
 use Rattle.cfn_fault.specs.Judging.{threshold_in, NodeFails, LineFails, NoneFails, PassesPlace, NodePasses, LinePasses, AllPass}
-use Rattle.cfn_fault.proofs.Running.{same_end, run_append, run_split, run_one_more, runs_certificate, spelled_append, spelled_front, spelled_back, spelled_lines, nothing_over, told, begun}
-use Rattle.cfn_fault.proofs.Beginning.{spelling_is, FrontOf, front_of_lines, begins_with}
-use Rattle.cfn_fault.proofs.Placing.{FailsAt, fails_at, fails_line}
+use Rattle.cfn_fault.proofs.Running.{same_end, run_split, run_one_more, runs_certificate, spelled_front, nothing_over, told, begun}
+use Rattle.cfn_fault.proofs.Beginning.{spelling_is, front_of_lines, begins_with}
+use Rattle.cfn_fault.proofs.Placing.{fails_at, fails_line}
 
 -- two ways to part a list
 pub same_head : {A : Type 0} {x y : A} {xs ys : List A} → x ∷ xs ≡ y ∷ ys → x ≡ y
@@ -48,12 +45,12 @@ by_last (x ∷ ls) last (a ∷ front) l back e = elim (by_last ls last front l b
 pub one_more_passes : (P : Network) (ls : List Line) (s : State) (l : Line) → Runs AtVersion ls s → AllPass P ls → LinePasses P ls s l → AllPass P (ls ++ l ∷ [])
 one_more_passes P ls s l run all passes front back m t e behind = elim (by_last ls l front m back e) [
   | inl at ↦
-    let Q : List Line → Type 0 = λ x. Runs AtVersion x s in
-    let same : s ≡ t = same_end AtVersion s t front (subst Q at.0 run) behind in
-    let R : List Line → Type 0 = λ x. LinePasses P x s l in
-    let S : State → Type 0 = λ x. LinePasses P front x l in
-    let T : Line → Type 0 = λ x. LinePasses P front t x in
-    subst T at.1 (subst S same (subst R at.0 passes))
+      let Q : List Line → Type 0 = λ x. Runs AtVersion x s in
+      let same : s ≡ t = same_end AtVersion s t front (subst Q at.0 run) behind in
+      let R : List Line → Type 0 = λ x. LinePasses P x s l in
+      let S : State → Type 0 = λ x. LinePasses P front x l in
+      let T : Line → Type 0 = λ x. LinePasses P front t x in
+      subst T at.1 (subst S same (subst R at.0 passes))
   | inr parted ↦ all front parted.more m t parted.whole behind
 ]
 
@@ -171,12 +168,12 @@ none_at_all P bytes ls run spelled is none l kind (InCertificate c all begins fa
     elim (cases_lt (length ls) l) [
       | inr le ↦ none_before P bytes [] ls AtOver run spelled (is ∙ sym (nil_right (text_of ls))) none l kind le (InCertificate c all begins fails)
       | inl lt ↦
-        let at = fails_at P c l kind fails in
-        let its = front_of_lines c bytes [] ls l all spelled (is ∙ sym (nil_right (text_of ls))) (omega arith) begins in
-        let Q : List Line → Type 0 = λ x. Runs AtVersion x AtOver in
-        let parts = run_split AtVersion AtOver ls its.rest (subst Q its.whole (runs_certificate c)) in
-        let R : State → Type 0 = λ x. Runs x its.rest AtOver in
-        let over : its.rest ≡ [] = nothing_over its.rest AtOver (subst R (same_end AtVersion parts.0 AtOver ls parts.1 run) parts.2) in
-        let both : at.front ++ at.line ∷ at.back ≡ ls = sym at.whole ∙ its.whole ∙ ap (λ x. ls ++ x) over ∙ nil_right ls in
-        absurd (omega (arith, ap length both, length-append at.front (at.line ∷ at.back), at.number))
+          let at = fails_at P c l kind fails in
+          let its = front_of_lines c bytes [] ls l all spelled (is ∙ sym (nil_right (text_of ls))) (omega arith) begins in
+          let Q : List Line → Type 0 = λ x. Runs AtVersion x AtOver in
+          let parts = run_split AtVersion AtOver ls its.rest (subst Q its.whole (runs_certificate c)) in
+          let R : State → Type 0 = λ x. Runs x its.rest AtOver in
+          let over : its.rest ≡ [] = nothing_over its.rest AtOver (subst R (same_end AtVersion parts.0 AtOver ls parts.1 run) parts.2) in
+          let both : at.front ++ at.line ∷ at.back ≡ ls = sym at.whole ∙ its.whole ∙ ap (λ x. ls ++ x) over ∙ nil_right ls in
+          absurd (omega (arith, ap length both, length-append at.front (at.line ∷ at.back), at.number))
     ]

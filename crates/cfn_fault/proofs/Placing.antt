@@ -1,19 +1,18 @@
 -- The places of a tree, found by its lines; and a line that fails in a certificate, found by the lines before it.
-use Rattle.std.proofs.Common.{◌≡◌, ℕ, zero, suc, ◌<◌, ◌≤◌, ◌+◌, List, [], ◌∷◌, ◌++◌, length, map, refl, sym, ap, ap₂, subst, ◌∙◌, arith, append_assoc, length-append}
-use Rattle.std.specs.Prelude.{Option, Some, None, min}
+use Rattle.std.proofs.Common.{◌≡◌, ℕ, ◌+◌, List, [], ◌∷◌, ◌++◌, length, map, refl, sym, ap, subst, ◌∙◌, arith, append_assoc, length-append}
+use Rattle.std.specs.Prelude.{Option, Some, None}
 use Rattle.cfn_model.specs.declared.step.Step.{Step}
 use Rattle.cfn_model.specs.declared.step.Event.{Event}
 use Rattle.cfn_model.specs.declared.step.Event.TheVariants.{Did, Is, IsNot}
-use Rattle.cfn_model.specs.Network.{Network, Fits, cost}
+use Rattle.cfn_model.specs.Network.{Network, cost}
 use Rattle.cfn_model.specs.Steps.{after}
 use Rattle.cfn_model.specs.Tree.{Tree, Open, Closed, Split}
 use Rattle.cfn_model.specs.Certificate.{Solution, Certificate, threshold, threshold_of}
 use Rattle.cfn_model.specs.Text.{head_lines}
 use Rattle.cfn_fault.specs.declared.kind.FaultKind.{FaultKind}
-use Rattle.cfn_fault.specs.declared.kind.FaultKind.TheVariants as kinds
-use Rattle.cfn_fault.specs.Fault.{Item, Makes, LeavesOpen, Closes, Splits, Place, place, block_places, places, FailsPlace, HasNumbers, FailsLine, OtherNetwork, NotBelow, NoSolution, AtPlace}
+use Rattle.cfn_fault.specs.Fault.{Item, Makes, LeavesOpen, Closes, Splits, Place, place, block_places, places, FailsPlace, FailsLine, OtherNetwork, NotBelow, NoSolution, AtPlace}
 use Rattle.cfn_fault.specs.Lines.{Line, Version, Numbers, Lower, NoBest, Best, Values, Root, Node, End, tree_of_lines, best_of_lines, lines_of, State, AtVersion, AtNumbers, AtLower, AtBest, AtValues, AtRoot, AtNodes, AtOver, paths_after, Follows, VersionFollows, NumbersFollow, LowerFollows, NoBestFollows, BestFollows, ValuesFollow, RootFollows, NodeFollows, EndFollows, Runs}
-use Rattle.cfn_fault.specs.Judging.{threshold_in, NodeFails, LineFails}
+use Rattle.cfn_fault.specs.Judging.{threshold_in, LineFails}
 use Rattle.cfn_fault.proofs.Running.{same_end, run_append, run_split}
 
 -- the places along lines of nodes

@@ -1,18 +1,18 @@
 -- A certificate whose lines are all right is good but for its lower bound, and the floors of its open leaves say its bound.
-use Rattle.std.proofs.Common.{◌≡◌, ℕ, zero, suc, ◌<◌, ◌≤◌, ◌+◌, min, List, [], ◌∷◌, ◌++◌, length, map, refl, sym, ap, ap₂, subst, ◌∙◌, arith, append_assoc}
-use Rattle.std.specs.Prelude.{Option, Some, None, fold}
+use Rattle.std.proofs.Common.{◌≡◌, ℕ, ◌≤◌, min, List, [], ◌∷◌, ◌++◌, map, refl, sym, ap, ap₂, subst, ◌∙◌, arith, append_assoc}
+use Rattle.std.specs.Prelude.{Option, Some, None}
 use Rattle.cfn_model.specs.declared.step.Step.{Step}
 use Rattle.cfn_model.specs.declared.step.Event.{Event}
 use Rattle.cfn_model.specs.declared.step.Event.TheVariants.{Did, Is, IsNot}
-use Rattle.cfn_model.specs.Network.{Network, Fits, cost}
+use Rattle.cfn_model.specs.Network.{Network}
 use Rattle.cfn_model.specs.Sums.{floor}
-use Rattle.cfn_model.specs.Steps.{Allowed, Run, after}
+use Rattle.cfn_model.specs.Steps.{Run, after}
 use Rattle.cfn_model.specs.Tree.{Tree, Open, Closed, Split, Valid, bound}
-use Rattle.cfn_model.specs.Certificate.{Solution, Certificate, Good, threshold, IsBest, IsSolution}
-use Rattle.cfn_fault.specs.Fault.{Item, Makes, LeavesOpen, Closes, Splits, Place, place, block_places, places}
-use Rattle.cfn_fault.specs.Lines.{Line, Version, Numbers, Lower, NoBest, Best, Values, Root, Node, End, tree_of_lines, best_of_lines, lines_of, State, AtVersion, AtNumbers, AtLower, AtBest, AtValues, AtRoot, AtNodes, AtOver, paths_after, Follows, VersionFollows, NumbersFollow, LowerFollows, NoBestFollows, BestFollows, ValuesFollow, RootFollows, NodeFollows, EndFollows, Runs}
+use Rattle.cfn_model.specs.Certificate.{Solution, Certificate, Good, threshold, IsBest}
+use Rattle.cfn_fault.specs.Fault.{Item, Makes, LeavesOpen, Closes, Splits, Place, block_places, places}
+use Rattle.cfn_fault.specs.Lines.{Line, Version, Numbers, Lower, Best, Values, Root, Node, End, tree_of_lines, best_of_lines, lines_of, State, AtVersion, AtNumbers, AtLower, AtBest, AtValues, AtRoot, AtNodes, AtOver, paths_after, Follows, VersionFollows, NumbersFollow, LowerFollows, NoBestFollows, BestFollows, ValuesFollow, RootFollows, NodeFollows, EndFollows, Runs}
 use Rattle.cfn_fault.specs.Judging.{PassesPlace, AllPass, floor_at, open_floors, lowest}
-use Rattle.cfn_fault.proofs.Placing.{PlaceLine, place_line, heads}
+use Rattle.cfn_fault.proofs.Placing.{place_line, heads}
 
 -- a tree is valid where each of its places is right, and the other way round
 pub AllPlaces : Network → ℕ → List Place → Type 0
@@ -61,9 +61,12 @@ valid_by_places P k history (Closed block) h =
     (block_runs P k history block (all_front P k (block_places history block) _ h), (all_back P k (block_places history block) _ h).0)
 valid_by_places P k history (Split block x a first second) h =
     let rest = all_back P k (block_places history block) _ h in
-    let firsts = places (Is x a ∷ after block history) first in
-    (block_runs P k history block (all_front P k (block_places history block) _ h), rest.0,
-    valid_by_places P k (Is x a ∷ after block history) first (all_front P k firsts _ rest.1), valid_by_places P k (IsNot x a ∷ after block history) second (all_back P k firsts _ rest.1))
+    let firsts = places (Is x a ∷ after block history) first in (
+      block_runs P k history block (all_front P k (block_places history block) _ h),
+      rest.0,
+      valid_by_places P k (Is x a ∷ after block history) first (all_front P k firsts _ rest.1),
+      valid_by_places P k (IsNot x a ∷ after block history) second (all_back P k firsts _ rest.1),
+    )
 
 pub places_by_valid : (P : Network) (k : ℕ) (history : List Event) (tree : Tree) → Valid P history tree k → AllPlaces P k (places history tree)
 unfolding AllPlaces

@@ -2,13 +2,13 @@
 use Rattle.std.specs.Prelude.{◌≡◌, ℕ, ◌+◌, ◌<◌, ◌≤◌, ◌⊎◌, List, [], ◌∷◌, ◌++◌, length}
 use Rattle.std.specs.List.{AllByRecursion}
 use Rattle.cfn_model.specs.Network.{Network}
-use Rattle.cfn_model.specs.Certificate.{Certificate, Good, threshold}
+use Rattle.cfn_model.specs.Certificate.{Certificate, Good}
 use Rattle.cfn_model.specs.Text.{IsSpelled, Spells}
 use Rattle.cfn_fault.specs.declared.kind.FaultKind.{FaultKind}
 use Rattle.cfn_fault.specs.declared.kind.FaultKind.TheVariants as kinds
 use Rattle.cfn_fault.specs.Fault.{Begins, Fault}
-use Rattle.cfn_fault.specs.Lines.{Line, text_of, IsSpelledLine, lines_of, State, AtVersion, AtOver, Follows, Runs}
-use Rattle.cfn_fault.specs.Judging.{LineFails, LinePasses, NoneFails, AllPass, lower_in, bound_in}
+use Rattle.cfn_fault.specs.Lines.{Line, text_of, IsSpelledLine, lines_of, State, AtVersion, AtOver, Runs}
+use Rattle.cfn_fault.specs.Judging.{LineFails, LinePasses, AllPass, lower_in, bound_in}
 
 -- A text has one fault at most: one line, and one kind.
 abbrev pub OneFault : Type 0
@@ -18,7 +18,7 @@ OneFault = (P : Network) (bytes : List ℕ) (l m : ℕ) (kind other : FaultKind)
 abbrev pub NoFaultWhereGood : Type 0
 NoFaultWhereGood = (P : Network) (bytes : List ℕ) (c : Certificate) (l : ℕ) (kind : FaultKind) → Spells c bytes → Good P c → Fault P bytes l kind → ⊥
 
--- Bytes that spell a certificate spell one alone, as far as what it claims and shows.
+-- Every text spells a good certificate, or has a fault.
 abbrev pub GoodOrFault : Type 0
 GoodOrFault = (P : Network) (bytes : List ℕ) → ((c : Certificate) × Spells c bytes × Good P c) ⊎ ((l : ℕ) × (kind : FaultKind) × Fault P bytes l kind)
 
