@@ -8,7 +8,7 @@ use Rattle.cfn_model.specs.declared.step.Event.TheVariants.{Did, Is, IsNot}
 use Rattle.cfn_model.specs.Network.{Network}
 use Rattle.cfn_model.specs.Steps.{IsValue, Allowed, InRange}
 use Rattle.cfn_fault.specs.declared.kind.FaultKind.TheVariants as kinds
-use Rattle.cfn_fault.specs.Fault.{FailsStep, OutOfRange, refusal_of} 
+use Rattle.cfn_fault.specs.Fault.{FailsStep, OutOfRange, refusal_of}
 use Rattle.cfn_fault.specs.Fault as fault
 use Rattle.cfn_check.specs.declared.asked.Judged.{Judged}
 use Rattle.cfn_check.specs.declared.asked.Judged.TheVariants.{Done, Range, NotAllowed}
@@ -59,11 +59,10 @@ due_first false now owed history paths e = record { due = refl; first = heads e;
 
 pub stepped : (s s' : Standing) (k least : ℕ) (over : Bool) (owed : List Owed) (step : Step) (judged : Judged) → AreOwed s.network (length s.history) owed → IsJudged s k step s' judged → (history : List Event) (paths : List (List Event)) → due_paths over s.history owed ≡ history ∷ paths → Steps (walking k least over owed s) (walking k least over owed s') step history paths (fault_of judged step)
 stepped s s' k least over owed step Done are is history paths e =
-    let d = due_first over s.history owed history paths e in
-    (
+    let d = due_first over s.history owed history paths e in (
       subst (λ h. Allowed s.network h k step) d.first is.0,
       ap (walking k least over owed) is.1
-      ∙ ap (λ ps. record { network = s.network; threshold = k; paths = ps; least = least }) (ap (λ b. due_paths b (Did step ∷ s.history) owed) d.due ∙ ap₂ (λ h hs. (Did step ∷ h) ∷ hs) d.first (owed_kept s.network (Did step) s.history (length s.history) owed (omega arith) are ∙ d.rest)),
+          ∙ ap (λ ps. record { network = s.network; threshold = k; paths = ps; least = least }) (ap (λ b. due_paths b (Did step ∷ s.history) owed) d.due ∙ ap₂ (λ h hs. (Did step ∷ h) ∷ hs) d.first (owed_kept s.network (Did step) s.history (length s.history) owed (omega arith) are ∙ d.rest)),
     )
 stepped s s' k least over owed step Range are is history paths e = fault.OutOfRange refl is.0
 stepped s s' k least over owed step NotAllowed are is history paths e =
@@ -92,11 +91,10 @@ parted s s' k least over owed o x a is_x is_a mark are value is history paths e 
     let none : suc (length s.history) - o.mark.events ≡ 1 = omega (arith, mark) in
     let back : drop (suc (length s.history) - o.mark.events) (Is x a ∷ s.history) ≡ s.history = ap (λ n. drop n (Is x a ∷ s.history)) none in
     let other : (IsNot o.variable o.value ∷ drop (suc (length s.history) - o.mark.events) (Is x a ∷ s.history)) ≡ IsNot x a ∷ history = ap₂ (λ y b. IsNot y b ∷ drop (suc (length s.history) - o.mark.events) (Is x a ∷ s.history)) is_x is_a ∙ ap (λ h. IsNot x a ∷ h) (back ∙ d.first) in
-    let more = owed_kept s.network (Is x a) s.history (length s.history) owed (omega arith) are in
-    (
+    let more = owed_kept s.network (Is x a) s.history (length s.history) owed (omega arith) are in (
       value,
       ap (walking k least over (o ∷ owed)) is
-      ∙ ap (λ ps. record { network = s.network; threshold = k; paths = ps; least = least }) (ap (λ b. due_paths b (Is x a ∷ s.history) (o ∷ owed)) d.due ∙ ap₂ (λ h hs. (Is x a ∷ h) ∷ hs) d.first (ap₂ (λ p ps. p ∷ ps) other (more ∙ d.rest))),
+          ∙ ap (λ ps. record { network = s.network; threshold = k; paths = ps; least = least }) (ap (λ b. due_paths b (Is x a ∷ s.history) (o ∷ owed)) d.due ∙ ap₂ (λ h hs. (Is x a ∷ h) ∷ hs) d.first (ap₂ (λ p ps. p ∷ ps) other (more ∙ d.rest))),
     )
 
 pub still_owed : (s s' : Standing) (o : Owed) (owed : List Owed) → AreOwed s.network (length s.history) (o ∷ owed) → s' ≡ with_event (IsNot o.variable o.value) (without (length s.history - o.mark.events) s) → AreOwed s'.network (length s'.history) owed

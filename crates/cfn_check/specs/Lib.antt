@@ -5,3 +5,6 @@ pub mod Standing
 pub mod Asking
 pub mod Lacking
 pub mod Walking
+pub mod Taking
+pub mod Assigning
+pub mod Checking

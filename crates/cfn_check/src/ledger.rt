@@ -69,12 +69,7 @@ impl Ledger {
 
     /// Judges a step at the threshold `k`, and makes it where it is allowed. Any other answer, and an `Err`, want of
     /// memory, leaves all as it was.
-    pub fn judge(
-        &mut self,
-        network: &Network,
-        k: u64,
-        step: StepText,
-    ) -> Result<Judged, AllocError>
+    pub fn judge(&mut self, network: &Network, k: u64, step: StepText) -> Result<Judged, AllocError>
         requires { network.now ≡ self.old.network }
         ensures network { self.new.network ≡ self.old.network }
         ensures ok { IfOk result (IsJudged self.old k (step_of step) self.new) }

@@ -10,17 +10,25 @@
 #![tactic(auto)]
 
 mod allowed;
+mod answer;
 mod asked;
+mod assignment;
+mod best;
+mod certificate;
 mod column;
 mod costs;
 mod domain;
 mod entry;
 mod ledger;
+mod nodes;
 mod owed;
+mod reading;
 mod residuals;
 mod walk;
 
+pub use answer::Check;
 pub use asked::Judged;
+pub use certificate::check;
 pub use ledger::{Ledger, Mark};
 
 #[cfg(test)]

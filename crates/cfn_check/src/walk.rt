@@ -117,7 +117,12 @@ impl Walk {
     }
 
     /// The node that is due is a split. The answer is whether it is in range.
-    pub(crate) fn split(&mut self, network: &Network, x: u64, value: u64) -> Result<bool, AllocError>
+    pub(crate) fn split(
+        &mut self,
+        network: &Network,
+        x: u64,
+        value: u64,
+    ) -> Result<bool, AllocError>
         requires { network.now ≡ self.old.network }
         ensures network { self.new.network ≡ self.old.network }
         ensures splits { IfOk result (λ answer. (history : List Event) (paths : List (List Event))
