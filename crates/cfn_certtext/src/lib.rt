@@ -24,4 +24,6 @@ pub use event::{Event, Item, StepText, TextFault};
 pub use reader::Reader;
 
 #[cfg(test)]
+mod reader_tests;
+#[cfg(test)]
 mod tests;
