@@ -67,6 +67,7 @@ impl<'a> Reader<'a> {
 
     /// Takes the next event. At an `Err` a line does not follow the grammar, and each further call answers it again.
     pub fn next(&mut self) -> Result<Event, TextFault>
+        ensures text { self.new.text ≡ self.old.text }
         // Of the lines that were read, an event tells the next one, one value more, or that nothing follows.
         ensures event { IfOk result (λ event. (ls : List Line) (s : State) →
             HasRead self.old ls s → Tells self.old self.new ls s event) }

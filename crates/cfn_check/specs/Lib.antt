@@ -4,4 +4,7 @@ pub mod Columns
 pub mod Standing
 pub mod Asking
 pub mod Lacking
+pub mod Walking
+pub mod Taking
+pub mod Assigning
 pub mod Checking

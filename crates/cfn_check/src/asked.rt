@@ -2,44 +2,11 @@
 
 ghost use Rattle.std.specs.Prelude.{◌≡◌, ◌<◌, ◌↔◌, length, IsTrue, MatchOption};
 ghost use Rattle.cfn_model.specs.Steps.{IsValue, IsPlace, IsCell, InRange};
-ghost use Rattle.cfn_check.specs.Asking.{step_of};
+ghost use Rattle.cfn_certtext.specs.Reading.{step_of};
 
+use cfn_certtext::StepText;
 use cfn_model::Step;
 use cfn_net::Network;
-
-/// A step with numbers of 64 bits, which may be far out of range.
-#[derive(Clone, Copy, Debug, PartialEq, Eq)]
-pub enum AskedStep {
-    /// Move `amount` from each tuple of `function` that has `value` at `place` to that value's unary cost.
-    Project {
-        function: u64,
-        place: u64,
-        value: u64,
-        amount: u64,
-    },
-    /// Move `amount` from a value's unary cost to each tuple of `function` that has it at `place`.
-    Extend {
-        function: u64,
-        place: u64,
-        value: u64,
-        amount: u64,
-    },
-    /// Move `amount` from the unary cost of each value of `variable` to the floor (unary project).
-    Lift {
-        variable: u64,
-        amount: u64,
-    },
-    /// Take `value` from `variable`.
-    CutValue {
-        variable: u64,
-        value: u64,
-    },
-    /// Take the tuple of `function` with the number `cell`.
-    CutTuple {
-        function: u64,
-        cell: u64,
-    },
-}
 
 /// What became of a step that was asked for.
 #[derive(Clone, Copy, Debug, PartialEq, Eq)]
@@ -53,12 +20,12 @@ pub enum Judged {
 }
 
 /// The step that is asked for, where its numbers are in range.
-pub(crate) fn in_range(network: &Network, step: AskedStep) -> Option<Step>
+pub(crate) fn in_range(network: &Network, step: StepText) -> Option<Step>
     ensures { MatchOption result (InRange network.now (step_of step) → ⊥)
         (λ found. (found ≡ step_of step) × InRange network.now (step_of step)) }
 {
     match step {
-        AskedStep::Project {
+        StepText::Project {
             function,
             place,
             value,
@@ -74,7 +41,7 @@ pub(crate) fn in_range(network: &Network, step: AskedStep) -> Option<Step>
                 amount,
             })
         }
-        AskedStep::Extend {
+        StepText::Extend {
             function,
             place,
             value,
@@ -90,7 +57,7 @@ pub(crate) fn in_range(network: &Network, step: AskedStep) -> Option<Step>
                 amount,
             })
         }
-        AskedStep::Lift { variable, amount } => {
+        StepText::Lift { variable, amount } => {
             if variable >= network.variables() as u64 {
                 return None;
             }
@@ -99,7 +66,7 @@ pub(crate) fn in_range(network: &Network, step: AskedStep) -> Option<Step>
                 amount,
             })
         }
-        AskedStep::CutValue { variable, value } => {
+        StepText::CutValue { variable, value } => {
             if !is_value(network, variable, value) {
                 return None;
             }
@@ -108,7 +75,7 @@ pub(crate) fn in_range(network: &Network, step: AskedStep) -> Option<Step>
                 value: value as u32,
             })
         }
-        AskedStep::CutTuple { function, cell } => {
+        StepText::CutTuple { function, cell } => {
             if !is_cell(network, function, cell) {
                 return None;
             }

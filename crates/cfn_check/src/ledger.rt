@@ -7,12 +7,14 @@ ghost use Rattle.cfn_model.specs.Sums.{floor, unary, residual, is_live, is_cut, 
 ghost use Rattle.cfn_model.specs.Steps.{IsValue, IsCell};
 ghost use Rattle.cfn_model.specs.Tree.{CanClose, IsWiped};
 ghost use Rattle.cfn_check.specs.Standing.{IsPossible, IsMarked, with_event, without};
-ghost use Rattle.cfn_check.specs.Asking.{step_of, IsJudged, IsDecided};
+ghost use Rattle.cfn_certtext.specs.Reading.{step_of};
+ghost use Rattle.cfn_check.specs.Asking.{IsJudged, IsDecided};
 
 use crate::allowed::allowed;
-use crate::asked::{AskedStep, Judged, in_range, is_value};
+use crate::asked::{Judged, in_range, is_value};
 use crate::costs::Costs;
 use crate::entry::Entry;
+use cfn_certtext::StepText;
 use cfn_model::{Event, Step};
 use cfn_net::Network;
 use std::alloc::{AllocError, Global};
@@ -67,12 +69,7 @@ impl Ledger {
 
     /// Judges a step at the threshold `k`, and makes it where it is allowed. Any other answer, and an `Err`, want of
     /// memory, leaves all as it was.
-    pub fn judge(
-        &mut self,
-        network: &Network,
-        k: u64,
-        step: AskedStep,
-    ) -> Result<Judged, AllocError>
+    pub fn judge(&mut self, network: &Network, k: u64, step: StepText) -> Result<Judged, AllocError>
         requires { network.now ≡ self.old.network }
         ensures network { self.new.network ≡ self.old.network }
         ensures ok { IfOk result (IsJudged self.old k (step_of step) self.new) }
@@ -243,7 +240,7 @@ impl Ledger {
     }
 
     /// Makes an event. An `Err`, want of memory, leaves all as it was.
-    fn record(&mut self, network: &Network, event: Event) -> Result<(), AllocError>
+    pub(crate) fn record(&mut self, network: &Network, event: Event) -> Result<(), AllocError>
         requires same { network.now ≡ self.old.network }
         requires event { IsPossible network.now event }
         ensures ok { OnOk result (self.new ≡ with_event event self.old) }

@@ -1,6 +1,7 @@
 ghost use Rattle.std.specs.Prelude.{◌≡◌, IfOk};
 
-use crate::{AskedStep, Judged, Ledger};
+use crate::{Judged, Ledger};
+use cfn_certtext::StepText;
 use cfn_net::{Builder, Network};
 use std::alloc::AllocError;
 use std::test::Fail;
@@ -31,8 +32,8 @@ fn tri(rt: &HostRuntime) -> Result<Network, Fail> {
     Ok(builder.finish()?)
 }
 
-fn project(function: u64, place: u64, value: u64, amount: u64) -> AskedStep {
-    AskedStep::Project {
+fn project(function: u64, place: u64, value: u64, amount: u64) -> StepText {
+    StepText::Project {
         function,
         place,
         value,
@@ -40,8 +41,8 @@ fn project(function: u64, place: u64, value: u64, amount: u64) -> AskedStep {
     }
 }
 
-fn extend(function: u64, place: u64, value: u64, amount: u64) -> AskedStep {
-    AskedStep::Extend {
+fn extend(function: u64, place: u64, value: u64, amount: u64) -> StepText {
+    StepText::Extend {
         function,
         place,
         value,
@@ -49,16 +50,16 @@ fn extend(function: u64, place: u64, value: u64, amount: u64) -> AskedStep {
     }
 }
 
-fn lift(variable: u64, amount: u64) -> AskedStep {
-    AskedStep::Lift { variable, amount }
+fn lift(variable: u64, amount: u64) -> StepText {
+    StepText::Lift { variable, amount }
 }
 
-fn cut(variable: u64, value: u64) -> AskedStep {
-    AskedStep::CutValue { variable, value }
+fn cut(variable: u64, value: u64) -> StepText {
+    StepText::CutValue { variable, value }
 }
 
-fn cut_tuple(function: u64, cell: u64) -> AskedStep {
-    AskedStep::CutTuple { function, cell }
+fn cut_tuple(function: u64, cell: u64) -> StepText {
+    StepText::CutTuple { function, cell }
 }
 
 /// Judges steps one after another, and answers whether this becomes of each of them.
@@ -67,7 +68,7 @@ fn all_are(
     ledger: &mut Ledger,
     network: &Network,
     k: u64,
-    steps: &[AskedStep],
+    steps: &[StepText],
 ) -> Result<bool, AllocError>
     requires { network.now ≡ ledger.old.network }
     ensures { ledger.new.network ≡ ledger.old.network }
