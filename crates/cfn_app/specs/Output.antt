@@ -15,7 +15,7 @@ use Rattle.cfn_report.specs.Texts.{verified_text, refused_text}
 use Rattle.cfn_wcsp.specs.declared.fault.ReadFault.{ReadFault}
 use Rattle.cfn_wcsp.specs.declared.fault.ReadFault.TheVariants.{Refused, Memory}
 use Rattle.cfn_cli.specs.Request.{SolveRequest}
-use Rattle.cfn_app.specs.Outside.{Outside, HasFile, ReadsFile, RefusesFile, SaysCut, EndsSaying}
+use Rattle.cfn_app.specs.Outside.{Outside, ReadsFile, RefusesFile, SaysCut, EndsSaying}
 use Rattle.cfn_app.specs.Headline.{status_of, Promise, Written, Unwritten, Verifies}
 
 -- Written and said with the result's status, or a fault with status 5.

@@ -22,7 +22,11 @@ const GOOD: [&str; 10] = [
 ];
 
 /// The status of `check in cert`, and what is said, where these are the bytes of the two files.
-fn judge(rt: &HostRuntime, file: &[u8], certificate: &[u8]) -> Result<(u8, MemoryDesk), AllocError> {
+fn judge(
+    rt: &HostRuntime,
+    file: &[u8],
+    certificate: &[u8],
+) -> Result<(u8, MemoryDesk), AllocError> {
     let files: [(&str, &[u8]); 2] = [("in", file), ("cert", certificate)];
     let mut desk = MemoryDesk::make(rt.alloc(), &files, 0, 400, &[])?;
     let words = ["wcspsolve", "check", "in", "cert"];
@@ -65,7 +69,12 @@ const CHANGES: [(usize, usize, &[&str], &[u8]); 31] = [
     (2, 1, &["network 1 1  10"], b"refused text at 2\n"),
     (3, 1, &["lower 01"], b"refused text at 3\n"),
     (3, 1, &["lower 1\r"], b"refused text at 3\n"),
-    (7, 1, &["p 0 0 0 9223372036854775808"], b"refused text at 7\n"),
+    (
+        7,
+        1,
+        &["p 0 0 0 9223372036854775808"],
+        b"refused text at 7\n",
+    ),
     (7, 1, &["p 0 0 0 0"], b"refused text at 7\n"),
     (10, 0, &["open"], b"refused text at 11\n"),
     (10, 1, &[], b"refused text at 10\n"),
@@ -83,10 +92,20 @@ const CHANGES: [(usize, usize, &[&str], &[u8]); 31] = [
     (7, 1, &["p 1 0 0 3"], b"refused range at 7\n"),
     (7, 1, &["p 0 1 0 3"], b"refused range at 7\n"),
     (7, 1, &["p 0 0 4294967296 3"], b"refused range at 7\n"),
-    (10, 1, &["split 0 2", "closed", "closed"], b"refused range at 10\n"),
+    (
+        10,
+        1,
+        &["split 0 2", "closed", "closed"],
+        b"refused range at 10\n",
+    ),
     (7, 1, &["p 0 0 0 4"], b"refused project at 7\n"),
     (8, 0, &["e 0 0 0 4"], b"refused extend at 8\n"),
-    (8, 0, &["e 0 0 0 3", "p 0 0 0 3"], b"verified lower 1 best 1\n"),
+    (
+        8,
+        0,
+        &["e 0 0 0 3", "p 0 0 0 3"],
+        b"verified lower 1 best 1\n",
+    ),
     (9, 1, &["u 0 2"], b"refused lift at 9\n"),
     (7, 0, &["v 0 0"], b"refused cut at 7\n"),
     (7, 0, &["t 0 0"], b"verified lower 1 best 1\n"),
@@ -113,11 +132,25 @@ fn changed_lines_are_named(rt: HostRuntime) -> Result<(), Fail> {
 fn open_leaves_and_subtrees(rt: HostRuntime) -> Result<(), Fail> {
     let alloc = rt.alloc();
     let open = changed(alloc, 10, 1, &["open"])?;
-    assert_eq!(rt; judge(&rt, TINY, open.as_slice())?.1.said_bytes(), b"verified lower 1 best 1\n".as_slice());
+    assert_eq!(rt;
+        judge(&rt, TINY, open.as_slice())?.1.said_bytes(),
+        b"verified lower 1 best 1\n".as_slice()
+    );
     let early = changed(alloc, 7, 4, &["open"])?;
-    assert_eq!(rt; judge(&rt, TINY, early.as_slice())?.1.said_bytes(), b"refused lower at 3\n".as_slice());
-    let leaking = changed(alloc, 7, 4, &["split 0 1", "p 0 0 1 1", "u 0 1", "closed", "closed"])?;
-    assert_eq!(rt; judge(&rt, TINY, leaking.as_slice())?.1.said_bytes(), b"refused close at 11\n".as_slice());
+    assert_eq!(rt;
+        judge(&rt, TINY, early.as_slice())?.1.said_bytes(),
+        b"refused lower at 3\n".as_slice()
+    );
+    let leaking = changed(
+        alloc,
+        7,
+        4,
+        &["split 0 1", "p 0 0 1 1", "u 0 1", "closed", "closed"],
+    )?;
+    assert_eq!(rt;
+        judge(&rt, TINY, leaking.as_slice())?.1.said_bytes(),
+        b"refused close at 11\n".as_slice()
+    );
     Ok(())
 }
 
@@ -201,21 +234,49 @@ fn hostile_certificates(rt: HostRuntime) -> Result<(), Fail> {
         let (_, desk) = judge(&rt, file, deep.as_slice())?;
         assert_eq!(rt; desk.said_bytes(), said);
     }
-    let steps = ["p 0 0 0 9223372036854775807", "p 0 0 1 9223372036854775807", "u 0 9223372036854775807"];
+    let steps = [
+        "p 0 0 0 9223372036854775807",
+        "p 0 0 1 9223372036854775807",
+        "u 0 9223372036854775807",
+    ];
     let mut lines: Vec<&str> = Vec::new(alloc);
-    lines.extend_from_slice(&["wcspcert 1", "network 2 1 5", "lower 5", "best none", "tree"])?;
+    lines.extend_from_slice(&[
+        "wcspcert 1",
+        "network 2 1 5",
+        "lower 5",
+        "best none",
+        "tree",
+    ])?;
     for step in steps {
         lines.extend_from_slice(&[step, step, step])?;
     }
     lines.push("closed")?;
     let sums = text_of(alloc, lines.as_slice())?;
     let (_, desk) = judge(&rt, b"hard 2 2 1 5\n2 2\n2 0 1 5 0\n", sums.as_slice())?;
-    assert_eq!(rt; desk.said_bytes(), b"verified lower 5 best none\n".as_slice());
-    let dead = ["p 0 0 0 3", "v 0 0", "e 0 0 0 9223372036854775807", "p 0 0 1 1", "u 0 1", "closed"];
+    assert_eq!(rt;
+        desk.said_bytes(),
+        b"verified lower 5 best none\n".as_slice()
+    );
+    let dead = [
+        "p 0 0 0 3",
+        "v 0 0",
+        "e 0 0 0 9223372036854775807",
+        "p 0 0 1 1",
+        "u 0 1",
+        "closed",
+    ];
     let below = changed(alloc, 7, 4, &dead)?;
     let (_, desk) = judge(&rt, TINY, below.as_slice())?;
     assert_eq!(rt; desk.said_bytes(), b"verified lower 1 best 1\n".as_slice());
-    let again = ["p 0 0 0 3", "v 0 0", "e 0 0 0 9223372036854775807", "v 0 0", "p 0 0 1 1", "u 0 1", "closed"];
+    let again = [
+        "p 0 0 0 3",
+        "v 0 0",
+        "e 0 0 0 9223372036854775807",
+        "v 0 0",
+        "p 0 0 1 1",
+        "u 0 1",
+        "closed",
+    ];
     let cut = changed(alloc, 7, 4, &again)?;
     let (_, desk) = judge(&rt, TINY, cut.as_slice())?;
     assert_eq!(rt; desk.said_bytes(), b"refused cut at 10\n".as_slice());

@@ -15,10 +15,10 @@ returns-in-Ok g c =
     let loads = c.in-Ok.ensures.ok in
     let bytes = c.in-Ok.certificate.items in
     runs_checked old new c.judge.result c.in-Ok.network (spoken_check c.args.ask.now) bytes
-      (subst (λ name. ReadsFile old name c.in-Ok.network) c.as_str.ensures.value loads.0)
-      (subst (λ name. HasFile old name bytes) c.as_str-2.ensures.value loads.1)
-      (subst (λ at. SaysCheck c.in-Ok.network bytes at new c.judge.result) loads.2
-        (subst (λ text. SaysCheck c.in-Ok.network text mid new c.judge.result) c.deref.ensures.value c.judge.ensures))
+    (subst (λ name. ReadsFile old name c.in-Ok.network) c.as_str.ensures.value loads.0)
+    (subst (λ name. HasFile old name bytes) c.as_str-2.ensures.value loads.1)
+    (subst (λ at. SaysCheck c.in-Ok.network bytes at new c.judge.result) loads.2
+    (subst (λ text. SaysCheck c.in-Ok.network text mid new c.judge.result) c.deref.ensures.value c.judge.ensures))
 
 -- src/checking.rt:20:1
 pub returns-in-Err : goal.returns-in-Err
@@ -27,4 +27,4 @@ returns-in-Err g c =
     let old = outside_of d.files d.said d.out d.writing d.faults c.args.desk.now in
     let new = outside_of d.files d.said d.out d.writing d.faults c.load_both.new.desk in
     runs_unread old new c.in-Err.status (check (spoken_check c.args.ask.now))
-      (subst (λ name. NotLoaded name old new c.in-Err.status) c.as_str.ensures.value c.in-Err.ensures.err)
+    (subst (λ name. NotLoaded name old new c.in-Err.status) c.as_str.ensures.value c.in-Err.ensures.err)
