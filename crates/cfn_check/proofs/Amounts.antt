@@ -3,7 +3,7 @@ use Rattle.std.proofs.Common.{◌≡◌, ◌≢◌, ℕ, ◌+◌, ◌<◌, ◌�
 use Rattle.std.proofs.lemmas.Bool.{cases_eq, cases_lt}
 use Rattle.std.proofs.lemmas.Int.{ints}
 use Rattle.std.proofs.lemmas.List.{length-set, get_or_past}
-use Rattle.std.specs.Prelude.{Bool, true, false, ◌==◌, not, ℤ, pos, ◌+ℤ◌, if◌then◌else◌}
+use Rattle.std.specs.Prelude.{◌==◌, not, ℤ, pos, ◌+ℤ◌, if◌then◌else◌}
 use Rattle.cfn_model.specs.Sums.{when}
 use Rattle.cfn_model.proofs.Equivalence.{when_true, when_false, eqb_same, eqb_other}
 use Rattle.cfn_check.specs.Values.{Gains, Takes}

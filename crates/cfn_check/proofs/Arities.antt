@@ -1,12 +1,12 @@
 -- A function has no more places than the network has variables.
-use Rattle.std.proofs.Common.{◌≡◌, ℕ, suc, inl, inr, ◌+◌, ◌<◌, ◌≤◌, List, [], ◌∷◌, length, get_or, refl, arith, ne_eqb, eqb}
-use Rattle.std.specs.List.{list_any, IsDistinct}
-use Rattle.std.specs.Prelude.{Bool, true, false, ◌||◌, slice_index}
+use Rattle.std.proofs.Common.{◌≡◌, ℕ, suc, inl, inr, ◌<◌, ◌≤◌, List, [], ◌∷◌, length, get_or, arith, ne_eqb, eqb}
+use Rattle.std.specs.List.{list_any}
+use Rattle.std.specs.Prelude.{true, false, slice_index}
 use Rattle.std.proofs.lemmas.Bool.{or_cases, eqb-true, false≢true}
 use Rattle.std.proofs.lemmas.Map.Keys.{IsDistinct-from_apart}
 use Rattle.std.proofs.lemmas.Map.Steps.{length-le_from_distinct_below}
 use Rattle.std.proofs.lemmas.List.{get_or_default}
-use Rattle.cfn_model.specs.Network.{Network, IsNetwork, arity, scope_at, variable_at, dims_at}
+use Rattle.cfn_model.specs.Network.{Network, IsNetwork, arity, scope_at, variable_at}
 use Rattle.cfn_model.specs.Steps.{IsPlace}
 use Rattle.cfn_net.proofs.Cells.{get_or-dims}
 

@@ -1,10 +1,10 @@
 -- The line of the values of the best assignment.
-use Rattle.std.proofs.Common.{◌≡◌, ℕ, ◌+◌, ◌<◌, ◌≤◌, List, [], ◌∷◌, ◌++◌, length, refl, sym, ap, ◌∙◌, subst, arith, length-append, append_assoc}
-use Rattle.std.specs.Prelude.{Bool, true, false, Option, Some, None, Result, Ok, Err, IfOk, OnErr, MatchBool}
-use Rattle.cfn_model.specs.Network.{Network, IsNetwork, Fits, cost}
+use Rattle.std.proofs.Common.{◌≡◌, ℕ, ◌<◌, ◌≤◌, List, [], ◌∷◌, ◌++◌, length, refl, sym, ap, ◌∙◌, subst, arith, length-append}
+use Rattle.std.specs.Prelude.{true, Some, None, Result, Ok, Err, IfOk, OnErr}
+use Rattle.cfn_model.specs.Network.{Network, Fits, cost}
 use Rattle.cfn_fault.specs.declared.kind.FaultKind.TheVariants as kinds
 use Rattle.cfn_fault.specs.Fault.{Fault}
-use Rattle.cfn_fault.specs.Lines.{Line, Values, Best, NoBest, Root, State, AtBest, AtValues, AtRoot, AtNodes, AtOver, IsSpelledLine, Follows}
+use Rattle.cfn_fault.specs.Lines.{Line, Values, Best, NoBest, State, AtBest, AtValues, AtRoot, IsSpelledLine}
 use Rattle.cfn_fault.specs.Judging.{LineFails, threshold_in}
 use Rattle.cfn_fault.proofs.Running.{spelled_back}
 use Rattle.cfn_fault.proofs.Faults.{one_more}
@@ -20,8 +20,8 @@ use Rattle.cfn_net.proofs.Cells.{Fits-length, Fits-at}
 use Rattle.cfn_check.specs.declared.assignment.Assignment.{Assignment}
 use Rattle.cfn_check.specs.Assigning.{IsTold, value_of, value_in}
 use Rattle.cfn_check.specs.declared.answer.Stop.{Stop}
-use Rattle.cfn_check.specs.Checking.{Right, IsDue}
-use Rattle.cfn_check.proofs.Telling.{Told, told, BestLine, None', Some', at_best, at_values, at_root, line_right, line_stops}
+use Rattle.cfn_check.specs.Checking.{Right}
+use Rattle.cfn_check.proofs.Telling.{Told, told, None', Some', at_best, at_values, at_root, line_right, line_stops}
 
 -- the first value of the line
 pub record FirstValue (old new : Reading) (ls : List Line) (event : Event) : Type 0 where

@@ -1,5 +1,5 @@
 -- The numbers of the cells in a column.
-use Rattle.std.proofs.Common.{◌≡◌, ◌≢◌, ℕ, suc, ◌+◌, ◌-◌, ◌*◌, ◌/◌, ◌%◌, ◌<◌, ◌≤◌, List, length, get_or, set, refl, sym, ap, ◌∙◌, arith, ne_eqb, get_or-set_same, get_or-set_other}
+use Rattle.std.proofs.Common.{◌≡◌, ℕ, suc, ◌+◌, ◌-◌, ◌*◌, ◌/◌, ◌%◌, ◌<◌, ◌≤◌, List, length, get_or, set, refl, sym, ap, ◌∙◌, arith, ne_eqb, get_or-set_same, get_or-set_other}
 use Rattle.std.proofs.lemmas.Bool.{cases_eq, cases_lt}
 use Rattle.std.proofs.Common.{inl, inr, zero, drop}
 use Rattle.cfn_model.specs.Network.{cells}
@@ -8,7 +8,7 @@ use Rattle.cfn_net.proofs.Digits.{cells-factor}
 use Rattle.std.proofs.lemmas.Int.{ints}
 use Rattle.std.proofs.lemmas.List.{length-set}
 use Rattle.std.proofs.lemmas.Nat.{div_below, le-div, div-mul-add, mod-mul-add}
-use Rattle.std.specs.Prelude.{Bool, true, false, ◌==◌, ℤ, pos, ◌+ℤ◌}
+use Rattle.std.specs.Prelude.{true, false, ℤ, pos, ◌+ℤ◌}
 use Rattle.cfn_model.specs.Sums.{when}
 use Rattle.cfn_model.proofs.Equivalence.{when_true, when_false, eqb_same}
 use Rattle.cfn_check.specs.declared.column.Column.{Column}

@@ -1,5 +1,5 @@
 -- One line of a node after another.
-use Rattle.std.proofs.Common.{◌≡◌, ℕ, ◌+◌, ◌<◌, ◌≤◌, List, [], ◌∷◌, ◌++◌, length, refl, sym, ap, ◌∙◌, subst, arith, length-append, append_assoc}
+use Rattle.std.proofs.Common.{◌≡◌, ℕ, ◌<◌, List, [], ◌∷◌, ◌++◌, length, refl, sym, ap, ◌∙◌, subst, arith, length-append, append_assoc}
 use Rattle.std.proofs.lemmas.List.{append_cancel_left}
 use Rattle.std.proofs.lemmas.List.Sums.{fold-append}
 use Rattle.std.specs.Prelude.{Option, Some, None, unwrap_or, min}
@@ -9,8 +9,8 @@ use Rattle.cfn_model.specs.declared.step.Event.{Event as PathEvent}
 use Rattle.cfn_model.specs.Network.{Network}
 use Rattle.cfn_fault.specs.declared.kind.FaultKind.{FaultKind}
 use Rattle.cfn_fault.specs.Fault.{Item, Makes, LeavesOpen, Closes, Splits, Fault, FailsPlace}
-use Rattle.cfn_fault.specs.Lines.{Line, Node, State, AtVersion, AtNodes, AtOver, paths_after, Runs, bytes_of, text_of, IsSpelledLine}
-use Rattle.cfn_fault.specs.Judging.{LineFails, LinePasses, NodePasses, NodeFails, PassesPlace, AllPass, threshold_in, open_floors, floor_at, lowest}
+use Rattle.cfn_fault.specs.Lines.{Line, Node, State, AtNodes, paths_after, bytes_of, text_of}
+use Rattle.cfn_fault.specs.Judging.{LineFails, PassesPlace, threshold_in, open_floors, floor_at, lowest}
 use Rattle.cfn_fault.proofs.Running.{spelled_back}
 use Rattle.cfn_fault.proofs.Beginning.{some_bytes}
 use Rattle.cfn_fault.proofs.Whole.{one_more_floor}
@@ -20,7 +20,7 @@ use Rattle.cfn_certtext.specs.declared.event.Item.TheVariants as items
 use Rattle.cfn_certtext.specs.declared.event.Event.{Event}
 use Rattle.cfn_certtext.specs.Reading.{Reading, HasRead, Tells, item_of, values_behind, step_of, text_of_step}
 use Rattle.cfn_check.specs.Walking.{Walking, Steps}
-use Rattle.cfn_check.specs.Taking.{behind_line, Takes}
+use Rattle.cfn_check.specs.Taking.{Takes}
 use Rattle.cfn_check.specs.Checking.{Right, InTree, IsDue, opening_lines}
 use Rattle.cfn_check.proofs.Telling.{Told, told, at_nodes, line_right, line_stops}
 

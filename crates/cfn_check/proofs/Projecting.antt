@@ -1,10 +1,10 @@
 -- Which cells allow a project.
-use Rattle.std.proofs.Common.{◌≡◌, ℕ, ◌+◌, ◌*◌, ◌<◌, ◌≤◌, List, length, get_or, refl, sym, subst, ap, ◌∙◌, inl, inr, arith}
+use Rattle.std.proofs.Common.{◌≡◌, ℕ, ◌+◌, ◌<◌, ◌≤◌, List, length, refl, sym, subst, ap, ◌∙◌, inl, inr, arith}
 use Rattle.std.proofs.lemmas.Bool.{cases_eq, cases_lt, false≢true, eqb-true}
 use Rattle.std.proofs.lemmas.Int.{ints}
-use Rattle.std.specs.Prelude.{Bool, true, false, ◌==◌, pos, slice_index}
+use Rattle.std.specs.Prelude.{true, false, slice_index}
 use Rattle.cfn_model.specs.declared.step.Event.{Event}
-use Rattle.cfn_model.specs.Network.{Network, Fits, cells, cell, dims_at, scope_at}
+use Rattle.cfn_model.specs.Network.{Network, cells, cell, dims_at, scope_at}
 use Rattle.cfn_model.specs.Steps.{IsPlace, CanProject}
 use Rattle.cfn_model.proofs.Equivalence.{eqb_same}
 use Rattle.cfn_net.proofs.Cells.{length-dims}

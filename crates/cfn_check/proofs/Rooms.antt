@@ -1,17 +1,16 @@
 -- Sums over a trail stay far within 128 bits.
-use Rattle.std.proofs.Common.{◌≡◌, ℕ, zero, suc, ◌+◌, ◌*◌, ◌<◌, ◌≤◌, ◌^◌, List, [], ◌∷◌, length, get_or, map, refl, sym, ap, ◌∙◌, subst, arith}
+use Rattle.std.proofs.Common.{ℕ, suc, ◌+◌, ◌*◌, ◌<◌, ◌≤◌, ◌^◌, List, [], ◌∷◌, length, get_or, sym, ap, ◌∙◌, arith}
 use Rattle.std.proofs.lemmas.Int.{ints}
 use Rattle.std.proofs.lemmas.List.Sums.{sum_by-cons}
-use Rattle.std.proofs.lemmas.List.{length-map}
-use Rattle.std.specs.Prelude.{Bool, true, false, if◌then◌else◌, ℤ, pos, neg_ℤ, ◌+ℤ◌, ◌≤ℤ◌, sum_by, slice_index, nat_lt}
+use Rattle.std.specs.Prelude.{Bool, true, false, if◌then◌else◌, ℤ, pos, neg_ℤ, ◌≤ℤ◌, sum_by, slice_index, nat_lt}
 use Rattle.cfn_model.specs.declared.step.Step.TheVariants.{Project, Extend, Lift, CutValue, CutTuple}
 use Rattle.cfn_model.specs.declared.step.Event.{Event}
 use Rattle.cfn_model.specs.declared.step.Event.TheVariants.{Did, Is, IsNot}
-use Rattle.cfn_model.specs.Network.{Function, Network, IsNetwork, IsFunction, Fits, cells, cell, dims_at, entry_at, arity, function_at, no_function}
+use Rattle.cfn_model.specs.Network.{Function, Network, IsNetwork, cell, dims_at, entry_at, arity, function_at, no_function}
 use Rattle.cfn_model.specs.Sums.{when, lifted, constant, constant_of, floor, unary_by, unary, residual_by, residual, removes}
 use Rattle.cfn_net.proofs.Digits.{tuple_of, tuple_of-numbered}
 use Rattle.cfn_check.specs.declared.entry.Entry.{Entry}
-use Rattle.cfn_check.specs.Tables.{Tables, Says, HasRoom, IsWide, takers, residual_at}
+use Rattle.cfn_check.specs.Tables.{Tables, HasRoom, takers, residual_at}
 use Rattle.cfn_check.specs.Standing.{IsPossible, IsTrail, IsLedger, events_of}
 
 pub record Within (n : ℕ) (z : ℤ) : Type 0 where

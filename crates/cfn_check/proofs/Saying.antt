@@ -1,13 +1,13 @@
 -- What tables say after an event, and before it.
-use Rattle.std.proofs.Common.{◌≡◌, ◌≢◌, ℕ, ◌+◌, ◌<◌, ◌≤◌, List, [], ◌∷◌, length, get_or, refl, sym, ap, ◌∙◌, subst, inl, inr, arith}
-use Rattle.std.proofs.lemmas.Bool.{cases_eq, cases_Bool, and_parts, eqb-true, false≢true}
+use Rattle.std.proofs.Common.{◌≡◌, ℕ, ◌+◌, List, ◌∷◌, refl, ap, ◌∙◌, subst, arith}
+use Rattle.std.proofs.lemmas.Bool.{and_parts, eqb-true}
 use Rattle.std.proofs.lemmas.Int.{ints}
-use Rattle.std.specs.Prelude.{Bool, true, false, not, ◌&&◌, ◌||◌, ◌==◌, ℤ, pos, ◌+ℤ◌, if◌then◌else◌}
+use Rattle.std.specs.Prelude.{Bool, true, false, not, ◌&&◌, ◌||◌, ◌==◌, if◌then◌else◌}
 use Rattle.cfn_model.specs.declared.step.Step.TheVariants.{Project, Extend, Lift, CutValue, CutTuple}
 use Rattle.cfn_model.specs.declared.step.Event.{Event}
 use Rattle.cfn_model.specs.declared.step.Event.TheVariants.{Did, Is, IsNot}
-use Rattle.cfn_model.specs.Network.{Network, cells, dims_at}
-use Rattle.cfn_model.specs.Sums.{lifted, removes, cuts, is_cut}
+use Rattle.cfn_model.specs.Network.{Network}
+use Rattle.cfn_model.specs.Sums.{removes, cuts, is_cut}
 use Rattle.cfn_check.specs.Tables.{Tables, HasShape, Says, Adds, Cuts, Has, takers, cut_at}
 use Rattle.cfn_check.specs.declared.entry.Entry.{Entry}
 use Rattle.cfn_check.specs.Standing.{IsMarked, IsLedger, events_of}

@@ -1,12 +1,12 @@
 -- What a project or an extend changes.
-use Rattle.std.proofs.Common.{◌≡◌, ◌≢◌, ℕ, suc, ◌+◌, ◌*◌, ◌/◌, ◌%◌, ◌<◌, ◌≤◌, List, [], ◌∷◌, length, get_or, set, drop, refl, sym, ap, ◌∙◌, subst, inl, inr, arith, zero-add, get_or-set_same, get_or-set_other}
+use Rattle.std.proofs.Common.{◌≡◌, ℕ, suc, ◌/◌, ◌%◌, ◌<◌, List, length, get_or, set, drop, refl, sym, ap, ◌∙◌, subst, inl, inr, arith, zero-add, get_or-set_same, get_or-set_other}
 use Rattle.std.proofs.lemmas.Bool.{cases_eq}
 use Rattle.std.proofs.lemmas.Int.{ints}
 use Rattle.std.specs.Prelude.{Bool, true, false, ◌&&◌, ◌==◌, ℤ, pos, ◌+ℤ◌, slice_index}
 use Rattle.cfn_model.specs.Network.{Network, Fits, cells, cell, dims_at, variable_at, scope_at}
 use Rattle.cfn_model.specs.Sums.{when}
 use Rattle.cfn_model.specs.Steps.{IsPlace}
-use Rattle.cfn_model.proofs.Equivalence.{when_false, eqb_same, eqb_other}
+use Rattle.cfn_model.proofs.Equivalence.{eqb_same, eqb_other}
 use Rattle.cfn_net.proofs.Cells.{length-dims}
 use Rattle.cfn_net.proofs.Digits.{digit_at, cell-below}
 use Rattle.cfn_check.specs.declared.column.Column.{Column}

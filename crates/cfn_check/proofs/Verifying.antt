@@ -1,17 +1,15 @@
 -- What all lines of a certificate's text come to.
-use Rattle.std.proofs.Common.{◌≡◌, ℕ, ◌+◌, ◌<◌, ◌≤◌, List, [], ◌∷◌, ◌++◌, length, refl, sym, ap, ap₂, ◌∙◌, subst, arith, append_assoc, append-nil}
+use Rattle.std.proofs.Common.{◌≡◌, ℕ, ◌<◌, ◌≤◌, List, [], ◌∷◌, ◌++◌, length, refl, sym, ap, ap₂, ◌∙◌, subst, arith, append_assoc, append-nil}
 use Rattle.std.specs.Prelude.{Option, Some, None, unwrap_or}
 use Rattle.cfn_model.specs.declared.step.Event.{Event as PathEvent}
-use Rattle.cfn_model.specs.Network.{Network, IsNetwork, Fits, cost}
-use Rattle.cfn_model.specs.Certificate.{Solution, Certificate, Good}
+use Rattle.cfn_model.specs.Network.{Network, IsNetwork, cost}
+use Rattle.cfn_model.specs.Certificate.{Solution, Certificate}
 use Rattle.cfn_model.specs.Text.{Spells}
 use Rattle.cfn_model.proofs.Bounding.{lower_bounds}
-use Rattle.cfn_fault.specs.declared.kind.FaultKind.{FaultKind}
 use Rattle.cfn_fault.specs.declared.kind.FaultKind.TheVariants as kinds
-use Rattle.cfn_fault.specs.Fault.{Fault, Begins, line_at}
-use Rattle.cfn_fault.specs.Lines.{Line, Version, Numbers, Lower, NoBest, Best, Values, Root, Node, End, State, AtNodes, lines_of, best_of_lines, paths_after, text_of}
-use Rattle.cfn_fault.specs.Judging.{AllPass, threshold_in, lower_in, open_floors, floor_at, lowest, bound_in}
-use Rattle.cfn_fault.specs.Laws.{IsWhole}
+use Rattle.cfn_fault.specs.Fault.{Fault, line_at}
+use Rattle.cfn_fault.specs.Lines.{Line, Version, Numbers, Lower, NoBest, Best, Values, Root, Node, End, AtNodes, lines_of, best_of_lines, paths_after, text_of}
+use Rattle.cfn_fault.specs.Judging.{threshold_in, lower_in, open_floors, floor_at, lowest, bound_in}
 use Rattle.cfn_fault.proofs.Running.{spelled_lines}
 use Rattle.cfn_fault.proofs.Beginning.{spelling_is, front_of_lines}
 use Rattle.cfn_fault.proofs.Faults.{whole_texts, one_fault, no_fault_where_good}

@@ -1,13 +1,12 @@
 -- What becomes of a walk at each line of a node.
-use Rattle.std.proofs.Common.{◌≡◌, ℕ, zero, suc, ◌+◌, ◌-◌, ◌<◌, ◌≤◌, List, [], ◌∷◌, length, drop, refl, sym, ap, ap₂, ◌∙◌, subst, arith}
+use Rattle.std.proofs.Common.{◌≡◌, ℕ, suc, ◌-◌, ◌≤◌, List, [], ◌∷◌, length, drop, refl, sym, ap, ap₂, ◌∙◌, subst, arith}
 use Rattle.std.proofs.lemmas.List.{drop-drop, length-drop}
-use Rattle.std.specs.Prelude.{Bool, true, false, Option, Some, None}
+use Rattle.std.specs.Prelude.{Bool, true, false}
 use Rattle.cfn_model.specs.declared.step.Step.{Step}
 use Rattle.cfn_model.specs.declared.step.Event.{Event}
 use Rattle.cfn_model.specs.declared.step.Event.TheVariants.{Did, Is, IsNot}
 use Rattle.cfn_model.specs.Network.{Network}
-use Rattle.cfn_model.specs.Steps.{IsValue, Allowed, InRange}
-use Rattle.cfn_fault.specs.declared.kind.FaultKind.TheVariants as kinds
+use Rattle.cfn_model.specs.Steps.{IsValue, Allowed}
 use Rattle.cfn_fault.specs.Fault.{FailsStep, OutOfRange, refusal_of}
 use Rattle.cfn_fault.specs.Fault as fault
 use Rattle.cfn_check.specs.declared.asked.Judged.{Judged}

@@ -1,12 +1,12 @@
 -- A walk over the places of a tuple from the last to the first, with the number of what stands before the place.
-use Rattle.std.proofs.Common.{◌≡◌, ℕ, zero, suc, ◌+◌, ◌*◌, ◌/◌, ◌%◌, ◌<◌, ◌≤◌, List, [], ◌∷◌, length, get_or, take, drop, refl, sym, subst, ap, ◌∙◌, arith}
+use Rattle.std.proofs.Common.{◌≡◌, ℕ, zero, suc, ◌+◌, ◌*◌, ◌/◌, ◌%◌, ◌<◌, List, [], ◌∷◌, length, get_or, take, drop, refl, sym, subst, ap, ◌∙◌, arith}
 use Rattle.std.proofs.lemmas.Nat.{div-mul-add, mod-mul-add}
 use Rattle.std.proofs.lemmas.List.{take_all, drop_all, drop_more}
 use Rattle.std.specs.Prelude.{Bool, true, false, ◌&&◌}
 use Rattle.cfn_model.specs.declared.step.Event.{Event}
-use Rattle.cfn_model.specs.Network.{Fits, cells, cell, cell_from, dims}
+use Rattle.cfn_model.specs.Network.{Fits, cell, cell_from, dims}
 use Rattle.cfn_model.specs.Sums.{is_live, all_live}
-use Rattle.cfn_net.proofs.Cells.{Fits-length, Fits-at, get_or-dims, length-dims}
+use Rattle.cfn_net.proofs.Cells.{Fits-length, Fits-at, length-dims}
 
 cell_from-take_more : (n : ℕ) (sizes values : List ℕ) (p : ℕ) → p < length sizes → length values ≡ length sizes → cell_from n (take (suc p) sizes) (take (suc p) values) ≡ cell_from n (take p sizes) (take p values) * get_or sizes p 0 + get_or values p 0
 cell_from-take_more n [] values p l same = absurd (omega arith)

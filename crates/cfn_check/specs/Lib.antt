@@ -8,3 +8,4 @@ pub mod Walking
 pub mod Taking
 pub mod Assigning
 pub mod Checking
+pub mod Numbers

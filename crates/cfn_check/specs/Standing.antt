@@ -1,5 +1,5 @@
 -- Where a checker stands: the network, and the history of the path from the root.
-use Rattle.std.specs.Prelude.{◌≡◌, ℕ, ◌+◌, ◌-◌, ◌<◌, ◌≤◌, ◌^◌, Bool, not, List, [], ◌∷◌, length, map, reverse, drop}
+use Rattle.std.specs.Prelude.{◌≡◌, ℕ, ◌<◌, ◌≤◌, ◌^◌, Bool, not, List, [], ◌∷◌, length, map, drop}
 use Rattle.cfn_model.specs.declared.step.Step.{Step}
 use Rattle.cfn_model.specs.declared.step.Step.TheVariants.{Project, Extend, Lift, CutValue, CutTuple}
 use Rattle.cfn_model.specs.declared.step.Event.{Event}

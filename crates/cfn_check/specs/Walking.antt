@@ -1,5 +1,5 @@
 -- The paths that are due in a certificate's tree, and what a line of a node makes of them.
-use Rattle.std.specs.Prelude.{◌≡◌, ℕ, ◌-◌, ◌<◌, ◌≤◌, min, List, [], ◌∷◌, length, drop, Option, Some, None, Bool, true, false}
+use Rattle.std.specs.Prelude.{◌≡◌, ℕ, ◌-◌, ◌≤◌, min, List, [], ◌∷◌, length, drop, Option, Some, None, Bool, true, false}
 use Rattle.cfn_model.specs.declared.step.Step.{Step}
 use Rattle.cfn_model.specs.declared.step.Event.{Event}
 use Rattle.cfn_model.specs.declared.step.Event.TheVariants.{Did, Is, IsNot}
@@ -13,7 +13,6 @@ use Rattle.cfn_fault.specs.Fault.{FailsStep, refusal_of}
 use Rattle.cfn_check.specs.declared.asked.Judged.{Judged}
 use Rattle.cfn_check.specs.declared.asked.Judged.TheVariants.{Done, Range, NotAllowed}
 use Rattle.cfn_check.specs.declared.owed.Owed.{Owed}
-use Rattle.cfn_check.specs.Standing.{Standing}
 
 -- The network and the threshold, the paths to the nodes that are due with the next one first, and the least of the
 -- threshold and the floors of the open leaves so far.

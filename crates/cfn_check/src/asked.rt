@@ -3,6 +3,7 @@
 ghost use Rattle.std.specs.Prelude.{◌≡◌, ◌<◌, ◌↔◌, length, IsTrue, MatchOption};
 ghost use Rattle.cfn_model.specs.Steps.{IsValue, IsPlace, IsCell, InRange};
 ghost use Rattle.cfn_certtext.specs.Reading.{step_of};
+ghost use Rattle.cfn_check.specs.Numbers.{HasSmallNumbers};
 
 use cfn_certtext::StepText;
 use cfn_model::Step;
@@ -24,66 +25,77 @@ pub(crate) fn in_range(network: &Network, step: StepText) -> Option<Step>
     ensures { MatchOption result (InRange network.now (step_of step) → ⊥)
         (λ found. (found ≡ step_of step) × InRange network.now (step_of step)) }
 {
+    if is_in_range(network, step) {
+        Some(narrowed(step))
+    } else {
+        None
+    }
+}
+
+/// Whether a step's numbers are in range.
+fn is_in_range(network: &Network, step: StepText) -> bool
+    ensures answer { IsTrue result ↔ InRange network.now (step_of step) }
+    ensures small { IsTrue result → HasSmallNumbers (step_of step) }
+{
+    match step {
+        StepText::Project {
+            function,
+            place,
+            value,
+            ..
+        } => is_place(network, function, place, value),
+        StepText::Extend {
+            function,
+            place,
+            value,
+            ..
+        } => is_place(network, function, place, value),
+        StepText::Lift { variable, .. } => variable < network.variables() as u64,
+        StepText::CutValue { variable, value } => is_value(network, variable, value),
+        StepText::CutTuple { function, cell } => is_cell(network, function, cell),
+    }
+}
+
+/// The same step, with numbers of 32 bits.
+fn narrowed(step: StepText) -> Step
+    requires { HasSmallNumbers (step_of step) }
+    ensures { result ≡ step_of step }
+{
     match step {
         StepText::Project {
             function,
             place,
             value,
             amount,
-        } => {
-            if !is_place(network, function, place, value) {
-                return None;
-            }
-            Some(Step::Project {
-                function: function as u32,
-                place: place as u32,
-                value: value as u32,
-                amount,
-            })
-        }
+        } => Step::Project {
+            function: function as u32,
+            place: place as u32,
+            value: value as u32,
+            amount,
+        },
         StepText::Extend {
             function,
             place,
             value,
             amount,
-        } => {
-            if !is_place(network, function, place, value) {
-                return None;
-            }
-            Some(Step::Extend {
-                function: function as u32,
-                place: place as u32,
-                value: value as u32,
-                amount,
-            })
-        }
-        StepText::Lift { variable, amount } => {
-            if variable >= network.variables() as u64 {
-                return None;
-            }
-            Some(Step::Lift {
-                variable: variable as u32,
-                amount,
-            })
-        }
-        StepText::CutValue { variable, value } => {
-            if !is_value(network, variable, value) {
-                return None;
-            }
-            Some(Step::CutValue {
-                variable: variable as u32,
-                value: value as u32,
-            })
-        }
-        StepText::CutTuple { function, cell } => {
-            if !is_cell(network, function, cell) {
-                return None;
-            }
-            Some(Step::CutTuple {
-                function: function as u32,
-                cell: cell as u32,
-            })
-        }
+        } => Step::Extend {
+            function: function as u32,
+            place: place as u32,
+            value: value as u32,
+            amount,
+        },
+        StepText::Lift { variable, amount } => Step::Lift {
+            variable: variable as u32,
+            amount,
+        },
+        StepText::CutValue { variable, value } => Step::CutValue {
+            variable: variable as u32,
+            value: value as u32,
+        },
+        StepText::CutTuple { function, cell } => Step::CutTuple {
+            function: function as u32,
+            cell: cell as u32,
+        },
     }
 }
 

@@ -1,12 +1,16 @@
-//! What judges the steps of a certificate: the costs and live values along one path of its tree.
+//! The separate checker of certificates.
 //!
 //! It stands on no solver's store, and adds up all shifts in tables of its own, with sums of 128 bits.
 //!
-//! - `Ledger` is the public type: where the path stands. It judges a step and makes it, makes decisions, tells whether
-//!   a leaf may be closed, and goes back to a mark. `asked` has which steps of a text are in range, and `allowed` what each asks.
-//! - `Costs` are the tables: the floor, a `Domain` for each variable, `Residuals` for each function. `Column` has the
+//! - `check` judges a certificate from the bytes of its text; `Check` is its answer. `certificate` goes over the text in
+//!   the order of its lines: `reading` has those before the tree, `best` and `assignment` the best assignment, `nodes`
+//!   those of the tree. `Walk` is the way down and up the tree, with an `Owed` for each split whose second child is
+//!   still to come.
+//! - `Ledger` is where one path of the tree stands. It judges a step and makes it, makes decisions, tells whether a leaf
+//!   may be closed, and goes back to a mark. `asked` has which steps of a text are in range, `allowed` what each step
+//!   asks; an `Entry` is one event of the path.
+//! - `Costs` are the tables: the floor, a `Domain` for each variable, `Residuals` for each function. A `Column` has the
 //!   cells of a function that a project or an extend touches.
-//! - `Entry` is one event of the path.
 #![tactic(auto)]
 
 mod allowed;

@@ -1,9 +1,10 @@
 ghost use Rattle.std.specs.Prelude.{◌≡◌, IfOk};
 
-use crate::{Judged, Ledger};
+use crate::{Check, Judged, Ledger, check};
 use cfn_certtext::StepText;
+use cfn_fault::FaultKind;
 use cfn_net::{Builder, Network};
-use std::alloc::AllocError;
+use std::alloc::{AllocError, Global};
 use std::test::Fail;
 
 /// The greatest amount of a certificate.
@@ -198,5 +199,187 @@ fn numbers_out_of_range(rt: HostRuntime) -> Result<(), Fail> {
     assert!(rt; !ledger.is(&network, far, 0)?);
     assert!(rt; !ledger.is_not(&network, 0, far)?);
     assert_eq!(rt; ledger.mark().events, 0);
+    Ok(())
+}
+
+const VERIFIED: Check = Check::Verified {
+    lower: 1,
+    best: Some(1),
+};
+
+fn refused(kind: FaultKind, line: u64) -> Check {
+    Check::Refused { kind, line }
+}
+
+#[test]
+fn a_closed_root_is_verified(rt: HostRuntime) -> Result<(), Fail> {
+    let network = tiny(&rt)?;
+    let text =
+        b"wcspcert 1\nnetwork 1 1 10\nlower 1\nbest 1\nvalues 1\ntree\np 0 0 0 3\np 0 0 1 1\nu 0 1\nclosed\nend\n";
+    assert_eq!(rt; check(rt.alloc(), &network, text)?, VERIFIED);
+    let dead =
+        b"wcspcert 1\nnetwork 1 1 10\nlower 1\nbest 1\nvalues 1\ntree\np 0 0 0 3\nv 0 0\ne 0 0 0 9223372036854775807\np 0 0 1 1\nu 0 1\nclosed\nend\n";
+    assert_eq!(rt; check(rt.alloc(), &network, dead)?, VERIFIED);
+    Ok(())
+}
+
+#[test]
+fn lines_of_the_tree_are_refused(rt: HostRuntime) -> Result<(), Fail> {
+    let network = tiny(&rt)?;
+    let lift =
+        b"wcspcert 1\nnetwork 1 1 10\nlower 1\nbest 1\nvalues 1\ntree\np 0 0 0 3\np 0 0 1 1\nu 0 2\nclosed\nend\n";
+    assert_eq!(rt;
+        check(rt.alloc(), &network, lift)?,
+        refused(FaultKind::Lift, 9)
+    );
+    let cut =
+        b"wcspcert 1\nnetwork 1 1 10\nlower 1\nbest 1\nvalues 1\ntree\nv 0 0\np 0 0 0 3\nclosed\nend\n";
+    assert_eq!(rt;
+        check(rt.alloc(), &network, cut)?,
+        refused(FaultKind::Cut, 7)
+    );
+    let range =
+        b"wcspcert 1\nnetwork 1 1 10\nlower 1\nbest 1\nvalues 1\ntree\np 1 0 0 3\nopen\nend\n";
+    assert_eq!(rt;
+        check(rt.alloc(), &network, range)?,
+        refused(FaultKind::Range, 7)
+    );
+    let split =
+        b"wcspcert 1\nnetwork 1 1 10\nlower 1\nbest 1\nvalues 1\ntree\nsplit 0 2\nopen\nopen\nend\n";
+    assert_eq!(rt;
+        check(rt.alloc(), &network, split)?,
+        refused(FaultKind::Range, 7)
+    );
+    let close = b"wcspcert 1\nnetwork 1 1 10\nlower 0\nbest 1\nvalues 1\ntree\nclosed\nend\n";
+    assert_eq!(rt;
+        check(rt.alloc(), &network, close)?,
+        refused(FaultKind::Close, 7)
+    );
+    let project = b"wcspcert 1\nnetwork 1 1 10\nlower 0\nbest none\ntree\np 0 0 0 4\nopen\nend\n";
+    assert_eq!(rt;
+        check(rt.alloc(), &network, project)?,
+        refused(FaultKind::Project, 6)
+    );
+    let extend = b"wcspcert 1\nnetwork 1 1 10\nlower 0\nbest none\ntree\ne 0 0 0 1\nopen\nend\n";
+    assert_eq!(rt;
+        check(rt.alloc(), &network, extend)?,
+        refused(FaultKind::Extend, 6)
+    );
+    Ok(())
+}
+
+#[test]
+fn first_lines_are_refused(rt: HostRuntime) -> Result<(), Fail> {
+    let network = tiny(&rt)?;
+    let numbers = b"wcspcert 1\nnetwork 1 1 9\nlower 1\nbest 1\nvalues 1\ntree\nopen\nend\n";
+    assert_eq!(rt;
+        check(rt.alloc(), &network, numbers)?,
+        refused(FaultKind::Network, 2)
+    );
+    let best = b"wcspcert 1\nnetwork 1 1 10\nlower 1\nbest 10\nvalues 1\ntree\nopen\nend\n";
+    assert_eq!(rt;
+        check(rt.alloc(), &network, best)?,
+        refused(FaultKind::Best, 4)
+    );
+    let long = b"wcspcert 1\nnetwork 1 1 10\nlower 1\nbest 1\nvalues 1 1\ntree\nopen\nend\n";
+    assert_eq!(rt;
+        check(rt.alloc(), &network, long)?,
+        refused(FaultKind::Best, 5)
+    );
+    let value = b"wcspcert 1\nnetwork 1 1 10\nlower 1\nbest 1\nvalues 4294967297\nx\n";
+    assert_eq!(rt;
+        check(rt.alloc(), &network, value)?,
+        refused(FaultKind::Best, 5)
+    );
+    let cost = b"wcspcert 1\nnetwork 1 1 10\nlower 1\nbest 1\nvalues 0\ntree\nopen\nend\n";
+    assert_eq!(rt;
+        check(rt.alloc(), &network, cost)?,
+        refused(FaultKind::Best, 5)
+    );
+    let lower =
+        b"wcspcert 1\nnetwork 1 1 10\nlower 2\nbest 1\nvalues 1\ntree\np 0 0 0 3\np 0 0 1 1\nu 0 1\nclosed\nend\n";
+    assert_eq!(rt;
+        check(rt.alloc(), &network, lower)?,
+        refused(FaultKind::Lower, 3)
+    );
+    Ok(())
+}
+
+#[test]
+fn texts_are_refused(rt: HostRuntime) -> Result<(), Fail> {
+    let network = tiny(&rt)?;
+    let more = b"wcspcert 1\nnetwork 1 1 10\nlower 0\nbest none\ntree\nopen\nend\nx";
+    assert_eq!(rt;
+        check(rt.alloc(), &network, more)?,
+        refused(FaultKind::Text, 8)
+    );
+    let less = b"wcspcert 1\nnetwork 1 1 10\nlower 0\nbest none\ntree\nopen\n";
+    assert_eq!(rt;
+        check(rt.alloc(), &network, less)?,
+        refused(FaultKind::Text, 7)
+    );
+    let zero = b"wcspcert 1\nnetwork 1 1 10\nlower 01\nbest none\ntree\nopen\nend\n";
+    assert_eq!(rt;
+        check(rt.alloc(), &network, zero)?,
+        refused(FaultKind::Text, 3)
+    );
+    let large =
+        b"wcspcert 1\nnetwork 1 1 10\nlower 0\nbest none\ntree\np 0 0 0 9223372036854775808\nopen\nend\n";
+    assert_eq!(rt;
+        check(rt.alloc(), &network, large)?,
+        refused(FaultKind::Text, 6)
+    );
+    assert_eq!(rt;
+        check(rt.alloc(), &network, b"")?,
+        refused(FaultKind::Text, 1)
+    );
+    Ok(())
+}
+
+#[test]
+fn both_sides_of_a_split_are_judged(rt: HostRuntime) -> Result<(), Fail> {
+    let network = tri(&rt)?;
+    let text =
+        b"wcspcert 1\nnetwork 3 3 10\nlower 1\nbest 1\nvalues 0 0 1\ntree\nsplit 0 0\np 0 1 0 1\nv 1 0\np 1 1 0 1\nv 2 0\np 2 0 1 1\nu 1 1\nclosed\np 0 1 1 1\nv 1 1\np 1 1 1 1\nv 2 1\np 2 0 0 1\nu 1 1\nclosed\nend\n";
+    assert_eq!(rt; check(rt.alloc(), &network, text)?, VERIFIED);
+    let half =
+        b"wcspcert 1\nnetwork 3 3 10\nlower 1\nbest 1\nvalues 0 0 1\ntree\nsplit 0 0\np 0 1 0 1\nv 1 0\np 1 1 0 1\nv 2 0\np 2 0 1 1\nu 1 1\nclosed\nend\n";
+    assert_eq!(rt;
+        check(rt.alloc(), &network, half)?,
+        refused(FaultKind::Text, 15)
+    );
+    Ok(())
+}
+
+/// A certificate of nested splits, with so many open leaves.
+fn nested(alloc: Global, splits: u32, leaves: u32) -> Result<Vec<u8>, AllocError> {
+    let mut text = Vec::from_slice(
+        alloc,
+        b"wcspcert 1\nnetwork 1 1 10\nlower 0\nbest none\ntree\n",
+    )?;
+    for _ in 0..splits {
+        text.extend_from_slice(b"split 0 0\n")?;
+    }
+    for _ in 0..leaves {
+        text.extend_from_slice(b"open\n")?;
+    }
+    text.extend_from_slice(b"end\n")?;
+    Ok(text)
+}
+
+#[test]
+fn deep_trees_are_judged(rt: HostRuntime) -> Result<(), Fail> {
+    let network = tiny(&rt)?;
+    let whole = nested(rt.alloc(), 100000, 100001)?;
+    let open = Check::Verified {
+        lower: 0,
+        best: None,
+    };
+    assert_eq!(rt; check(rt.alloc(), &network, &whole)?, open);
+    let short = nested(rt.alloc(), 100000, 100000)?;
+    assert_eq!(rt;
+        check(rt.alloc(), &network, &short)?,
+        refused(FaultKind::Text, 200006)
+    );
     Ok(())
 }

@@ -1,4 +1,4 @@
-use Rattle.std.proofs.Common.{pos, subst, ◌∙◌, sym, ap, arith}
+use Rattle.std.proofs.Common.{arith}
 use Rattle.std.proofs.lemmas.Int.{ints}
 use Rattle.cfn_model.specs.Network.{dims_at}
 use Rattle.cfn_net.proofs.Digits.{tuple_of, tuple_of-numbered}

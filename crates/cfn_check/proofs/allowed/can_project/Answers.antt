@@ -1,8 +1,8 @@
-use Rattle.std.proofs.Common.{◌≡◌, ℕ, ◌+◌, ◌*◌, ◌<◌, ◌≤◌, sym, refl, ◌∙◌, ap, arith}
+use Rattle.std.proofs.Common.{◌≡◌, ℕ, ◌*◌, ◌<◌, ◌≤◌, refl, arith}
 use Rattle.std.proofs.lemmas.Bool.{false≢true}
 use Rattle.cfn_model.specs.Network.{cells, dims_at}
-use Rattle.cfn_check.proofs.Cells.{run_end, run_small, block_small, before_is_out, behind_is_out, at_is_in}
-use Rattle.cfn_check.proofs.Projecting.{allow_none, allow_over, allow_more, all_allow, one_lacks}
+use Rattle.cfn_check.proofs.Cells.{run_end, before_is_out, behind_is_out, at_is_in}
+use Rattle.cfn_check.proofs.Projecting.{allow_over, all_allow, one_lacks}
 use Rattle.cfn_check.proofs.allowed.can_project.Goals as goal
 
 pub loop-number-init : goal.loop-number-init

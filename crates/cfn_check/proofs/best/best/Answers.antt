@@ -1,8 +1,8 @@
-use Rattle.std.proofs.Common.{◌≡◌, ℕ, List, [], ◌∷◌, ◌++◌, refl, inl, inr, sym, ◌∙◌}
+use Rattle.std.proofs.Common.{[], ◌∷◌, ◌++◌, refl}
 use Rattle.std.proofs.lemmas.Result.{err_from_is_err_and}
-use Rattle.cfn_fault.specs.Lines.{Line, AtBest, AtRoot, AtValues, NoBest, Best}
+use Rattle.cfn_fault.specs.Lines.{AtBest, AtRoot, NoBest, Best}
 use Rattle.cfn_check.specs.Checking.{best_front}
-use Rattle.cfn_check.proofs.BestValues.{best_told, none_right, cost_right, cost_stop}
+use Rattle.cfn_check.proofs.BestValues.{none_right, cost_right, cost_stop}
 use Rattle.cfn_check.proofs.best.best.Goals as goal
 
 pub returns-in_err-event-clause-stop : goal.returns-in_err-event-clause-stop

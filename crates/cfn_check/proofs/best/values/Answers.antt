@@ -1,16 +1,12 @@
-use Rattle.std.proofs.Common.{◌≡◌, ℕ, ◌+◌, ◌<◌, List, [], ◌∷◌, ◌++◌, length, ap, sym, subst, ◌∙◌, refl, arith}
-use Rattle.std.specs.Prelude.{Some, None}
+use Rattle.std.proofs.Common.{◌≡◌, List, [], ◌∷◌, ◌++◌, length, ap, sym, ◌∙◌, arith}
 use Rattle.std.proofs.lemmas.Bool.{iff_false}
 use Rattle.std.proofs.lemmas.Result.{err_from_is_err_and, IfOk-at_ok, IfErr-at_err}
-use Rattle.cfn_model.specs.Network.{Fits, cost}
 use Rattle.cfn_fault.specs.Lines.{Line, State, AtValues, AtRoot, Values}
-use Rattle.cfn_certtext.specs.declared.event.Item.TheVariants as items
 use Rattle.cfn_certtext.specs.Reading.{HasRead, Tells}
 use Rattle.cfn_certtext.specs.declared.event.Event.{Event}
-use Rattle.cfn_check.specs.Assigning.{IsTold, value_in}
-use Rattle.cfn_check.specs.Checking.{Right, Stops}
+use Rattle.cfn_check.specs.Checking.{Stops}
 use Rattle.cfn_check.proofs.Telling.{root_right}
-use Rattle.cfn_check.proofs.BestValues.{FirstValue, first_value, start_told, told_more, value_goes, values_end, values_right, values_stop}
+use Rattle.cfn_check.proofs.BestValues.{told_more, value_goes, values_end, values_right, values_stop}
 use Rattle.cfn_check.proofs.best.values.Goals as goal
 
 pub returns-in_err-event-clause-stop : goal.returns-in_err-event-clause-stop

@@ -1,4 +1,4 @@
-use Rattle.std.proofs.Common.{◌≡◌, ◌∷◌, ap, sym, ◌∙◌}
+use Rattle.std.proofs.Common.{ap}
 use Rattle.cfn_fault.proofs.Judging.{none_pass_yet}
 use Rattle.cfn_check.specs.declared.answer.Check.TheVariants.{Refused}
 use Rattle.cfn_check.proofs.Verifying.{exact}

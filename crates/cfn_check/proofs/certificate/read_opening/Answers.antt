@@ -1,7 +1,7 @@
-use Rattle.std.proofs.Common.{◌≡◌, [], ◌∷◌, ◌++◌, sym, ◌∙◌}
+use Rattle.std.proofs.Common.{◌≡◌, [], ◌∷◌, ◌++◌, ◌∙◌}
 use Rattle.std.proofs.lemmas.Result.{err_from_is_err_and}
-use Rattle.cfn_fault.specs.Lines.{AtVersion, AtLower, AtBest, Lower}
-use Rattle.cfn_check.specs.Checking.{front_lines, best_front}
+use Rattle.cfn_fault.specs.Lines.{AtVersion, AtLower, Lower}
+use Rattle.cfn_check.specs.Checking.{front_lines}
 use Rattle.cfn_check.proofs.certificate.read_opening.Goals as goal
 
 pub returns-in_err-version-clause-stop : goal.returns-in_err-version-clause-stop

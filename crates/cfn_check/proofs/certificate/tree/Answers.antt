@@ -1,6 +1,6 @@
-use Rattle.std.proofs.Common.{◌≡◌, List, [], ◌∷◌, ◌++◌, sym, subst, ◌∙◌, arith}
+use Rattle.std.proofs.Common.{◌++◌, subst}
 use Rattle.std.proofs.lemmas.Result.{err_from_is_err_and}
-use Rattle.cfn_fault.specs.Lines.{AtNodes, End}
+use Rattle.cfn_fault.specs.Lines.{AtNodes}
 use Rattle.cfn_check.specs.Checking.{Right, opening_lines}
 use Rattle.cfn_check.proofs.Verifying.{tree_start, tree_ends}
 use Rattle.cfn_check.proofs.certificate.tree.Goals as goal

@@ -1,11 +1,10 @@
-use Rattle.std.proofs.Common.{◌≡◌, ℕ, List, [], ◌∷◌, sym, subst, ◌∙◌}
-use Rattle.std.specs.Prelude.{Option, Some, None}
+use Rattle.std.proofs.Common.{◌≡◌, subst, ◌∙◌}
+use Rattle.std.specs.Prelude.{Option}
 use Rattle.std.proofs.lemmas.Bool.{iff_false}
 use Rattle.std.proofs.lemmas.Result.{err_from_is_err_and}
-use Rattle.cfn_model.specs.declared.step.Event.{Event as PathEvent}
 use Rattle.cfn_fault.specs.declared.kind.FaultKind.{FaultKind}
 use Rattle.cfn_fault.specs.Fault.{Item}
-use Rattle.cfn_fault.specs.Lines.{AtNodes, Node}
+use Rattle.cfn_fault.specs.Lines.{Node}
 use Rattle.cfn_certtext.specs.Reading.{item_of}
 use Rattle.cfn_check.specs.Taking.{Takes}
 use Rattle.cfn_check.proofs.Lines.{first_path, node_right, node_stop, due_next, shorter_next}

@@ -1,4 +1,4 @@
-use Rattle.std.proofs.Common.{◌≡◌, ℕ, ◌+◌, ◌*◌, ◌<◌, ◌≤◌, sym, arith, get_or, pos}
+use Rattle.std.proofs.Common.{ℕ, ◌+◌, ◌*◌, ◌<◌, ◌≤◌, arith}
 use Rattle.std.proofs.lemmas.Int.{ints}
 use Rattle.cfn_check.proofs.Cells.{run_end, run_small, block_small, before_is_out, behind_is_out, at_is_in, added_over, added_more}
 use Rattle.cfn_check.proofs.residuals.add_along.Goals as goal

@@ -1,4 +1,4 @@
-use Rattle.std.proofs.Common.{◌≡◌, List, ◌≤◌, length, arith}
+use Rattle.std.proofs.Common.{arith}
 use Rattle.cfn_check.proofs.BestValues.{still_told, too_many, too_large}
 use Rattle.cfn_check.proofs.assignment.Assignment.add.Goals as goal
 use Rattle.cfn_check.proofs.assignment.Assignment.add.Goals.{else-room-via-then-room+else-value-lt4096, else-room-via-else-room}

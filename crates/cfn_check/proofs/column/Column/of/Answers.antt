@@ -1,6 +1,6 @@
-use Rattle.std.proofs.Common.{◌≡◌, ℕ, List, refl, ◌/◌, get_or, suc, ◌+◌, ◌*◌, ◌<◌, length, drop, ap, sym, ◌∙◌, arith}
+use Rattle.std.proofs.Common.{◌≡◌, ℕ, List, refl, ◌/◌, get_or, ◌*◌, ◌<◌, length, ap, sym, ◌∙◌, arith}
 use Rattle.cfn_model.specs.Network.{cells, dims, dims_at, scope_at}
-use Rattle.cfn_net.proofs.Cells.{Inhabited-dims, cells-drop-pos, length-dims, get_or-dims}
+use Rattle.cfn_net.proofs.Cells.{Inhabited-dims, length-dims, get_or-dims}
 use Rattle.cfn_net.proofs.Digits.{cells-behind, cells-behind-le}
 use Rattle.cfn_check.proofs.Cells.{Strides, strides, exact}
 use Rattle.cfn_check.proofs.column.Column.of.Goals as goal

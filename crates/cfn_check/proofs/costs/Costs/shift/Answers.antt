@@ -1,14 +1,14 @@
-use Rattle.std.proofs.Common.{◌≡◌, ◌<◌, ℕ, List, length, get_or, subst, sym, ap, ◌∙◌, arith}
+use Rattle.std.proofs.Common.{◌≡◌, ◌<◌, ℕ, List, length, get_or, subst, ap, ◌∙◌, arith}
 use Rattle.std.proofs.Common.{to_z, of_z}
 use mir.Syntax.{w128}
 use Rattle.std.proofs.lemmas.Int.{to_z-of_z}
 use Rattle.std.proofs.lemmas.List.{get_or_read}
-use Rattle.cfn_model.specs.Network.{dims_at, variable_at}
+use Rattle.cfn_model.specs.Network.{variable_at}
 use Rattle.std.specs.Prelude.{◌==◌, pos, ◌+ℤ◌}
 use Rattle.cfn_model.specs.Sums.{when}
 use Rattle.cfn_check.specs.Columns.{in_column}
 use Rattle.cfn_check.specs.Values.{Gains}
-use Rattle.cfn_check.specs.Tables.{Values, Tuples, no_values, no_tuples, values_at, tuples_at}
+use Rattle.cfn_check.specs.Tables.{Values, Tuples, no_values, no_tuples}
 use Rattle.cfn_check.proofs.Shifted.{shifted}
 use Rattle.cfn_check.proofs.costs.Costs.shift.Goals as goal
 

@@ -1,4 +1,4 @@
-use Rattle.std.proofs.Common.{◌≡◌, sym, ap, ◌∙◌, subst, arith}
+use Rattle.std.proofs.Common.{◌≡◌, sym, ap, ◌∙◌, subst}
 use Rattle.cfn_model.specs.Network.{Network, IsNetwork}
 use Rattle.cfn_check.specs.Tables.{HasRoom}
 use Rattle.cfn_check.proofs.Rooms.{room}

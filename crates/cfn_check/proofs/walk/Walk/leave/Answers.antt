@@ -1,10 +1,10 @@
-use Rattle.std.proofs.Common.{◌≡◌, ◌-◌, List, [], ◌∷◌, length, drop, reverse, ap, sym, subst, ◌∙◌, arith}
+use Rattle.std.proofs.Common.{◌≡◌, ◌-◌, List, [], ◌∷◌, length, reverse, ap, subst, ◌∙◌}
 use Rattle.std.proofs.lemmas.List.{reverse-append}
 use Rattle.cfn_model.specs.declared.step.Event.TheVariants.{IsNot}
 use Rattle.cfn_check.specs.declared.owed.Owed.{Owed}
-use Rattle.cfn_check.specs.Standing.{Standing, with_event, without}
-use Rattle.cfn_check.specs.Walking.{AreOwed, with_paths}
-use Rattle.cfn_check.proofs.Walking.{walking, still_owed, left}
+use Rattle.cfn_check.specs.Standing.{with_event, without}
+use Rattle.cfn_check.specs.Walking.{AreOwed}
+use Rattle.cfn_check.proofs.Walking.{still_owed, left}
 use Rattle.cfn_check.proofs.walk.Walk.leave.Goals as goal
 
 trail : (c : goal.In_ok-record) → reverse c.self.inside.owed.items ≡ c.in-Some.owed ∷ reverse c.pop.new.self.items

@@ -1,9 +1,9 @@
-use Rattle.std.proofs.Common.{◌≡◌, List, [], ◌∷◌, length, reverse, ap, sym, subst, ◌∙◌, arith, refl}
+use Rattle.std.proofs.Common.{◌≡◌, List, [], ◌∷◌, reverse, ap, sym, subst, ◌∙◌, refl}
 use Rattle.std.proofs.lemmas.List.{reverse-append}
 use Rattle.cfn_model.specs.Network.{Network}
 use Rattle.cfn_model.specs.Steps.{IsValue}
 use Rattle.cfn_check.specs.declared.owed.Owed.{Owed}
-use Rattle.cfn_check.proofs.Walking.{walking, parted}
+use Rattle.cfn_check.proofs.Walking.{parted}
 use Rattle.cfn_check.proofs.walk.Walk.split.Goals as goal
 
 pub returns-clause-splits : goal.returns-clause-splits
