@@ -14,9 +14,9 @@ use Rattle.cfn_fault.specs.declared.kind.FaultKind.{FaultKind}
 use Rattle.cfn_fault.specs.Fault.{lines, Begins, Item, Makes, LeavesOpen, Closes, Splits, Place, FailsStep, OutOfRange, NotAllowed, FailsPlace, FailsLine, OtherNetwork, NotBelow, NoSolution, AtPlace, Fails, AsText, InCertificate, First, LowerAbove}
 use Rattle.cfn_fault.specs.Lines.{Line, Version, Numbers, Lower, NoBest, Best, Values, Root, Node, End, bytes_of, text_of, IsSpelledLine, lines_of_tree, lines_of_best, lines_of, State, AtVersion, AtNumbers, AtLower, AtBest, AtValues, AtRoot, AtNodes, AtOver, Follows, Runs}
 use Rattle.cfn_fault.specs.Judging.{threshold_in, lower_in, NodeFails, LineFails, AllPass, open_floors, lowest, bound_in}
-use Rattle.cfn_fault.specs.Laws.{OneFault, NoFaultWhereGood, TextFaults, LineFaults, WholeTexts, OneMorePasses}
-use Rattle.cfn_fault.proofs.Running.{same_end, run_split, runs_certificate, spelled_lines, spelled_front, nothing_over, told}
-use Rattle.cfn_fault.proofs.Beginning.{FrontOf, agree, lines_of_spelling, spelling_is}
+use Rattle.cfn_fault.specs.Laws.{OneFault, NoFaultWhereGood, SomeBegins, AllBegin, WholeSpells, TextFaults, LineFaults, WholeTexts, OneMorePasses}
+use Rattle.cfn_fault.proofs.Running.{same_end, run_split, runs_certificate, spelled_lines, spelled_front, nothing_over, told, begun}
+use Rattle.cfn_fault.proofs.Beginning.{FrontOf, agree, begins_with, front_of_lines, lines_of_spelling, spelling_is}
 use Rattle.cfn_fault.proofs.Placing.{fails_at, fails_line}
 use Rattle.cfn_fault.proofs.Judging.{none_fails, text_fault, line_fault, none_at_all, one_more_passes, same_front, same_head, same_tail, place_right}
 use Rattle.cfn_fault.proofs.Whole.{AllPlaces, places_by_valid, place_passes, good_by_lines, bound_by_lines}
@@ -155,6 +155,18 @@ no_fault_where_good P bytes c l kind spells good (LowerAbove other number is non
     let lower : c.lower ≡ other.lower = ap lower_in same in
     let bounds : bound P [] c.tree (threshold c) ≡ bound P [] other.tree (threshold other) = bound_of_lines P c ∙ ap (bound_in P) same ∙ sym (bound_of_lines P other) in
     absurd (omega (arith, good.lower))
+
+-- what lines say of certificates
+pub some_begins : SomeBegins
+some_begins bytes rest ls s fronts = let c = begun ls s fronts.run fronts.spelled in (c.certificate, c.spelled, begins_with c.certificate bytes rest ls c.rest c.spelled c.lines fronts.text)
+
+pub all_begin : AllBegin
+all_begin bytes rest ls s c fronts spelled begins = let front = front_of_lines c bytes rest ls (length ls) spelled fronts.spelled fronts.text (omega arith) begins in (front.rest, front.whole)
+
+pub whole_spells : WholeSpells
+whole_spells bytes ls fronts =
+    let c = told ls fronts.run fronts.spelled in
+    (c.certificate, record { spelled = c.spelled; exact = fronts.text ∙ append-nil (text_of ls) ∙ ap text_of c.lines ∙ sym (spelling_is c.certificate) }, sym c.lines)
 
 -- what a checker that goes over the lines may conclude
 pub text_faults : TextFaults
