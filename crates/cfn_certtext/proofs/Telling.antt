@@ -3,17 +3,16 @@ use Rattle.std.proofs.Common.{◌≡◌, ℕ, zero, suc, ◌+◌, ◌-◌, ◌<�
 use Rattle.std.proofs.lemmas.Bool.{cases_Bool, eqb-true, and_from, and_parts, not_from_false}
 use Rattle.std.proofs.lemmas.List.{drop-drop, take_rest}
 use Rattle.std.proofs.Math.Numerals.{one-add}
-use Rattle.std.specs.Prelude.{Some, None, position, ◌==◌, slice_index_or, ◌⊎◌}
+use Rattle.std.specs.Prelude.{Some, None, position, ◌==◌, ◌⊎◌}
 use Rattle.std.specs.List.{list_all, position_or_len}
 use Rattle.cfn_model.specs.Text.{line}
 use Rattle.cfn_fault.specs.Fault.{lines, line_at, Begins}
 use Rattle.cfn_fault.specs.Lines.{Line, words_of, bytes_of, text_of, IsSpelledLine, State, AtVersion, AtNumbers, AtLower, AtBest, AtValues, AtRoot, AtNodes, AtOver}
-use Rattle.cfn_model.specs.Words.{with_first}
 use Rattle.cfn_fault.specs.Decoding.{words_in, line_of, word_from}
 use Rattle.cfn_fault.proofs.Running.{run_one_more, spelled_append}
 use Rattle.cfn_fault.proofs.Decoding.{says, said_by}
 use Rattle.cfn_fault.proofs.Bytes.{HasNoEnd, line_back, same_words, lines_first, lines_last, fronted}
-use Rattle.cfn_fault.proofs.Beginning.{some_bytes, none_begins}
+use Rattle.cfn_fault.proofs.Beginning.{some_bytes, first_line, some_rest, none_begins, text_append}
 use Rattle.cfn_certtext.specs.declared.event.Item.{Item}
 use Rattle.cfn_certtext.specs.declared.event.Item.TheVariants as items
 use Rattle.cfn_certtext.specs.declared.stage.Stage.{Stage}
@@ -62,9 +61,6 @@ to_end (b ∷ bytes) (suc n) is lt =
 
 ends_at : (rest : List ℕ) (n : ℕ) → Some n ≡ position is_end rest → EndsAt rest n
 ends_at rest n e = let at = position_some is_end rest n (sym e) in to_end rest n at.0 at.1
-
-first_line : (all : List (List ℕ)) (first : List ℕ) (others : List (List ℕ)) → all ≡ first ∷ others → slice_index_or all 0 [] ≡ first
-first_line all first others e = ap (λ x. slice_index_or x 0 []) e
 
 -- a text without LF has no line of a certificate
 has_end : (front : List ℕ) → HasNoEnd (front ++ 10 ∷ []) → ⊥
@@ -128,20 +124,12 @@ is_next_line rest stage n m next item left e some due its others =
 abbrev pub reading : List ℕ → ℕ → ℕ → Stage → List ℕ → Reading
 reading text at count stage left = record { text = text; rest = drop at text; count = count; due = stage; left = left }
 
-one_more_line : (ls : List Line) (l : Line) → text_of (ls ++ l ∷ []) ≡ text_of ls ++ bytes_of l
-one_more_line [] l = nil_right (bytes_of l)
-  where
-    nil_right : (a : List ℕ) → a ++ [] ≡ a
-    nil_right [] = refl
-    nil_right (x ∷ a) = ap (λ r. x ∷ r) (nil_right a)
-one_more_line (m ∷ ls) l = ap (λ r. bytes_of m ++ r) (one_more_line ls l) ∙ sym (append_assoc (bytes_of m) (text_of ls) (bytes_of l))
-
 pub tells_line : (text : List ℕ) (at count : ℕ) (stage : Stage) (long : ℕ) (next : Stage) (item : Item) (left : List ℕ) (ls : List Line) (s : State) → IsNextLine (drop at text) stage long next item left
     → HasRead (reading text at count stage []) ls s → Tells (reading text at count stage []) (reading text (at + long) (count + 1) next left) ls s (record { line = count + 1; item = item })
 tells_line text at count stage long next item left ls s line read =
     let due = due_follows s line.line next (ap (λ d. next_stage d line.line) (sym read.due) ∙ line.follows) in
     NextLine line.line due.state refl line.tells refl due.follows line.spelled line.others (record {
-      text = read.text ∙ ap (λ r. text_of ls ++ r) (line.bytes ∙ ap (λ r. bytes_of line.line ++ r) (drop-drop long at text)) ∙ sym (append_assoc (text_of ls) (bytes_of line.line) (drop (at + long) text)) ∙ ap (λ b. b ++ drop (at + long) text) (sym (one_more_line ls line.line));
+      text = read.text ∙ ap (λ r. text_of ls ++ r) (line.bytes ∙ ap (λ r. bytes_of line.line ++ r) (drop-drop long at text)) ∙ sym (append_assoc (text_of ls) (bytes_of line.line) (drop (at + long) text)) ∙ ap (λ b. b ++ drop (at + long) text) (sym (text_append ls line.line));
       count = omega (arith, read.count, length-append ls (line.line ∷ []));
       due = due.due;
       run = run_one_more AtVersion s due.state ls line.line read.run due.follows;
@@ -196,19 +184,9 @@ over_due AtOver e = refl
 pub tells_nothing : (old new : Reading) (ls : List Line) (s : State) → HasRead old ls s → old.due ≡ stages.Over → old.rest ≡ [] → old.left ≡ [] → new ≡ old → Tells old new ls s (record { line = old.count; item = items.Over })
 tells_nothing old new ls s read over rest left same = NothingLeft refl refl (over_due s (sym read.due ∙ over)) rest left same
 
-begun : (b : ℕ) (others : List (List ℕ)) → slice_index_or (with_first b others) 0 [] ≡ [] → ⊥
-begun b [] e = absurd cc
-begun b (word ∷ words) e = absurd cc
-
-some_rest : (rest : List ℕ) → 0 < length rest → line_at rest 0 ≡ [] → ⊥
-some_rest [] lt e = absurd (omega arith)
-some_rest (b ∷ rest) lt e = elim (cases_Bool (is_end b)) [ inl end ↦ at_end end | inr inside ↦ in_line inside ]
-  where
-    at_end : is_end b ≡ true → ⊥
-    at_end end = let all : lines (b ∷ rest) ≡ (b ∷ []) ∷ lines rest = rw end refl in let both = sym (first_line (lines (b ∷ rest)) (b ∷ []) (lines rest) all) ∙ e in absurd (cc)
-
-    in_line : is_end b ≡ false → ⊥
-    in_line inside = let all : lines (b ∷ rest) ≡ with_first b (lines rest) = rw inside refl in begun b (lines rest) (sym (ap (λ x. slice_index_or x 0 []) all) ∙ e)
+some_rest_line : (rest : List ℕ) → 0 < length rest → line_at rest 0 ≡ [] → ⊥
+some_rest_line [] lt e = absurd (omega arith)
+some_rest_line (b ∷ rest) lt e = some_rest b rest e
 
 pub not_empty : (bytes : List ℕ) → (length bytes == 0) ≡ false → 0 < length bytes
 not_empty [] e = absurd cc
@@ -219,4 +197,4 @@ pub fault_told : (text : List ℕ) (at count : ℕ) (stage : Stage) (left : List
 fault_told text at count stage left ls s no_line more read =
     let P : List ℕ → Type 0 = λ rest. IsNoLine rest stage in
     none_due text at count stage left ls s (subst P (take_rest text at) no_line)
-    (λ over none. elim more [ inl some ↦ let Q : List ℕ → Type 0 = λ rest. 0 < length rest in some_rest (drop at text) (subst Q (take_rest text at) some) none | inr other ↦ other over ]) read
+    (λ over none. elim more [ inl some ↦ let Q : List ℕ → Type 0 = λ rest. 0 < length rest in some_rest_line (drop at text) (subst Q (take_rest text at) some) none | inr other ↦ other over ]) read

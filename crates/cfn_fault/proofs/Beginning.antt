@@ -1,14 +1,16 @@
 -- Which certificates begin with the lines that a text has.
-use Rattle.std.proofs.Common.{◌≡◌, ℕ, zero, suc, ◌<◌, ◌≤◌, ◌+◌, List, [], ◌∷◌, ◌++◌, length, refl, sym, ap, ap₂, subst, ◌∙◌, arith, append_assoc}
+use Rattle.std.proofs.Common.{◌≡◌, ℕ, zero, suc, ◌<◌, ◌≤◌, ◌+◌, List, [], ◌∷◌, ◌++◌, length, refl, sym, ap, ap₂, subst, ◌∙◌, arith, append_assoc, append-nil, true, false, inl, inr}
 use Rattle.std.proofs.lemmas.List.{map-append}
-use Rattle.std.specs.Prelude.{Option, Some, None, map, slice_index_or, codes}
+use Rattle.std.proofs.lemmas.Bool.{cases_Bool}
+use Rattle.std.specs.Prelude.{◌==◌, Option, Some, None, map, slice_index_or, codes}
 use Rattle.std.specs.List.{AllByRecursion}
 use Rattle.cfn_model.specs.declared.step.Step.{Step}
+use Rattle.cfn_model.specs.Words.{with_first}
 use Rattle.cfn_model.specs.Tree.{Tree, Open, Closed, Split}
 use Rattle.cfn_model.specs.Certificate.{Solution, Certificate}
 use Rattle.cfn_model.specs.Text.{text, step_words, split_words, tree_lines, best_lines, certificate_lines, spelling, IsSpelled}
 use Rattle.cfn_fault.specs.Fault.{lines, line_at, Begins, Makes, LeavesOpen, Closes, Splits}
-use Rattle.cfn_fault.specs.Lines.{Line, Version, Numbers, Lower, Root, Node, End, words_of, bytes_of, text_of, IsSpelledLine, tree_of_lines, best_of_lines, lines_of, State, AtVersion, AtOver, Follows, Runs}
+use Rattle.cfn_fault.specs.Lines.{Line, Version, Numbers, Lower, Root, Node, End, words_of, bytes_of, text_of, IsSpelledLine, lines_of_tree, lines_of_best, lines_of, State, AtVersion, AtOver, Follows, Runs}
 use Rattle.cfn_fault.specs.Decoding.{line_of}
 use Rattle.cfn_fault.proofs.Running.{same_end, run_split, runs_certificate, spelled_lines, spelled_front, spelled_back}
 use Rattle.cfn_fault.proofs.Decoding.{says}
@@ -22,22 +24,22 @@ block_words (step ∷ block) = ap (λ r. step_words step ∷ r) (block_words blo
 before_end : (block : List Step) (rest : List Line) → map words_of (map (λ step. Node (Makes step)) block ++ rest) ≡ map step_words block ++ map words_of rest
 before_end block rest = map-append words_of (map (λ step. Node (Makes step)) block) rest ∙ ap (λ x. x ++ map words_of rest) (block_words block)
 
-tree_words : (tree : Tree) → map words_of (tree_of_lines tree) ≡ tree_lines tree
+tree_words : (tree : Tree) → map words_of (lines_of_tree tree) ≡ tree_lines tree
 tree_words (Open block) = before_end block (Node LeavesOpen ∷ [])
 tree_words (Closed block) = before_end block (Node Closes ∷ [])
 tree_words (Split block x a first second) =
-    before_end block (Node (Splits x a) ∷ (tree_of_lines first ++ tree_of_lines second))
-    ∙ ap (λ r. map step_words block ++ split_words x a ∷ r) (map-append words_of (tree_of_lines first) (tree_of_lines second) ∙ ap₂ (λ a b. a ++ b) (tree_words first) (tree_words second))
+    before_end block (Node (Splits x a) ∷ (lines_of_tree first ++ lines_of_tree second))
+    ∙ ap (λ r. map step_words block ++ split_words x a ∷ r) (map-append words_of (lines_of_tree first) (lines_of_tree second) ∙ ap₂ (λ a b. a ++ b) (tree_words first) (tree_words second))
 
-best_words : (best : Option Solution) → map words_of (best_of_lines best) ≡ best_lines best
+best_words : (best : Option Solution) → map words_of (lines_of_best best) ≡ best_lines best
 best_words None = refl
 best_words (Some best) = refl
 
 pub certificate_words : (c : Certificate) → map words_of (lines_of c) ≡ certificate_lines c
 certificate_words c =
-    map-append words_of (Version ∷ Numbers c.variables c.functions c.upper ∷ Lower c.lower ∷ best_of_lines c.best) (Root ∷ (tree_of_lines c.tree ++ End ∷ []))
+    map-append words_of (Version ∷ Numbers c.variables c.functions c.upper ∷ Lower c.lower ∷ lines_of_best c.best) (Root ∷ (lines_of_tree c.tree ++ End ∷ []))
     ∙ ap₂ (λ a b. ((codes "wcspcert" ∷ codes "1" ∷ []) ∷ words_of (Numbers c.variables c.functions c.upper) ∷ words_of (Lower c.lower) ∷ a) ++ (codes "tree" ∷ []) ∷ b) (best_words c.best)
-    (map-append words_of (tree_of_lines c.tree) (End ∷ []) ∙ ap (λ t. t ++ (codes "end" ∷ []) ∷ []) (tree_words c.tree))
+    (map-append words_of (lines_of_tree c.tree) (End ∷ []) ∙ ap (λ t. t ++ (codes "end" ∷ []) ∷ []) (tree_words c.tree))
 
 text_words : (ls : List Line) → text (map words_of ls) ≡ text_of ls
 text_words [] = refl
@@ -46,12 +48,8 @@ text_words (l ∷ ls) = ap (λ r. bytes_of l ++ r) (text_words ls)
 pub spelling_is : (c : Certificate) → spelling c ≡ text_of (lines_of c)
 spelling_is c = ap text (sym (certificate_words c)) ∙ text_words (lines_of c)
 
-nil_right : {A : Type 0} (a : List A) → a ++ [] ≡ a
-nil_right [] = refl
-nil_right (x ∷ a) = ap (λ r. x ∷ r) (nil_right a)
-
 pub lines_of_spelling : (c : Certificate) → IsSpelled c → lines (spelling c) ≡ map bytes_of (lines_of c)
-lines_of_spelling c all = ap lines (spelling_is c ∙ sym (nil_right (text_of (lines_of c)))) ∙ lines_of_text (lines_of c) [] (spelled_lines c all) ∙ nil_right (map bytes_of (lines_of c))
+lines_of_spelling c all = ap lines (spelling_is c ∙ sym (append-nil (text_of (lines_of c)))) ∙ lines_of_text (lines_of c) [] (spelled_lines c all) ∙ append-nil (map bytes_of (lines_of c))
 
 -- one spelling is that of one line
 pub same_line : (a b : Line) → IsSpelledLine a → IsSpelledLine b → bytes_of a ≡ bytes_of b → a ≡ b
@@ -135,5 +133,22 @@ none_begins bytes rest ls s run spelled is no_line more c all begins =
 
 -- the text of one line more
 pub text_append : (ls : List Line) (l : Line) → text_of (ls ++ l ∷ []) ≡ text_of ls ++ bytes_of l
-text_append [] l = nil_right (bytes_of l)
+text_append [] l = append-nil (bytes_of l)
 text_append (m ∷ ls) l = ap (λ r. bytes_of m ++ r) (text_append ls l) ∙ sym (append_assoc (bytes_of m) (text_of ls) (bytes_of l))
+
+-- the first line of bytes that are there has a byte
+pub first_line : (all : List (List ℕ)) (first : List ℕ) (others : List (List ℕ)) → all ≡ first ∷ others → slice_index_or all 0 [] ≡ first
+first_line all first others e = ap (λ x. slice_index_or x 0 []) e
+
+begins_so : (b : ℕ) (others : List (List ℕ)) → slice_index_or (with_first b others) 0 [] ≡ [] → ⊥
+begins_so b [] e = absurd cc
+begins_so b (word ∷ words) e = absurd cc
+
+pub some_rest : (b : ℕ) (rest : List ℕ) → line_at (b ∷ rest) 0 ≡ [] → ⊥
+some_rest b rest e = elim (cases_Bool (b == 10)) [ inl end ↦ at_end end | inr inside ↦ in_line inside ]
+  where
+    at_end : (b == 10) ≡ true → ⊥
+    at_end end = let all : lines (b ∷ rest) ≡ (b ∷ []) ∷ lines rest = rw end refl in let both = sym (first_line (lines (b ∷ rest)) (b ∷ []) (lines rest) all) ∙ e in absurd (cc)
+
+    in_line : (b == 10) ≡ false → ⊥
+    in_line inside = let all : lines (b ∷ rest) ≡ with_first b (lines rest) = rw inside refl in begins_so b (lines rest) (sym (ap (λ x. slice_index_or x 0 []) all) ∙ e)

@@ -2,13 +2,12 @@
 use Rattle.std.proofs.Common.{◌≡◌, ℕ, zero, suc, ◌<◌, ◌≤◌, ◌+◌, ◌⊎◌, inl, inr, Bool, true, false, not, List, [], ◌∷◌, ◌++◌, length, refl, sym, ap, subst, ◌∙◌, arith, append_assoc, length-append}
 use Rattle.std.proofs.lemmas.Bool.{cases_lt, cases_eq, cases_Bool, eqb-true, and_from, not_from_false, and_parts}
 use Rattle.std.proofs.lemmas.Int.{ints}
-use Rattle.std.specs.Prelude.{Option, Some, None, ℤ, pos, negsuc, ◌≤ℤ◌, ◌+ℤ◌, slice_index, slice_index_or, IsTrue, IsFalse, ◌==◌}
+use Rattle.std.specs.Prelude.{Option, Some, None, ℤ, pos, negsuc, ◌≤ℤ◌, ◌+ℤ◌, slice_index, IsTrue, IsFalse, ◌==◌}
 use Rattle.std.specs.List.{list_all}
 use Rattle.cfn_model.specs.declared.step.Step.{Step}
 use Rattle.cfn_model.specs.declared.step.Step.TheVariants.{Project, Extend, Lift, CutValue, CutTuple}
 use Rattle.cfn_model.specs.declared.step.Event.{Event}
 use Rattle.cfn_model.specs.Network.{Network, Fits, cost, cells, cell, arity, variable_at, dims_at}
-use Rattle.cfn_model.specs.Words.{with_first}
 use Rattle.cfn_model.specs.Sums.{floor, unary, residual, is_live, is_live_tuple}
 use Rattle.cfn_model.specs.Steps.{IsValue, IsPlace, IsCell, InRange, Allowed}
 use Rattle.cfn_model.specs.Tree.{CanClose}
@@ -24,7 +23,7 @@ use Rattle.cfn_fault.specs.Laws.{GoodOrFault, Fronts}
 use Rattle.cfn_fault.proofs.Running.{run_one_more, spelled_append}
 use Rattle.cfn_fault.proofs.Decoding.{says, said_by}
 use Rattle.cfn_fault.proofs.Bytes.{HasNoEnd, line_back, same_words, lines_first, lines_last, fronted}
-use Rattle.cfn_fault.proofs.Beginning.{some_bytes, none_begins, text_append}
+use Rattle.cfn_fault.proofs.Beginning.{some_bytes, first_line, some_rest, none_begins, text_append}
 use Rattle.cfn_fault.proofs.Judging.{none_pass_yet, one_more_passes}
 use Rattle.cfn_fault.proofs.Faults.{text_faults, line_faults, whole_texts}
 
@@ -225,9 +224,6 @@ ends (b ∷ rest) = elim (cases_Bool (b == 10)) [
     one_more e (Never inside) = Never (and_from (not (b == 10)) (list_all (λ b. not (b == 10)) rest) (not_from_false (b == 10) e) inside)
     one_more e (Behind front others inside is) = Behind (b ∷ front) others (and_from (not (b == 10)) (list_all (λ b. not (b == 10)) front) (not_from_false (b == 10) e) inside) (ap (λ r. b ∷ r) is)
 
-first_line : (all : List (List ℕ)) (first : List ℕ) (others : List (List ℕ)) → all ≡ first ∷ others → slice_index_or all 0 [] ≡ first
-first_line all first others e = ap (λ x. slice_index_or x 0 []) e
-
 no_end_in : (front : List ℕ) → HasNoEnd (front ++ 10 ∷ []) → ⊥
 no_end_in [] e = absurd cc
 no_end_in (b ∷ front) e = no_end_in front (and_parts (not (b == 10)) (list_all (λ b. not (b == 10)) (front ++ 10 ∷ [])) e).1
@@ -294,19 +290,6 @@ next rest s = by_end (ends rest)
     by_end (Behind front others inside is) = next_by rest front others s inside is
 
 -- the lines one by one
-begun : (b : ℕ) (others : List (List ℕ)) → slice_index_or (with_first b others) 0 [] ≡ [] → ⊥
-begun b [] e = absurd cc
-begun b (word ∷ words) e = absurd cc
-
-some_rest : (b : ℕ) (rest : List ℕ) → line_at (b ∷ rest) 0 ≡ [] → ⊥
-some_rest b rest e = elim (cases_Bool (b == 10)) [ inl end ↦ at_end end | inr inside ↦ in_line inside ]
-  where
-    at_end : (b == 10) ≡ true → ⊥
-    at_end end = let all : lines (b ∷ rest) ≡ (b ∷ []) ∷ lines rest = rw end refl in let both = sym (first_line (lines (b ∷ rest)) (b ∷ []) (lines rest) all) ∙ e in absurd (cc)
-
-    in_line : (b == 10) ≡ false → ⊥
-    in_line inside = let all : lines (b ∷ rest) ≡ with_first b (lines rest) = rw inside refl in begun b (lines rest) (sym (ap (λ x. slice_index_or x 0 []) all) ∙ e)
-
 Judged : Network → List ℕ → Type 0
 Judged P bytes = ((c : Certificate) × Spells c bytes × Good P c) ⊎ ((l : ℕ) × (kind : FaultKind) × Fault P bytes l kind)
 

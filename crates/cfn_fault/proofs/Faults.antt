@@ -1,5 +1,5 @@
 -- One fault at most, none where the certificate is good, and what the lines of a text say of its fault.
-use Rattle.std.proofs.Common.{◌≡◌, ℕ, ◌<◌, ◌+◌, inl, inr, List, [], ◌∷◌, ◌++◌, length, map, refl, sym, ap, ap₂, subst, ◌∙◌, arith, append_assoc, length-append}
+use Rattle.std.proofs.Common.{◌≡◌, ℕ, ◌<◌, ◌+◌, inl, inr, List, [], ◌∷◌, ◌++◌, length, map, refl, sym, ap, ap₂, subst, ◌∙◌, arith, append_assoc, length-append, append-nil}
 use Rattle.std.proofs.lemmas.Bool.{cases_order}
 use Rattle.std.proofs.lemmas.List.{map-append}
 use Rattle.std.specs.Prelude.{Option, Some, None, slice_index_or}
@@ -12,11 +12,11 @@ use Rattle.cfn_model.specs.Certificate.{Solution, Certificate, Good, threshold, 
 use Rattle.cfn_model.specs.Text.{IsSpelled, Spells}
 use Rattle.cfn_fault.specs.declared.kind.FaultKind.{FaultKind}
 use Rattle.cfn_fault.specs.Fault.{lines, Begins, Item, Makes, LeavesOpen, Closes, Splits, Place, FailsStep, OutOfRange, NotAllowed, FailsPlace, FailsLine, OtherNetwork, NotBelow, NoSolution, AtPlace, Fails, AsText, InCertificate, First, LowerAbove}
-use Rattle.cfn_fault.specs.Lines.{Line, Version, Numbers, Lower, NoBest, Best, Values, Root, Node, End, bytes_of, text_of, IsSpelledLine, tree_of_lines, best_of_lines, lines_of, State, AtVersion, AtNumbers, AtLower, AtBest, AtValues, AtRoot, AtNodes, AtOver, Follows, Runs}
+use Rattle.cfn_fault.specs.Lines.{Line, Version, Numbers, Lower, NoBest, Best, Values, Root, Node, End, bytes_of, text_of, IsSpelledLine, lines_of_tree, lines_of_best, lines_of, State, AtVersion, AtNumbers, AtLower, AtBest, AtValues, AtRoot, AtNodes, AtOver, Follows, Runs}
 use Rattle.cfn_fault.specs.Judging.{threshold_in, lower_in, NodeFails, LineFails, AllPass, open_floors, lowest, bound_in}
-use Rattle.cfn_fault.specs.Laws.{OneFault, NoFaultWhereGood, TextFaults, LineFaults, WholeTexts, OneMorePasses}
-use Rattle.cfn_fault.proofs.Running.{same_end, run_split, runs_certificate, spelled_lines, spelled_front, nothing_over, told}
-use Rattle.cfn_fault.proofs.Beginning.{FrontOf, agree, lines_of_spelling, spelling_is}
+use Rattle.cfn_fault.specs.Laws.{OneFault, NoFaultWhereGood, SomeBegins, AllBegin, WholeSpells, TextFaults, LineFaults, WholeTexts, OneMorePasses}
+use Rattle.cfn_fault.proofs.Running.{same_end, run_split, runs_certificate, spelled_lines, spelled_front, nothing_over, told, begun}
+use Rattle.cfn_fault.proofs.Beginning.{FrontOf, agree, begins_with, front_of_lines, lines_of_spelling, spelling_is}
 use Rattle.cfn_fault.proofs.Placing.{fails_at, fails_line}
 use Rattle.cfn_fault.proofs.Judging.{none_fails, text_fault, line_fault, none_at_all, one_more_passes, same_front, same_head, same_tail, place_right}
 use Rattle.cfn_fault.proofs.Whole.{AllPlaces, places_by_valid, place_passes, good_by_lines, bound_by_lines}
@@ -123,7 +123,7 @@ good_line P c l kind good (AtPlace before behind at number is fails) =
 threshold_of_lines : (c : Certificate) → threshold_in (lines_of c) ≡ threshold c
 threshold_of_lines c = by_best c.best
   where
-    by_best : (best : Option Solution) → threshold_in ((Version ∷ Numbers c.variables c.functions c.upper ∷ Lower c.lower ∷ best_of_lines best) ++ Root ∷ (tree_of_lines c.tree ++ End ∷ [])) ≡ threshold_of c.upper best
+    by_best : (best : Option Solution) → threshold_in ((Version ∷ Numbers c.variables c.functions c.upper ∷ Lower c.lower ∷ lines_of_best best) ++ Root ∷ (lines_of_tree c.tree ++ End ∷ [])) ≡ threshold_of c.upper best
     by_best None = refl
     by_best (Some best) = refl
 
@@ -136,16 +136,12 @@ spelled_text c bytes l spells = let R : List ℕ → Type 0 = λ x. Begins c x l
 front_whole : (c other : Certificate) (bytes : List ℕ) → Spells c bytes → Spells other bytes → lines_of c ≡ lines_of other
 front_whole c other bytes sc so =
     let front = agree (lines_of other) (lines_of c) [] (spelled_lines other so.spelled) (spelled_lines c sc.spelled)
-    (λ i lt. ap (λ x. slice_index_or x i []) (sym (lines_of_spelling other so.spelled) ∙ ap lines (sym so.exact ∙ sc.exact) ∙ lines_of_spelling c sc.spelled ∙ sym (nil_right (map bytes_of (lines_of c))))) in
+    (λ i lt. ap (λ x. slice_index_or x i []) (sym (lines_of_spelling other so.spelled) ∙ ap lines (sym so.exact ∙ sc.exact) ∙ lines_of_spelling c sc.spelled ∙ sym (append-nil (map bytes_of (lines_of c))))) in
     let Q : List Line → Type 0 = λ x. Runs AtVersion x AtOver in
     let parts = run_split AtVersion AtOver (lines_of c) front.rest (subst Q front.whole (runs_certificate other)) in
     let R : State → Type 0 = λ x. Runs x front.rest AtOver in
     let over = nothing_over front.rest AtOver (subst R (same_end AtVersion parts.0 AtOver (lines_of c) parts.1 (runs_certificate c)) parts.2) in
-    sym (front.whole ∙ ap (λ x. lines_of c ++ x) over ∙ nil_right (lines_of c))
-  where
-    nil_right : {A : Type 0} (a : List A) → a ++ [] ≡ a
-    nil_right [] = refl
-    nil_right (x ∷ a) = ap (λ r. x ∷ r) (nil_right a)
+    sym (front.whole ∙ ap (λ x. lines_of c ++ x) over ∙ append-nil (lines_of c))
 
 pub no_fault_where_good : NoFaultWhereGood
 no_fault_where_good P bytes c l kind spells good (First (AsText is never) before) = never c spells.spelled (spelled_text c bytes l spells)
@@ -159,6 +155,18 @@ no_fault_where_good P bytes c l kind spells good (LowerAbove other number is non
     let lower : c.lower ≡ other.lower = ap lower_in same in
     let bounds : bound P [] c.tree (threshold c) ≡ bound P [] other.tree (threshold other) = bound_of_lines P c ∙ ap (bound_in P) same ∙ sym (bound_of_lines P other) in
     absurd (omega (arith, good.lower))
+
+-- what lines say of certificates
+pub some_begins : SomeBegins
+some_begins bytes rest ls s fronts = let c = begun ls s fronts.run fronts.spelled in (c.certificate, c.spelled, begins_with c.certificate bytes rest ls c.rest c.spelled c.lines fronts.text)
+
+pub all_begin : AllBegin
+all_begin bytes rest ls s c fronts spelled begins = let front = front_of_lines c bytes rest ls (length ls) spelled fronts.spelled fronts.text (omega arith) begins in (front.rest, front.whole)
+
+pub whole_spells : WholeSpells
+whole_spells bytes ls fronts =
+    let c = told ls fronts.run fronts.spelled in
+    (c.certificate, record { spelled = c.spelled; exact = fronts.text ∙ append-nil (text_of ls) ∙ ap text_of c.lines ∙ sym (spelling_is c.certificate) }, sym c.lines)
 
 -- what a checker that goes over the lines may conclude
 pub text_faults : TextFaults
@@ -179,7 +187,7 @@ line_faults P bytes rest ls s t l kind run fronts all fails =
 pub whole_texts : WholeTexts
 whole_texts P bytes ls fronts all =
     let c = told ls fronts.run fronts.spelled in
-    let text : bytes ≡ text_of ls = fronts.text ∙ nil_right (text_of ls) in
+    let text : bytes ≡ text_of ls = fronts.text ∙ append-nil (text_of ls) in
     let spells : Spells c.certificate bytes = record { spelled = c.spelled; exact = text ∙ ap text_of c.lines ∙ sym (spelling_is c.certificate) } in
     let Q : List Line → Type 0 = AllPass P in
     let bounds : bound P [] c.certificate.tree (threshold c.certificate) ≡ bound_in P ls = bound_of_lines P c.certificate ∙ ap (bound_in P) (sym c.lines) in
@@ -192,10 +200,6 @@ whole_texts P bytes ls fronts all =
         fault = λ lt. LowerAbove c.certificate refl refl (none_at_all P bytes ls fronts.run fronts.spelled text (none_fails P ls all)) spells (omega arith);
       },
     )
-  where
-    nil_right : {A : Type 0} (a : List A) → a ++ [] ≡ a
-    nil_right [] = refl
-    nil_right (x ∷ a) = ap (λ r. x ∷ r) (nil_right a)
 
 pub one_more : OneMorePasses
 one_more = one_more_passes

@@ -1,6 +1,6 @@
 -- A text whose lines are right up to one that fails has its fault there; where all are right, the certificate is good but
 -- for its lower bound.
-use Rattle.std.proofs.Common.{◌≡◌, ℕ, zero, suc, ◌≤◌, ◌+◌, ◌⊎◌, inl, inr, List, [], ◌∷◌, ◌++◌, length, refl, sym, ap, ap₂, subst, ◌∙◌, arith, append_assoc, length-append}
+use Rattle.std.proofs.Common.{◌≡◌, ℕ, zero, suc, ◌≤◌, ◌+◌, ◌⊎◌, inl, inr, List, [], ◌∷◌, ◌++◌, length, refl, sym, ap, ap₂, subst, ◌∙◌, arith, append_assoc, length-append, append-nil}
 use Rattle.std.proofs.lemmas.Bool.{cases_lt}
 use Rattle.std.proofs.lemmas.Grind.{flat_map-append}
 use Rattle.std.specs.List.{AllByRecursion}
@@ -154,10 +154,6 @@ line_fault P bytes rest ls s t l kind run follows spelled is none fails =
     (λ earlier other lt before. none_before P bytes (text_of (l ∷ []) ++ rest) ls s run (spelled_front ls (l ∷ []) spelled) front none earlier other (omega arith) before)
 
 -- where all lines of a whole text are right, none fails
-nil_right : {A : Type 0} (a : List A) → a ++ [] ≡ a
-nil_right [] = refl
-nil_right (x ∷ a) = ap (λ r. x ∷ r) (nil_right a)
-
 pub none_at_all : (P : Network) (bytes : List ℕ) (ls : List Line) → Runs AtVersion ls AtOver → AllByRecursion IsSpelledLine ls → bytes ≡ text_of ls → NoneFails P ls → (l : ℕ) (kind : FaultKind) → Fails P bytes l kind → ⊥
 none_at_all P bytes ls run spelled is none l kind (AsText text never) =
     let c = told ls run spelled in
@@ -166,14 +162,14 @@ none_at_all P bytes ls run spelled is none l kind (AsText text never) =
     never c.certificate c.spelled (subst R same (λ i lt. refl))
 none_at_all P bytes ls run spelled is none l kind (InCertificate c all begins fails) =
     elim (cases_lt (length ls) l) [
-      | inr le ↦ none_before P bytes [] ls AtOver run spelled (is ∙ sym (nil_right (text_of ls))) none l kind le (InCertificate c all begins fails)
+      | inr le ↦ none_before P bytes [] ls AtOver run spelled (is ∙ sym (append-nil (text_of ls))) none l kind le (InCertificate c all begins fails)
       | inl lt ↦
           let at = fails_at P c l kind fails in
-          let its = front_of_lines c bytes [] ls l all spelled (is ∙ sym (nil_right (text_of ls))) (omega arith) begins in
+          let its = front_of_lines c bytes [] ls l all spelled (is ∙ sym (append-nil (text_of ls))) (omega arith) begins in
           let Q : List Line → Type 0 = λ x. Runs AtVersion x AtOver in
           let parts = run_split AtVersion AtOver ls its.rest (subst Q its.whole (runs_certificate c)) in
           let R : State → Type 0 = λ x. Runs x its.rest AtOver in
           let over : its.rest ≡ [] = nothing_over its.rest AtOver (subst R (same_end AtVersion parts.0 AtOver ls parts.1 run) parts.2) in
-          let both : at.front ++ at.line ∷ at.back ≡ ls = sym at.whole ∙ its.whole ∙ ap (λ x. ls ++ x) over ∙ nil_right ls in
+          let both : at.front ++ at.line ∷ at.back ≡ ls = sym at.whole ∙ its.whole ∙ ap (λ x. ls ++ x) over ∙ append-nil ls in
           absurd (omega (arith, ap length both, length-append at.front (at.line ∷ at.back), at.number))
     ]

@@ -1,5 +1,5 @@
 -- The places of a tree, found by its lines; and a line that fails in a certificate, found by the lines before it.
-use Rattle.std.proofs.Common.{◌≡◌, ℕ, ◌+◌, List, [], ◌∷◌, ◌++◌, length, map, refl, sym, ap, subst, ◌∙◌, arith, append_assoc, length-append}
+use Rattle.std.proofs.Common.{◌≡◌, ℕ, ◌+◌, List, [], ◌∷◌, ◌++◌, length, map, refl, sym, ap, subst, ◌∙◌, arith, append_assoc, length-append, append-nil}
 use Rattle.std.specs.Prelude.{Option, Some, None}
 use Rattle.cfn_model.specs.declared.step.Step.{Step}
 use Rattle.cfn_model.specs.declared.step.Event.{Event}
@@ -11,7 +11,7 @@ use Rattle.cfn_model.specs.Certificate.{Solution, Certificate, threshold, thresh
 use Rattle.cfn_model.specs.Text.{head_lines}
 use Rattle.cfn_fault.specs.declared.kind.FaultKind.{FaultKind}
 use Rattle.cfn_fault.specs.Fault.{Item, Makes, LeavesOpen, Closes, Splits, Place, place, block_places, places, FailsPlace, FailsLine, OtherNetwork, NotBelow, NoSolution, AtPlace}
-use Rattle.cfn_fault.specs.Lines.{Line, Version, Numbers, Lower, NoBest, Best, Values, Root, Node, End, tree_of_lines, best_of_lines, lines_of, State, AtVersion, AtNumbers, AtLower, AtBest, AtValues, AtRoot, AtNodes, AtOver, paths_after, Follows, VersionFollows, NumbersFollow, LowerFollows, NoBestFollows, BestFollows, ValuesFollow, RootFollows, NodeFollows, EndFollows, Runs}
+use Rattle.cfn_fault.specs.Lines.{Line, Version, Numbers, Lower, NoBest, Best, Values, Root, Node, End, lines_of_tree, lines_of_best, lines_of, State, AtVersion, AtNumbers, AtLower, AtBest, AtValues, AtRoot, AtNodes, AtOver, paths_after, Follows, VersionFollows, NumbersFollow, LowerFollows, NoBestFollows, BestFollows, ValuesFollow, RootFollows, NodeFollows, EndFollows, Runs}
 use Rattle.cfn_fault.specs.Judging.{threshold_in, LineFails}
 use Rattle.cfn_fault.proofs.Running.{same_end, run_append, run_split}
 
@@ -32,14 +32,14 @@ walk_leaf history paths block item ls none =
     ap (walk (history ∷ paths)) (append_assoc (map (λ step. Node (Makes step)) block) (Node item ∷ []) ls) ∙ walk_block history paths block (Node item ∷ ls)
     ∙ ap (λ p. block_places history block ++ place (after block history) item ∷ walk (p ++ paths) ls) none ∙ sym (append_assoc (block_places history block) (place (after block history) item ∷ []) (walk paths ls))
 
-pub walk_tree : (history : List Event) (paths : List (List Event)) (tree : Tree) (ls : List Line) → walk (history ∷ paths) (tree_of_lines tree ++ ls) ≡ places history tree ++ walk paths ls
+pub walk_tree : (history : List Event) (paths : List (List Event)) (tree : Tree) (ls : List Line) → walk (history ∷ paths) (lines_of_tree tree ++ ls) ≡ places history tree ++ walk paths ls
 walk_tree history paths (Open block) ls = walk_leaf history paths block LeavesOpen ls refl
 walk_tree history paths (Closed block) ls = walk_leaf history paths block Closes ls refl
 walk_tree history paths (Split block x a first second) ls =
     let h = after block history in
     let steps = map (λ step. Node (Makes step)) block in
-    let firsts = tree_of_lines first in
-    let seconds = tree_of_lines second in
+    let firsts = lines_of_tree first in
+    let seconds = lines_of_tree second in
     ap (walk (history ∷ paths)) (append_assoc steps (Node (Splits x a) ∷ (firsts ++ seconds)) ls) ∙ walk_block history paths block (Node (Splits x a) ∷ ((firsts ++ seconds) ++ ls))
     ∙ ap (λ r. block_places history block ++ place h (Splits x a) ∷ r)
     (ap (walk ((Is x a ∷ h) ∷ (IsNot x a ∷ h) ∷ paths)) (append_assoc firsts seconds ls) ∙ walk_tree (Is x a ∷ h) ((IsNot x a ∷ h) ∷ paths) first (seconds ++ ls)
@@ -110,7 +110,7 @@ place_of_line (l ∷ front) paths back item history others run = by_follow paths
 
 -- a certificate's lines before its tree
 abbrev pub heads : ℕ → ℕ → ℕ → ℕ → Option Solution → List Line
-heads n e upper lower best = Version ∷ Numbers n e upper ∷ Lower lower ∷ best_of_lines best
+heads n e upper lower best = Version ∷ Numbers n e upper ∷ Lower lower ∷ lines_of_best best
 
 abbrev pub heads_of : Certificate → List Line
 heads_of c = heads c.variables c.functions c.upper c.lower c.best
@@ -132,12 +132,8 @@ head_count c best is =
     by_best None = refl
     by_best (Some b) = refl
 
-nil_right : {A : Type 0} (a : List A) → a ++ [] ≡ a
-nil_right [] = refl
-nil_right (x ∷ a) = ap (λ r. x ∷ r) (nil_right a)
-
-pub walk_nodes : (tree : Tree) → walk ([] ∷ []) (tree_of_lines tree ++ End ∷ []) ≡ places [] tree
-walk_nodes tree = walk_tree [] [] tree (End ∷ []) ∙ nil_right (places [] tree)
+pub walk_nodes : (tree : Tree) → walk ([] ∷ []) (lines_of_tree tree ++ End ∷ []) ≡ places [] tree
+walk_nodes tree = walk_tree [] [] tree (End ∷ []) ∙ append-nil (places [] tree)
 
 -- a line that fails in a certificate, with the lines before it
 pub record FailsAt (P : Network) (c : Certificate) (l : ℕ) (kind : FaultKind) : Type 0 where
@@ -151,7 +147,7 @@ pub record FailsAt (P : Network) (c : Certificate) (l : ℕ) (kind : FaultKind) 
   pub fails : LineFails P front state line kind
 
 nodes_of : Tree → List Line
-nodes_of tree = tree_of_lines tree ++ End ∷ []
+nodes_of tree = lines_of_tree tree ++ End ∷ []
 
 -- a place of a certificate's tree is one of its lines
 pub record PlaceLine (c : Certificate) (before : List Place) (at : Place) : Type 0 where
@@ -183,7 +179,7 @@ unfolding nodes_of
 fails_at P c l kind (OtherNetwork number is other) = record {
   front = Version ∷ [];
   line = Numbers c.variables c.functions c.upper;
-  back = Lower c.lower ∷ (best_of_lines c.best ++ Root ∷ nodes_of c.tree);
+  back = Lower c.lower ∷ (lines_of_best c.best ++ Root ∷ nodes_of c.tree);
   state = AtNumbers;
   whole = refl;
   number = number;
@@ -241,15 +237,15 @@ unfolding AllNodes IsNodeLine
 block_nodes [] = tt
 block_nodes (step ∷ block) = (tt, block_nodes block)
 
-tree_nodes : (tree : Tree) → AllNodes (tree_of_lines tree)
+tree_nodes : (tree : Tree) → AllNodes (lines_of_tree tree)
 unfolding AllNodes IsNodeLine
 tree_nodes (Open block) = nodes_append _ (Node LeavesOpen ∷ []) (block_nodes block) (tt, tt)
 tree_nodes (Closed block) = nodes_append _ (Node Closes ∷ []) (block_nodes block) (tt, tt)
-tree_nodes (Split block x a first second) = nodes_append _ (Node (Splits x a) ∷ (tree_of_lines first ++ tree_of_lines second)) (block_nodes block) (tt, nodes_append _ _ (tree_nodes first) (tree_nodes second))
+tree_nodes (Split block x a first second) = nodes_append _ (Node (Splits x a) ∷ (lines_of_tree first ++ lines_of_tree second)) (block_nodes block) (tt, nodes_append _ _ (tree_nodes first) (tree_nodes second))
 
 all_nodes : (tree : Tree) → AllNodes (nodes_of tree)
 unfolding nodes_of AllNodes IsNodeLine
-all_nodes tree = nodes_append (tree_of_lines tree) (End ∷ []) (tree_nodes tree) (tt, tt)
+all_nodes tree = nodes_append (lines_of_tree tree) (End ∷ []) (tree_nodes tree) (tt, tt)
 
 node_there : (front : List Line) (l : Line) (back : List Line) → AllNodes (front ++ l ∷ back) → IsNodeLine l
 unfolding AllNodes

@@ -10,7 +10,7 @@ use Rattle.cfn_model.specs.Tree.{Tree, Open, Closed, Split}
 use Rattle.cfn_model.specs.Certificate.{Solution, Certificate}
 use Rattle.cfn_model.specs.Text.{IsSpelledStep, IsSpelledTree, IsSpelledBest, IsSpelled}
 use Rattle.cfn_fault.specs.Fault.{Item, Makes, LeavesOpen, Closes, Splits}
-use Rattle.cfn_fault.specs.Lines.{Line, Version, Numbers, Lower, NoBest, Best, Values, Root, Node, End, IsSpelledLine, tree_of_lines, best_of_lines, lines_of, State, AtVersion, AtNumbers, AtLower, AtBest, AtValues, AtRoot, AtNodes, AtOver, paths_after, Follows, VersionFollows, NumbersFollow, LowerFollows, NoBestFollows, BestFollows, ValuesFollow, RootFollows, NodeFollows, EndFollows, Runs}
+use Rattle.cfn_fault.specs.Lines.{Line, Version, Numbers, Lower, NoBest, Best, Values, Root, Node, End, IsSpelledLine, lines_of_tree, lines_of_best, lines_of, State, AtVersion, AtNumbers, AtLower, AtBest, AtValues, AtRoot, AtNodes, AtOver, paths_after, Follows, VersionFollows, NumbersFollow, LowerFollows, NoBestFollows, BestFollows, ValuesFollow, RootFollows, NodeFollows, EndFollows, Runs}
 
 pub same_follow : (s : State) (l : Line) (t u : State) → Follows s l t → Follows s l u → t ≡ u
 same_follow s l t u VersionFollows VersionFollows = refl
@@ -49,29 +49,29 @@ runs_block : (history : List Event) (paths : List (List Event)) (block : List St
 runs_block history paths [] = refl
 runs_block history paths (step ∷ block) = (AtNodes ((Did step ∷ history) ∷ paths), NodeFollows, runs_block (Did step ∷ history) paths block)
 
-pub runs_tree : (history : List Event) (paths : List (List Event)) (tree : Tree) → Runs (AtNodes (history ∷ paths)) (tree_of_lines tree) (AtNodes paths)
+pub runs_tree : (history : List Event) (paths : List (List Event)) (tree : Tree) → Runs (AtNodes (history ∷ paths)) (lines_of_tree tree) (AtNodes paths)
 runs_tree history paths (Open block) = run_append _ _ _ _ _ (runs_block history paths block) (AtNodes paths, NodeFollows, refl)
 runs_tree history paths (Closed block) = run_append _ _ _ _ _ (runs_block history paths block) (AtNodes paths, NodeFollows, refl)
 runs_tree history paths (Split block x a first second) =
-    run_append (AtNodes (history ∷ paths)) (AtNodes (after block history ∷ paths)) (AtNodes paths) _ (Node (Splits x a) ∷ (tree_of_lines first ++ tree_of_lines second)) (runs_block history paths block) (
+    run_append (AtNodes (history ∷ paths)) (AtNodes (after block history ∷ paths)) (AtNodes paths) _ (Node (Splits x a) ∷ (lines_of_tree first ++ lines_of_tree second)) (runs_block history paths block) (
       AtNodes ((Is x a ∷ after block history) ∷ (IsNot x a ∷ after block history) ∷ paths),
       NodeFollows,
       run_append _ _ _ _ _ (runs_tree (Is x a ∷ after block history) ((IsNot x a ∷ after block history) ∷ paths) first) (runs_tree (IsNot x a ∷ after block history) paths second),
     )
 
 abbrev head_of : Certificate → List Line
-head_of c = Version ∷ Numbers c.variables c.functions c.upper ∷ Lower c.lower ∷ best_of_lines c.best
+head_of c = Version ∷ Numbers c.variables c.functions c.upper ∷ Lower c.lower ∷ lines_of_best c.best
 
-runs_best : (best : Option Solution) → Runs AtBest (best_of_lines best) AtRoot
+runs_best : (best : Option Solution) → Runs AtBest (lines_of_best best) AtRoot
 runs_best None = (AtRoot, NoBestFollows, refl)
 runs_best (Some best) = (AtValues, BestFollows, (AtRoot, ValuesFollow, refl))
 
-runs_nodes : (tree : Tree) → Runs AtRoot (Root ∷ (tree_of_lines tree ++ End ∷ [])) AtOver
+runs_nodes : (tree : Tree) → Runs AtRoot (Root ∷ (lines_of_tree tree ++ End ∷ [])) AtOver
 runs_nodes tree = (AtNodes ([] ∷ []), RootFollows, run_append _ _ _ _ _ (runs_tree [] [] tree) (AtOver, EndFollows, refl))
 
 pub runs_certificate : (c : Certificate) → Runs AtVersion (lines_of c) AtOver
 runs_certificate c =
-    run_append _ _ _ (head_of c) (Root ∷ (tree_of_lines c.tree ++ End ∷ [])) (AtNumbers, VersionFollows, (AtLower, NumbersFollow, (AtBest, LowerFollows, runs_best c.best))) (runs_nodes c.tree)
+    run_append _ _ _ (head_of c) (Root ∷ (lines_of_tree c.tree ++ End ∷ [])) (AtNumbers, VersionFollows, (AtLower, NumbersFollow, (AtBest, LowerFollows, runs_best c.best))) (runs_nodes c.tree)
 
 -- its lines are spelled where it is
 pub spelled_append : (a b : List Line) → AllByRecursion IsSpelledLine a → AllByRecursion IsSpelledLine b → AllByRecursion IsSpelledLine (a ++ b)
@@ -90,19 +90,19 @@ spelled_block : (block : List Step) → AllByRecursion IsSpelledStep block → A
 spelled_block [] all = tt
 spelled_block (step ∷ block) all = (all.0, spelled_block block all.1)
 
-spelled_tree : (tree : Tree) → IsSpelledTree tree → AllByRecursion IsSpelledLine (tree_of_lines tree)
+spelled_tree : (tree : Tree) → IsSpelledTree tree → AllByRecursion IsSpelledLine (lines_of_tree tree)
 spelled_tree (Open block) all = spelled_append _ (Node LeavesOpen ∷ []) (spelled_block block all) (tt, tt)
 spelled_tree (Closed block) all = spelled_append _ (Node Closes ∷ []) (spelled_block block all) (tt, tt)
 spelled_tree (Split block x a first second) all =
-    spelled_append _ (Node (Splits x a) ∷ (tree_of_lines first ++ tree_of_lines second)) (spelled_block block all.0) ((all.1, all.2), spelled_append _ _ (spelled_tree first all.3) (spelled_tree second all.4))
+    spelled_append _ (Node (Splits x a) ∷ (lines_of_tree first ++ lines_of_tree second)) (spelled_block block all.0) ((all.1, all.2), spelled_append _ _ (spelled_tree first all.3) (spelled_tree second all.4))
 
-spelled_best : (best : Option Solution) → IsSpelledBest best → AllByRecursion IsSpelledLine (best_of_lines best)
+spelled_best : (best : Option Solution) → IsSpelledBest best → AllByRecursion IsSpelledLine (lines_of_best best)
 spelled_best None all = (tt, tt)
 spelled_best (Some best) all = (all.0, ((all.1, all.2), tt))
 
 pub spelled_lines : (c : Certificate) → IsSpelled c → AllByRecursion IsSpelledLine (lines_of c)
 spelled_lines c all =
-    spelled_append (head_of c) (Root ∷ (tree_of_lines c.tree ++ End ∷ [])) (tt, ((all.variables, all.functions, all.upper), (all.lower, spelled_best c.best all.best)))
+    spelled_append (head_of c) (Root ∷ (lines_of_tree c.tree ++ End ∷ [])) (tt, ((all.variables, all.functions, all.upper), (all.lower, spelled_best c.best all.best)))
     (tt, spelled_append _ (End ∷ []) (spelled_tree c.tree all.tree) (tt, tt))
 
 -- lines that end the text from any state
@@ -159,7 +159,7 @@ with_step step (Open block) = Open (step ∷ block)
 with_step step (Closed block) = Closed (step ∷ block)
 with_step step (Split block x a first second) = Split (step ∷ block) x a first second
 
-lines_with_step : (step : Step) (tree : Tree) → tree_of_lines (with_step step tree) ≡ Node (Makes step) ∷ tree_of_lines tree
+lines_with_step : (step : Step) (tree : Tree) → lines_of_tree (with_step step tree) ≡ Node (Makes step) ∷ lines_of_tree tree
 unfolding with_step
 lines_with_step step (Open block) = refl
 lines_with_step step (Closed block) = refl
@@ -168,7 +168,7 @@ lines_with_step step (Split block x a first second) = refl
 -- trees for the paths that are due, whose lines are these
 data Forest : List (List Event) → List Line → Type 0 where
   NoTree : Forest [] (End ∷ [])
-  MoreTrees : {path : List Event} {paths : List (List Event)} {lines : List Line} (tree : Tree) (rest : List Line) → IsSpelledTree tree → lines ≡ tree_of_lines tree ++ rest → Forest paths rest → Forest (path ∷ paths) lines
+  MoreTrees : {path : List Event} {paths : List (List Event)} {lines : List Line} (tree : Tree) (rest : List Line) → IsSpelledTree tree → lines ≡ lines_of_tree tree ++ rest → Forest paths rest → Forest (path ∷ paths) lines
 
 nothing_follows : (l : Line) (m : State) → Follows AtOver l m → ⊥
 nothing_follows l m follows = elim follows [ ]
@@ -189,7 +189,7 @@ step_forest path history paths step ls one (MoreTrees tree rest all same forest)
 
 split_forest : (p q history : List Event) (paths : List (List Event)) (x a : ℕ) (ls : List Line) → IsSpelledLine (Node (Splits x a)) → Forest (p ∷ q ∷ paths) ls → Forest (history ∷ paths) (Node (Splits x a) ∷ ls)
 split_forest p q history paths x a ls one (MoreTrees first rest all same (MoreTrees second behind others its forest)) =
-    MoreTrees (Split [] x a first second) behind (tt, one.0, one.1, all, others) (ap (λ x'. Node (Splits x a) ∷ x') (same ∙ ap (λ r. tree_of_lines first ++ r) its ∙ sym (append_assoc (tree_of_lines first) (tree_of_lines second) behind))) forest
+    MoreTrees (Split [] x a first second) behind (tt, one.0, one.1, all, others) (ap (λ x'. Node (Splits x a) ∷ x') (same ∙ ap (λ r. lines_of_tree first ++ r) its ∙ sym (append_assoc (lines_of_tree first) (lines_of_tree second) behind))) forest
 
 node_forest : (history : List Event) (paths : List (List Event)) (item : Item) (ls : List Line) → IsSpelledLine (Node item) → Forest (paths_after history item ++ paths) ls → Forest (history ∷ paths) (Node item ∷ ls)
 node_forest history paths (Makes step) ls one forest = step_forest (Did step ∷ history) history paths step ls one forest
@@ -213,7 +213,7 @@ forest : (ls : List Line) (paths : List (List Event)) → Runs (AtNodes paths) l
 forest [] paths run spelled = absurd (not_over paths run)
 forest (l ∷ ls) paths run spelled = forest_by ls paths l run.0 run.1 run.2 spelled.0 (λ more rest. forest ls more rest spelled.1)
 
-one_tree : (path : List Event) (ls : List Line) → Forest (path ∷ []) ls → (tree : Tree) × IsSpelledTree tree × (ls ≡ tree_of_lines tree ++ End ∷ [])
+one_tree : (path : List Event) (ls : List Line) → Forest (path ∷ []) ls → (tree : Tree) × IsSpelledTree tree × (ls ≡ lines_of_tree tree ++ End ∷ [])
 one_tree path ls (MoreTrees tree rest all same NoTree) = (tree, all, same)
 
 -- lines that run to the end are those of one certificate
@@ -223,13 +223,13 @@ pub record Told (ls : List Line) : Type 0 where
   pub lines : ls ≡ lines_of certificate
 
 abbrev nodes_of : Tree → List Line
-nodes_of tree = Root ∷ (tree_of_lines tree ++ End ∷ [])
+nodes_of tree = Root ∷ (lines_of_tree tree ++ End ∷ [])
 
 FromRoot : List Line → Type 0
 FromRoot ls = (tree : Tree) × IsSpelledTree tree × (ls ≡ nodes_of tree)
 
 FromBest : List Line → Type 0
-FromBest ls = (best : Option Solution) × (tree : Tree) × IsSpelledBest best × IsSpelledTree tree × (ls ≡ best_of_lines best ++ nodes_of tree)
+FromBest ls = (best : Option Solution) × (tree : Tree) × IsSpelledBest best × IsSpelledTree tree × (ls ≡ lines_of_best best ++ nodes_of tree)
 
 root_by : (l : Line) (m : State) (ls : List Line) → Follows AtRoot l m → Runs m ls AtOver → AllByRecursion IsSpelledLine ls → FromRoot (l ∷ ls)
 unfolding FromRoot

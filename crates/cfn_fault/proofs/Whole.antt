@@ -1,5 +1,5 @@
 -- A certificate whose lines are all right is good but for its lower bound, and the floors of its open leaves say its bound.
-use Rattle.std.proofs.Common.{◌≡◌, ℕ, ◌≤◌, min, List, [], ◌∷◌, ◌++◌, map, refl, sym, ap, ap₂, subst, ◌∙◌, arith, append_assoc}
+use Rattle.std.proofs.Common.{◌≡◌, ℕ, ◌≤◌, min, List, [], ◌∷◌, ◌++◌, map, refl, sym, ap, ap₂, subst, ◌∙◌, arith, append_assoc, append-nil}
 use Rattle.std.specs.Prelude.{Option, Some, None}
 use Rattle.cfn_model.specs.declared.step.Step.{Step}
 use Rattle.cfn_model.specs.declared.step.Event.{Event}
@@ -10,7 +10,7 @@ use Rattle.cfn_model.specs.Steps.{Run, after}
 use Rattle.cfn_model.specs.Tree.{Tree, Open, Closed, Split, Valid, bound}
 use Rattle.cfn_model.specs.Certificate.{Solution, Certificate, Good, threshold, IsBest}
 use Rattle.cfn_fault.specs.Fault.{Item, Makes, LeavesOpen, Closes, Splits, Place, block_places, places}
-use Rattle.cfn_fault.specs.Lines.{Line, Version, Numbers, Lower, Best, Values, Root, Node, End, tree_of_lines, best_of_lines, lines_of, State, AtVersion, AtNumbers, AtLower, AtBest, AtValues, AtRoot, AtNodes, AtOver, paths_after, Follows, VersionFollows, NumbersFollow, LowerFollows, NoBestFollows, BestFollows, ValuesFollow, RootFollows, NodeFollows, EndFollows, Runs}
+use Rattle.cfn_fault.specs.Lines.{Line, Version, Numbers, Lower, Best, Values, Root, Node, End, lines_of_tree, lines_of_best, lines_of, State, AtVersion, AtNumbers, AtLower, AtBest, AtValues, AtRoot, AtNodes, AtOver, paths_after, Follows, VersionFollows, NumbersFollow, LowerFollows, NoBestFollows, BestFollows, ValuesFollow, RootFollows, NodeFollows, EndFollows, Runs}
 use Rattle.cfn_fault.specs.Judging.{PassesPlace, AllPass, floor_at, open_floors, lowest}
 use Rattle.cfn_fault.proofs.Placing.{place_line, heads}
 
@@ -87,14 +87,14 @@ valid_by_lines P c all =
 best_by_lines : (P : Network) (c : Certificate) (best : Option Solution) → c.best ≡ best → AllPass P (lines_of c) → IsBest P best
 best_by_lines P c None is all = tt
 best_by_lines P c (Some best) is all =
-    let whole : lines_of c ≡ heads c.variables c.functions c.upper c.lower (Some best) ++ Root ∷ (tree_of_lines c.tree ++ End ∷ []) = ap (λ b. heads c.variables c.functions c.upper c.lower b ++ Root ∷ (tree_of_lines c.tree ++ End ∷ [])) is in
-    let below = all (Version ∷ Numbers c.variables c.functions c.upper ∷ Lower c.lower ∷ []) (Values best.values ∷ Root ∷ (tree_of_lines c.tree ++ End ∷ [])) (Best best.cost) AtBest whole (AtNumbers, VersionFollows, (AtLower, NumbersFollow, (AtBest, LowerFollows, refl))) in
-    let fits = all (Version ∷ Numbers c.variables c.functions c.upper ∷ Lower c.lower ∷ Best best.cost ∷ []) (Root ∷ (tree_of_lines c.tree ++ End ∷ [])) (Values best.values) AtValues whole (AtNumbers, VersionFollows, (AtLower, NumbersFollow, (AtBest, LowerFollows, (AtValues, BestFollows, refl)))) in
+    let whole : lines_of c ≡ heads c.variables c.functions c.upper c.lower (Some best) ++ Root ∷ (lines_of_tree c.tree ++ End ∷ []) = ap (λ b. heads c.variables c.functions c.upper c.lower b ++ Root ∷ (lines_of_tree c.tree ++ End ∷ [])) is in
+    let below = all (Version ∷ Numbers c.variables c.functions c.upper ∷ Lower c.lower ∷ []) (Values best.values ∷ Root ∷ (lines_of_tree c.tree ++ End ∷ [])) (Best best.cost) AtBest whole (AtNumbers, VersionFollows, (AtLower, NumbersFollow, (AtBest, LowerFollows, refl))) in
+    let fits = all (Version ∷ Numbers c.variables c.functions c.upper ∷ Lower c.lower ∷ Best best.cost ∷ []) (Root ∷ (lines_of_tree c.tree ++ End ∷ [])) (Values best.values) AtValues whole (AtNumbers, VersionFollows, (AtLower, NumbersFollow, (AtBest, LowerFollows, (AtValues, BestFollows, refl)))) in
     record { below = below; fits = fits.0; cost = fits.1 }
 
 pub good_by_lines : (P : Network) (c : Certificate) → AllPass P (lines_of c) → c.lower ≤ bound P [] c.tree (threshold c) → Good P c
 good_by_lines P c all lower =
-    let numbers = all (Version ∷ []) (Lower c.lower ∷ (best_of_lines c.best ++ Root ∷ (tree_of_lines c.tree ++ End ∷ []))) (Numbers c.variables c.functions c.upper) AtNumbers refl (AtNumbers, VersionFollows, refl) in
+    let numbers = all (Version ∷ []) (Lower c.lower ∷ (lines_of_best c.best ++ Root ∷ (lines_of_tree c.tree ++ End ∷ []))) (Numbers c.variables c.functions c.upper) AtNumbers refl (AtNumbers, VersionFollows, refl) in
     record { variables = numbers.0; functions = numbers.1; upper = numbers.2; best = best_by_lines P c c.best refl all; valid = valid_by_lines P c all; lower = lower }
 
 -- the least of a threshold and floors
@@ -140,7 +140,7 @@ floors_block : (P : Network) (history : List Event) (paths : List (List Event)) 
 floors_block P history paths [] ls = refl
 floors_block P history paths (step ∷ block) ls = floors_block P (Did step ∷ history) paths block ls
 
-floors_tree : (P : Network) (history : List Event) (paths : List (List Event)) (tree : Tree) (ls : List Line) → open_floors P (history ∷ paths) (tree_of_lines tree ++ ls) ≡ place_floors P (places history tree) ++ open_floors P paths ls
+floors_tree : (P : Network) (history : List Event) (paths : List (List Event)) (tree : Tree) (ls : List Line) → open_floors P (history ∷ paths) (lines_of_tree tree ++ ls) ≡ place_floors P (places history tree) ++ open_floors P paths ls
 unfolding place_floors
 floors_tree P history paths (Open block) ls =
     ap (open_floors P (history ∷ paths)) (append_assoc (map (λ step. Node (Makes step)) block) (Node LeavesOpen ∷ []) ls) ∙ floors_block P history paths block (Node LeavesOpen ∷ ls)
@@ -153,8 +153,8 @@ floors_tree P history paths (Split block x a first second) ls =
     let steps = map (λ step. Node (Makes step)) block in
     let firsts = places (Is x a ∷ h) first in
     let seconds = places (IsNot x a ∷ h) second in
-    ap (open_floors P (history ∷ paths)) (append_assoc steps (Node (Splits x a) ∷ (tree_of_lines first ++ tree_of_lines second)) ls) ∙ floors_block P history paths block (Node (Splits x a) ∷ ((tree_of_lines first ++ tree_of_lines second) ++ ls))
-    ∙ ap (open_floors P ((Is x a ∷ h) ∷ (IsNot x a ∷ h) ∷ paths)) (append_assoc (tree_of_lines first) (tree_of_lines second) ls) ∙ floors_tree P (Is x a ∷ h) ((IsNot x a ∷ h) ∷ paths) first (tree_of_lines second ++ ls)
+    ap (open_floors P (history ∷ paths)) (append_assoc steps (Node (Splits x a) ∷ (lines_of_tree first ++ lines_of_tree second)) ls) ∙ floors_block P history paths block (Node (Splits x a) ∷ ((lines_of_tree first ++ lines_of_tree second) ++ ls))
+    ∙ ap (open_floors P ((Is x a ∷ h) ∷ (IsNot x a ∷ h) ∷ paths)) (append_assoc (lines_of_tree first) (lines_of_tree second) ls) ∙ floors_tree P (Is x a ∷ h) ((IsNot x a ∷ h) ∷ paths) first (lines_of_tree second ++ ls)
     ∙ ap (λ r. place_floors P firsts ++ r) (floors_tree P (IsNot x a ∷ h) paths second ls) ∙ sym (append_assoc (place_floors P firsts) (place_floors P seconds) (open_floors P paths ls))
     ∙ ap (λ r. r ++ open_floors P paths ls) (sym (floors_append P (block_places history block) _ ∙ ap (λ r. r ++ place_floors P (firsts ++ seconds)) (block_floors P history block) ∙ floors_append P firsts seconds))
 
@@ -162,14 +162,10 @@ head_floors : (P : Network) (n e upper lower : ℕ) (best : Option Solution) (ls
 head_floors P n e upper lower None ls = refl
 head_floors P n e upper lower (Some best) ls = refl
 
-nil_right : {A : Type 0} (a : List A) → a ++ [] ≡ a
-nil_right [] = refl
-nil_right (x ∷ a) = ap (λ r. x ∷ r) (nil_right a)
-
 pub bound_by_lines : (P : Network) (c : Certificate) → bound P [] c.tree (threshold c) ≡ lowest (threshold c) (open_floors P ([] ∷ []) (lines_of c))
 bound_by_lines P c =
     bound_by_places P [] c.tree (threshold c)
-    ∙ ap (lowest (threshold c)) (sym (head_floors P c.variables c.functions c.upper c.lower c.best (tree_of_lines c.tree ++ End ∷ []) ∙ floors_tree P [] [] c.tree (End ∷ []) ∙ nil_right (place_floors P (places [] c.tree))))
+    ∙ ap (lowest (threshold c)) (sym (head_floors P c.variables c.functions c.upper c.lower c.best (lines_of_tree c.tree ++ End ∷ []) ∙ floors_tree P [] [] c.tree (End ∷ []) ∙ append-nil (place_floors P (places [] c.tree))))
 
 -- one line more
 paths_of : State → List (List Event)
@@ -191,7 +187,7 @@ floors_by P s l t ls NoBestFollows = refl
 floors_by P s l t ls BestFollows = refl
 floors_by P s l t ls ValuesFollow = refl
 floors_by P s l t ls RootFollows = refl
-floors_by P s l t ls (NodeFollows {history = history} {paths = paths} {item = item}) = ap (λ r. r ++ open_floors P (paths_after history item ++ paths) ls) (sym (ap (λ r. floor_at P history item ++ r) (no_lines (paths_after history item ++ paths)) ∙ nil_right (floor_at P history item)))
+floors_by P s l t ls (NodeFollows {history = history} {paths = paths} {item = item}) = ap (λ r. r ++ open_floors P (paths_after history item ++ paths) ls) (sym (ap (λ r. floor_at P history item ++ r) (no_lines (paths_after history item ++ paths)) ∙ append-nil (floor_at P history item)))
   where
     no_lines : (paths : List (List Event)) → open_floors P paths [] ≡ []
     no_lines [] = refl
@@ -215,7 +211,7 @@ floors_from P s t (l ∷ a) b run =
 pub one_more_floor : (P : Network) (ls : List Line) (history : List Event) (paths : List (List Event)) (item : Item) → Runs AtVersion ls (AtNodes (history ∷ paths)) → open_floors P ([] ∷ []) (ls ++ Node item ∷ []) ≡ open_floors P ([] ∷ []) ls ++ floor_at P history item
 unfolding paths_of
 one_more_floor P ls history paths item run =
-    floors_from P AtVersion (AtNodes (history ∷ paths)) ls (Node item ∷ []) run ∙ ap (λ r. open_floors P ([] ∷ []) ls ++ (floor_at P history item ++ r)) (no_lines (paths_after history item ++ paths)) ∙ ap (λ r. open_floors P ([] ∷ []) ls ++ r) (nil_right (floor_at P history item))
+    floors_from P AtVersion (AtNodes (history ∷ paths)) ls (Node item ∷ []) run ∙ ap (λ r. open_floors P ([] ∷ []) ls ++ (floor_at P history item ++ r)) (no_lines (paths_after history item ++ paths)) ∙ ap (λ r. open_floors P ([] ∷ []) ls ++ r) (append-nil (floor_at P history item))
   where
     no_lines : (paths : List (List Event)) → open_floors P paths [] ≡ []
     no_lines [] = refl

@@ -28,6 +28,18 @@ pub record Fronts (bytes rest : List ℕ) (ls : List Line) (s : State) : Type 0 
   pub run : Runs AtVersion ls s
   pub spelled : AllByRecursion IsSpelledLine ls
 
+-- Lines in front that may come one behind the other are those of some certificate, as far as they go.
+abbrev pub SomeBegins : Type 0
+SomeBegins = (bytes rest : List ℕ) (ls : List Line) (s : State) → Fronts bytes rest ls s → (c : Certificate) × IsSpelled c × Begins c bytes (length ls)
+
+-- Every certificate that begins with the lines of the text has them as its own.
+abbrev pub AllBegin : Type 0
+AllBegin = (bytes rest : List ℕ) (ls : List Line) (s : State) (c : Certificate) → Fronts bytes rest ls s → IsSpelled c → Begins c bytes (length ls) → (more : List Line) × (lines_of c ≡ ls ++ more)
+
+-- Lines that are a whole text, up to the end, are those of a certificate that it spells.
+abbrev pub WholeSpells : Type 0
+WholeSpells = (bytes : List ℕ) (ls : List Line) → Fronts bytes [] ls AtOver → (c : Certificate) × Spells c bytes × (lines_of c ≡ ls)
+
 -- Where the lines in front are right, and no certificate begins with the next one too, that one does not follow the grammar.
 abbrev pub TextFaults : Type 0
 TextFaults = (P : Network) (bytes rest : List ℕ) (ls : List Line) (s : State) → Fronts bytes rest ls s → AllPass P ls

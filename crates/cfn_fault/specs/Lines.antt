@@ -65,18 +65,18 @@ IsSpelledLine (Node item) = IsSpelledItem item
 IsSpelledLine End = Unit {0}
 
 -- The lines of a certificate, in the order of the text.
-abbrev pub tree_of_lines : Tree → List Line
-tree_of_lines (Open block) = map (λ step. Node (Makes step)) block ++ Node LeavesOpen ∷ []
-tree_of_lines (Closed block) = map (λ step. Node (Makes step)) block ++ Node Closes ∷ []
-tree_of_lines (Split block x a first second) = map (λ step. Node (Makes step)) block ++ Node (Splits x a) ∷ (tree_of_lines first ++ tree_of_lines second)
+abbrev pub lines_of_tree : Tree → List Line
+lines_of_tree (Open block) = map (λ step. Node (Makes step)) block ++ Node LeavesOpen ∷ []
+lines_of_tree (Closed block) = map (λ step. Node (Makes step)) block ++ Node Closes ∷ []
+lines_of_tree (Split block x a first second) = map (λ step. Node (Makes step)) block ++ Node (Splits x a) ∷ (lines_of_tree first ++ lines_of_tree second)
 
-abbrev pub best_of_lines : Option Solution → List Line
-best_of_lines None = NoBest ∷ []
-best_of_lines (Some best) = Best best.cost ∷ Values best.values ∷ []
+abbrev pub lines_of_best : Option Solution → List Line
+lines_of_best None = NoBest ∷ []
+lines_of_best (Some best) = Best best.cost ∷ Values best.values ∷ []
 
 abbrev pub lines_of : Certificate → List Line
 lines_of c =
-    (Version ∷ Numbers c.variables c.functions c.upper ∷ Lower c.lower ∷ best_of_lines c.best) ++ Root ∷ (tree_of_lines c.tree ++ End ∷ [])
+    (Version ∷ Numbers c.variables c.functions c.upper ∷ Lower c.lower ∷ lines_of_best c.best) ++ Root ∷ (lines_of_tree c.tree ++ End ∷ [])
 
 -- Which line is due. Of a tree's nodes, what happened on the paths to the nodes that are due, the next one first.
 pub data State : Type 0 where
