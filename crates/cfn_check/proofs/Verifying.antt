@@ -8,7 +8,7 @@ use Rattle.cfn_model.specs.Text.{Spells}
 use Rattle.cfn_model.proofs.Bounding.{lower_bounds}
 use Rattle.cfn_fault.specs.declared.kind.FaultKind.TheVariants as kinds
 use Rattle.cfn_fault.specs.Fault.{Fault, line_at}
-use Rattle.cfn_fault.specs.Lines.{Line, Version, Numbers, Lower, NoBest, Best, Values, Root, Node, End, AtNodes, lines_of, best_of_lines, paths_after, text_of}
+use Rattle.cfn_fault.specs.Lines.{Line, Version, Numbers, Lower, NoBest, Best, Values, Root, Node, End, AtNodes, lines_of, lines_of_best, paths_after, text_of}
 use Rattle.cfn_fault.specs.Judging.{threshold_in, lower_in, open_floors, floor_at, lowest, bound_in}
 use Rattle.cfn_fault.proofs.Running.{spelled_lines}
 use Rattle.cfn_fault.proofs.Beginning.{spelling_is, front_of_lines}
@@ -58,7 +58,7 @@ opening_claims : (P : Network) (lower : ℕ) (best : Option ℕ) (values : List 
 opening_claims P lower None values nodes = (refl, refl, refl)
 opening_claims P lower (Some cost) values nodes = (refl, refl, refl)
 
-certificate_claims : (n e upper lower : ℕ) (best : Option Solution) (more : List Line) → best_in ((Version ∷ Numbers n e upper ∷ Lower lower ∷ best_of_lines best) ++ more) ≡ cost_of best
+certificate_claims : (n e upper lower : ℕ) (best : Option Solution) (more : List Line) → best_in ((Version ∷ Numbers n e upper ∷ Lower lower ∷ lines_of_best best) ++ more) ≡ cost_of best
 certificate_claims n e upper lower None more = claims_none more
   where
     claims_none : (more : List Line) → best_in (Version ∷ Numbers n e upper ∷ Lower lower ∷ NoBest ∷ more) ≡ None
@@ -102,7 +102,7 @@ same_lines c other bytes spells its =
 best_same : (c other : Certificate) (rest : List Line) → lines_of c ≡ lines_of other ++ rest → cost_of c.best ≡ cost_of other.best
 best_same c other rest is =
     sym (certificate_claims c.variables c.functions c.upper c.lower c.best _) ∙ ap best_in is
-    ∙ ap best_in (append_assoc (Version ∷ Numbers other.variables other.functions other.upper ∷ Lower other.lower ∷ best_of_lines other.best) _ rest)
+    ∙ ap best_in (append_assoc (Version ∷ Numbers other.variables other.functions other.upper ∷ Lower other.lower ∷ lines_of_best other.best) _ rest)
     ∙ certificate_claims other.variables other.functions other.upper other.lower other.best _
 
 pub exact : (P : Network) (bytes : List ℕ) (answer : Check) → IsChecked P bytes answer → IsExact P bytes answer
