@@ -3,7 +3,7 @@ use Rattle.std.proofs.Common.{◌≡◌, ℕ, ◌<◌, ◌≤◌, List, [], ◌�
 use Rattle.std.specs.Prelude.{Option, Some, None, unwrap_or}
 use Rattle.cfn_model.specs.declared.step.Event.{Event as PathEvent}
 use Rattle.cfn_model.specs.Network.{Network, IsNetwork, cost}
-use Rattle.cfn_model.specs.Certificate.{Solution, Certificate}
+use Rattle.cfn_model.specs.Certificate.{Solution, Certificate, IsBest}
 use Rattle.cfn_model.specs.Text.{Spells}
 use Rattle.cfn_model.proofs.Bounding.{lower_bounds}
 use Rattle.cfn_fault.specs.declared.kind.FaultKind.TheVariants as kinds
@@ -17,7 +17,7 @@ use Rattle.cfn_certtext.specs.Reading.{Reading}
 use Rattle.cfn_check.specs.declared.answer.Check.{Check}
 use Rattle.cfn_check.specs.declared.answer.Check.TheVariants.{Verified, Refused}
 use Rattle.cfn_check.specs.Walking.{Walking}
-use Rattle.cfn_check.specs.Checking.{Right, InTree, IsOpened, IsAll, IsVerified, IsChecked, IsExact, cost_of, opening_lines}
+use Rattle.cfn_check.specs.Checking.{Right, InTree, IsOpened, IsAll, IsVerified, IsChecked, IsExact, IsReached, cost_of, opening_lines}
 
 -- the tree begins
 pub tree_start : (P : Network) (r : Reading) (w : Walking) (lower : ℕ) (best : Option ℕ) (k : ℕ) → k ≡ unwrap_or best P.upper → w ≡ record { network = P; threshold = k; paths = [] ∷ []; least = k } → IsOpened P r lower best → InTree P r w lower best
@@ -65,6 +65,13 @@ certificate_claims n e upper lower None more = claims_none more
     claims_none more = refl
 certificate_claims n e upper lower (Some best) more = refl
 
+-- the best assignment has its cost
+best_reached : (P : Network) (found : Option Solution) (best : Option ℕ) → cost_of found ≡ best → IsBest P found → IsReached P best
+best_reached P None best is has = subst (λ b. IsReached P b) is tt
+best_reached P (Some s) best is has =
+    let here : IsReached P (Some s.cost) = (s.values, has.fits, has.cost) in
+    subst (λ b. IsReached P b) is here
+
 -- where all lines are right, the certificate is good or its lower bound is the fault
 pub record Ends (P : Network) (bytes : List ℕ) (w : Walking) (lower : ℕ) (best : Option ℕ) : Type 0 where
   pub verified : lower ≤ w.least → IsVerified P bytes lower best
@@ -87,6 +94,7 @@ tree_ends P r w bytes lower best network tree all =
         good = good;
         lower_is = same;
         best_is = costs;
+        reached = best_reached P c.best best costs good.best;
         bound = λ values fits. (let l = lower_bounds P c values network good fits in omega (arith, l, same));
       };
       refused = λ above. whole.1.fault (omega (arith, claims.0, bound));

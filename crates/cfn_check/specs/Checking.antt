@@ -21,6 +21,11 @@ abbrev pub cost_of : Option Solution → Option ℕ
 cost_of None = None
 cost_of (Some best) = Some best.cost
 
+-- An assignment has the cost, if there is one.
+abbrev pub IsReached : Network → Option ℕ → Type 0
+IsReached P None = Unit {0}
+IsReached P (Some best) = (values : List ℕ) × Fits P.sizes values × (cost P values ≡ best)
+
 -- The bytes spell a good certificate with this lower bound and best cost; so no assignment costs less, and one costs that.
 pub record IsVerified (P : Network) (bytes : List ℕ) (lower : ℕ) (best : Option ℕ) : Type 0 where
   pub certificate : Certificate
@@ -29,6 +34,7 @@ pub record IsVerified (P : Network) (bytes : List ℕ) (lower : ℕ) (best : Opt
   pub lower_is : certificate.lower ≡ lower
   pub best_is : cost_of certificate.best ≡ best
   pub bound : (values : List ℕ) → Fits P.sizes values → lower ≤ cost P values
+  pub reached : IsReached P best
 
 -- What a certificate comes to: it is good, or a line is the first that fails.
 abbrev pub IsChecked : Network → List ℕ → Check → Type 0
