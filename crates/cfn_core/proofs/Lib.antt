@@ -8,3 +8,4 @@ pub mod Answering
 pub mod Always
 pub mod Examples
 pub mod Tasks
+pub mod Making

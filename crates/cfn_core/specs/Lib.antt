@@ -3,3 +3,5 @@ pub mod World
 pub mod Actions
 pub mod Laws
 pub mod Examples
+pub mod Nodes
+pub mod Walk

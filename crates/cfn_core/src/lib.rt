@@ -5,4 +5,8 @@
 //! says what holds after every such list, so whatever the order in which the workers act.
 #![tactic(auto)]
 
+mod floor;
 pub mod laws;
+mod node;
+mod trail;
+mod walk;
