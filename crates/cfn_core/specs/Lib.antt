@@ -5,3 +5,4 @@ pub mod Laws
 pub mod Examples
 pub mod Nodes
 pub mod Walk
+pub mod Values

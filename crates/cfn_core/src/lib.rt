@@ -8,5 +8,10 @@
 mod floor;
 pub mod laws;
 mod node;
+mod piece;
+mod task;
 mod trail;
 mod walk;
+
+pub use piece::Piece;
+pub use task::Task;
