@@ -9,3 +9,4 @@ pub mod Always
 pub mod Examples
 pub mod Tasks
 pub mod Making
+pub mod Listing

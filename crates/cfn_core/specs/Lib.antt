@@ -5,4 +5,5 @@ pub mod Laws
 pub mod Examples
 pub mod Nodes
 pub mod Walk
+pub mod Finding
 pub mod Values

@@ -5,6 +5,7 @@
 //! says what holds after every such list, so whatever the order in which the workers act.
 #![tactic(auto)]
 
+mod finding;
 mod floor;
 pub mod laws;
 mod node;
