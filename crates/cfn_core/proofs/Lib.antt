@@ -9,4 +9,5 @@ pub mod Always
 pub mod Examples
 pub mod Tasks
 pub mod Making
+pub mod Changing
 pub mod Listing

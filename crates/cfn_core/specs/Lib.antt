@@ -7,3 +7,4 @@ pub mod Nodes
 pub mod Walk
 pub mod Finding
 pub mod Values
+pub mod Machine

@@ -5,14 +5,18 @@
 //! says what holds after every such list, so whatever the order in which the workers act.
 #![tactic(auto)]
 
+mod action;
+mod editing;
 mod finding;
 mod floor;
 pub mod laws;
 mod node;
 mod piece;
+mod seat;
 mod task;
 mod trail;
 mod walk;
 
+pub use action::{Action, Reply};
 pub use piece::Piece;
 pub use task::Task;
