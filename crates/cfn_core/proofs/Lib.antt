@@ -9,5 +9,7 @@ pub mod Always
 pub mod Examples
 pub mod Tasks
 pub mod Making
+pub mod Machines
+pub mod Seating
 pub mod Changing
 pub mod Listing

@@ -1,6 +1,6 @@
 -- What contracts see of the machine that runs: its network, and the world as the definitions have it, with the pool's
 -- tree as the list of its nodes.
-use Rattle.std.specs.Prelude.{◌≡◌, ℕ, ◌+◌, ◌*◌, ◌<◌, ◌≤◌, ◌^◌, List, [], ◌∷◌, map, Option, Some, None, if◌then◌else◌}
+use Rattle.std.specs.Prelude.{◌≡◌, ℕ, ◌+◌, ◌*◌, ◌<◌, ◌≤◌, ◌^◌, List, length, map, slice_index_or, Option, Some, None, if◌then◌else◌}
 use Rattle.std.specs.List.{AllByRecursion}
 use Rattle.cfn_model.specs.Certificate.{Solution}
 use Rattle.cfn_model.specs.Network.{Network, IsNetwork}
@@ -12,7 +12,7 @@ use Rattle.cfn_core.specs.declared.action.Action.TheVariants.{Look, Lower, Note,
 use Rattle.cfn_core.specs.declared.action.Reply.{Reply}
 use Rattle.cfn_core.specs.declared.action.Reply.TheVariants.{Idle, Seen, Noted, Given, Empty, Spent, Again, Gone, NotOut, Done}
 use Rattle.cfn_core.specs.Pool.{Task, View}
-use Rattle.cfn_core.specs.World.{World}
+use Rattle.cfn_core.specs.World.{World, cheaper}
 use Rattle.cfn_core.specs.Actions as actions
 use Rattle.cfn_core.specs.Laws.{IsWorld, IsHanded}
 use Rattle.cfn_core.specs.Nodes.{pool_tree, IsListed}
@@ -47,6 +47,18 @@ found_of (Some held) = Some held.values
 
 abbrev pub seat_of : Seat → Option View
 seat_of seat = if seat.met then None else Some (record { best = found_of seat.best.held; seen = seat.seen; shares = 1 })
+
+-- A worker's seat.
+pub record IsSeat (seats : List Seat) (i : ℕ) (seat : Seat) : Type 0 where
+  pub there : i < length seats
+  pub is : slice_index_or seats i seat ≡ seat
+
+-- A seat after an assignment was offered to it.
+pub record IsOffered (seat : Seat) (found : Scoring) (threshold : ℕ) (new : Seat) : Type 0 where
+  pub met : new.met ≡ seat.met
+  pub seen : new.seen ≡ threshold
+  pub network : new.best.network ≡ seat.best.network
+  pub best : found_of new.best.held ≡ cheaper found.network (found_of seat.best.held) (found_of found.held)
 
 -- What an action and an answer are by the definitions.
 abbrev pub action_of : Action → actions.Action
@@ -97,6 +109,7 @@ pub record IsMachine (m : Machine) : Type 0 where
 abbrev pub IsSeatOf : Network → Seat → Type 0
 IsSeatOf P seat = seat.best.network ≡ P
 
-pub record AreOf (P : Network) (best : Scoring) (seats : List Seat) : Type 0 where
-  pub own : best.network ≡ P
-  pub each : AllByRecursion (IsSeatOf P) seats
+pub record IsInside (m : Machine) (best : Scoring) (seats : List Seat) : Type 0 where
+  pub machine : IsMachine m
+  pub own : best.network ≡ m.network
+  pub each : AllByRecursion (IsSeatOf m.network) seats

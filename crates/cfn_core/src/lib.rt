@@ -16,7 +16,10 @@ mod seat;
 mod task;
 mod trail;
 mod walk;
+mod word;
+mod world;
 
 pub use action::{Action, Reply};
 pub use piece::Piece;
 pub use task::Task;
+pub use world::World;
