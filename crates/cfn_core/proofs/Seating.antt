@@ -1,13 +1,14 @@
 -- What the views of the workers become where one of them changes.
 use Rattle.std.proofs.Common.{◌≡◌, ℕ, zero, suc, ◌+◌, ◌<◌, List, [], ◌∷◌, ◌++◌, length, map, set, get_or, refl, sym, ap, ap₂, ◌∙◌, subst, true, false, min, Option, Some, None, MatchOption, if◌then◌else◌, arith}
-use Rattle.std.proofs.lemmas.List.{get_or-map, map-set}
+use Rattle.std.proofs.lemmas.List.{get_or-map, get_or_read, map-set}
 use Rattle.std.specs.Prelude.{slice_set, slice_index_or}
 use Rattle.std.specs.List.{AllByRecursion}
-use Rattle.cfn_model.specs.Network.{Network}
-use Rattle.cfn_net.specs.Scoring.{Scoring}
+use Rattle.cfn_model.specs.Network.{Network, Fits}
+use Rattle.cfn_model.specs.Certificate.{Solution, threshold_of}
+use Rattle.cfn_net.specs.Scoring.{Scoring, IsPriced}
 use Rattle.cfn_core.specs.declared.seat.Seat.{Seat}
 use Rattle.cfn_core.specs.Pool.{View}
-use Rattle.cfn_core.specs.World.{World, price, cheaper, view_at}
+use Rattle.cfn_core.specs.World.{World, price, cheaper, view_at, KeepsFitting}
 use Rattle.cfn_core.specs.Actions.{Reply, Idle, Seen, Noted, Done, Look, Lower, Note, Meet, Answers, Acts, looked, lowered, noted, joined, met}
 use Rattle.cfn_core.specs.Machine.{Machine, world_of, found_of, seat_of, IsSeat, IsOffered, IsSeatOf}
 
@@ -80,3 +81,20 @@ module _ (m : Machine) (seats : List Seat) (is : m.views ≡ map seat_of seats) 
     reply = refl;
     world = ap₂ (λ u v. world_of (record m { view = u; views = v })) joins (ap (map seat_of) is' ∙ changed (record seat { met = true }) ∙ ap (slice_set m.views i) (ended_as (record seat { met = true }) refl));
   })
+
+-- the price of what is held
+pub price_is : (P : Network) (held : Option Solution) → IsPriced P held → threshold_of P.upper held ≡ price P (found_of held)
+price_is P None priced = refl
+price_is P (Some held) priced = sym priced.1
+
+-- a seat that is there, in a list that is the same, and one that was read there
+pub seat_in : (seats same : List Seat) (i : ℕ) (seat : Seat) → same ≡ seats → IsSeat same i seat → IsSeat seats i seat
+seat_in seats same i seat is at = subst (λ l. IsSeat l i seat) is at
+
+pub seat_read : (seats : List Seat) (i : ℕ) (seat read : Seat) → IsSeat seats i seat → read ≡ get_or seats i read → read ≡ seat
+seat_read seats i seat read at is = get_or_read seats i read at.there is seat ∙ at.is
+
+-- what is held fits the network that it is of
+pub brought : (P Q : Network) (held : Option Solution) → Q ≡ P → IsPriced Q held → KeepsFitting P (found_of held)
+brought P Q None same priced = tt
+brought P Q (Some held) same priced = subst (λ N. Fits N.sizes held.values) same priced.0
