@@ -4,6 +4,7 @@ use Rattle.cfn_core.specs.declared.node.End.{End}
 use Rattle.cfn_core.specs.declared.node.End.TheVariants.{FreeLeaf, OutLeaf, ShutLeaf, Branch}
 use Rattle.cfn_core.specs.declared.node.Node.{Node}
 use Rattle.cfn_core.specs.declared.finding.First.{First}
+use Rattle.cfn_core.specs.Pool.{Task}
 
 -- The node at a place, where there is one.
 abbrev pub no_node : Node
@@ -55,3 +56,14 @@ IsAt nodes i e = (i < length nodes) × ((node_at nodes i).end ≡ e)
 
 abbrev pub IsPlace : List Node → End → Option ℕ → Type 0
 IsPlace nodes e place = MatchOption place ((j : ℕ) → IsAt nodes j e → ⊥) (λ i. IsAt nodes i e)
+
+-- The place has the leaf of a task: one that is out to its worker with its grant, and has its path.
+abbrev pub out_end : Task → End
+out_end task = OutLeaf task.leaf task.worker task.grant
+
+pub record IsOutAt (nodes : List Node) (i : ℕ) (task : Task) : Type 0 where
+  pub at : IsAt nodes i (out_end task)
+  pub path : (node_at nodes i).path ≡ task.path
+
+abbrev pub IsOutPlace : List Node → Task → Option ℕ → Type 0
+IsOutPlace nodes task place = MatchOption place ((j : ℕ) → IsOutAt nodes j task → ⊥) (λ i. IsOutAt nodes i task)

@@ -2,9 +2,11 @@
 
 ghost use Rattle.std.specs.Prelude.{◌≡◌, ◌↔◌, ℕ, ◌+◌, ◌<◌, ◌^◌, ◌≤◌, ◌⊎◌, List, length, IsTrue};
 ghost use Rattle.cfn_core.specs.declared.node.Node.{Node};
-ghost use Rattle.cfn_core.specs.Finding.{IsFirstIfAny, IsPlace, granted_in, grant_end, node_at, open_end, open_in};
+ghost use Rattle.cfn_core.specs.Finding.{IsFirstIfAny, IsOutPlace, IsPlace, granted_in, grant_end, node_at, open_end, open_in};
 
+use crate::hands::out_end;
 use crate::node::{End, Node};
+use crate::task::Task;
 use cfn_proof::Path;
 
 /// A free leaf that is first among some: its place, its number and its floor.
@@ -106,6 +108,33 @@ pub(crate) fn place_of(nodes: &[Node], end: End) -> Option<usize>
         }
     }
     None
+}
+
+/// The place of the leaf that is out to a task's worker with its grant, and has its path, if there is one.
+pub(crate) fn place_out(nodes: &[Node], task: &Task) -> Option<usize>
+    ensures { IsOutPlace nodes.now task.now.task result }
+{
+    let out = out_end(task);
+    for (place, node) in nodes.iter().enumerate() {
+        if node.end == out && is_same(&node.path, task.path()) {
+            return Some(place);
+        }
+    }
+    None
+}
+
+/// How many nodes are open leaves.
+pub(crate) fn open_count(nodes: &[Node]) -> u64
+    ensures value { result ≡ open_in nodes.now }
+    ensures few { result ≤ length nodes.now }
+{
+    let mut count = 0;
+    for node in nodes {
+        if is_open(node.end) {
+            count += 1;
+        }
+    }
+    count
 }
 
 /// Whether two paths are the same.

@@ -9,6 +9,7 @@ mod action;
 mod editing;
 mod finding;
 mod floor;
+mod giving;
 mod hands;
 pub mod laws;
 mod leaves;
