@@ -1,5 +1,5 @@
 -- What a machine keeps.
-use Rattle.std.proofs.Common.{◌≡◌, ℕ, ◌+◌, ◌*◌, ◌<◌, ◌≤◌, ◌^◌, List, [], ◌∷◌, replicate, refl, sym, ap, ◌∙◌, subst, ◌-◌, Option, Some, None, arith}
+use Rattle.std.proofs.Common.{◌≡◌, ℕ, ◌+◌, ◌*◌, ◌<◌, ◌≤◌, ◌^◌, List, [], ◌∷◌, ◌++◌, replicate, refl, sym, ap, ◌∙◌, subst, ◌-◌, Option, Some, None, arith}
 use Rattle.std.specs.List.{AllByRecursion}
 use Rattle.cfn_model.specs.Network.{Network, IsNetwork}
 use Rattle.cfn_net.specs.Scoring.{Scoring}
@@ -7,7 +7,7 @@ use Rattle.cfn_core.specs.declared.node.Node.{Node}
 use Rattle.cfn_core.specs.declared.seat.Seat.{Seat}
 use Rattle.cfn_core.specs.Pool.{Free, Leaf, Task, View}
 use Rattle.cfn_core.specs.World.{World, new_view, opening}
-use Rattle.cfn_core.specs.Actions.{Action, Reply, IsAction, Acts}
+use Rattle.cfn_core.specs.Actions.{Action, Reply, IsAction, Acts, Runs}
 use Rattle.cfn_core.specs.Laws.{IsWorld, IsHanded}
 use Rattle.cfn_core.specs.Nodes.{nodes_of, pool_tree, IsListed}
 use Rattle.cfn_core.specs.Machine.{Machine, world_of, IsMachine, IsInside, IsSeatOf}
@@ -43,3 +43,10 @@ acted m new a r is brings acts network budget listed next = record {
   budget = omega (arith, is.budget);
   next = next;
 }
+
+-- a list of actions and one more
+pub runs_more : (P : Network) (actions : List Action) (replies : List Reply) (w between new : World) (a : Action) (r : Reply) → Runs P w actions replies between → Acts P between a r new → Runs P w (actions ++ a ∷ []) (replies ++ r ∷ []) new
+runs_more P [] [] w between new a r runs acts = (new, subst (λ b. Acts P b a r new) runs acts, refl)
+runs_more P [] (y ∷ replies) w between new a r runs acts = absurd runs
+runs_more P (x ∷ actions) [] w between new a r runs acts = absurd runs
+runs_more P (x ∷ actions) (y ∷ replies) w between new a r runs acts = (runs.0, runs.1, runs_more P actions replies runs.0 between new a r runs.2 acts)

@@ -25,4 +25,4 @@ mod world;
 pub use action::{Action, Reply};
 pub use piece::Piece;
 pub use task::Task;
-pub use world::World;
+pub use world::{RunMemory, World};

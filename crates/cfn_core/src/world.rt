@@ -1,9 +1,13 @@
 //! The machine that runs.
 
-ghost use Rattle.std.specs.Prelude.{◌≡◌, ◌+◌, ◌<◌, ◌≤◌, ◌^◌, IfOk, OnErr};
+ghost use Rattle.std.specs.Prelude.{◌≡◌, ◌<◌, ◌≤◌, ◌^◌, List, length, map, take, All, IfOk, IfErr, OnOk, OnErr};
+ghost use Rattle.std.specs.List.{AllByRecursion};
 ghost use Rattle.cfn_core.specs.World.{opening};
-ghost use Rattle.cfn_core.specs.Machine.{world_of};
+ghost use Rattle.cfn_core.specs.Actions.{Acts, Runs, Reply as Answer};
+ghost use Rattle.cfn_core.specs.Laws.{Always, AreKept, AreOut, IsKept, IsNoRecall};
+ghost use Rattle.cfn_core.specs.Machine.{IsOf, action_of, reply_of, world_of};
 
+use crate::action::{Action, Reply};
 use crate::node::{End, Node};
 use crate::seat::{Seat, new_seats};
 use crate::task::Task;
@@ -36,6 +40,12 @@ pub struct World<'n> {
     pub(crate) notes: Vec<Option<u64>>,
     /// The tasks in hand, the newest first.
     pub(crate) hands: Vec<Task>,
+}
+
+/// Want of memory in a list of actions: only the first `done` were done.
+#[derive(Clone, Copy, Debug, PartialEq, Eq)]
+pub struct RunMemory {
+    pub done: u64,
 }
 
 impl<'n> Model for World<'n> {
@@ -106,5 +116,81 @@ impl<'n> World<'n> {
             notes: Vec::new(alloc),
             hands: Vec::new(alloc),
         })
+    }
+
+    /// Nothing: its contract tells a caller what holds in every world. The pool is sound, every assignment is covered, the
+    /// word keeps its rule, the tree is valid at the word, and the task of each leaf that is out is in hand.
+    pub fn kept(&self)
+        ensures { Always self.now.network (world_of self.now) }
+    {
+        let _ = &self.word;
+    }
+
+    /// Does one action, and answers it. What the action brings is of the world's network. An `Err`, want of memory, leaves
+    /// the world as it was.
+    pub fn step(&mut self, action: &Action) -> Result<Reply, AllocError>
+        requires { IsOf self.old.network action.now }
+        ensures network { self.new.network ≡ self.old.network }
+        ensures acts { IfOk result (λ reply. Acts self.old.network (world_of self.old) (action_of action.now) (reply_of reply) (world_of self.new)) }
+        ensures err { OnErr result (self.new ≡ self.old) }
+        ensures always { Always self.new.network (world_of self.new) }
+        ensures never_gone { IfOk result (λ reply. AreOut (world_of self.old) → IsKept (world_of self.old) (action_of action.now) (reply_of reply)) }
+        ensures stays_out { OnOk result (AreOut (world_of self.old) → IsNoRecall (action_of action.now) → AreOut (world_of self.new)) }
+    {
+        let reply = self.act(action);
+        self.kept();
+        reply
+    }
+
+    /// Does actions one after another, and answers each. What they bring is of the world's network. After an `Err`, want of
+    /// memory, the world is that after the first `done` of them.
+    pub fn run(&mut self, actions: &[Action]) -> Result<Vec<Reply>, RunMemory>
+        requires { All (IsOf self.old.network) actions.now }
+        ensures network { self.new.network ≡ self.old.network }
+        ensures runs { IfOk result (λ replies. Runs self.old.network (world_of self.old) (map action_of actions.now) (map reply_of replies.items) (world_of self.new)) }
+        ensures memory { IfErr result (λ memory. (memory.done < length actions.now)
+            × ((replies : List Answer) × Runs self.old.network (world_of self.old) (map action_of (take memory.done actions.now)) replies (world_of self.new))) }
+        ensures always { Always self.new.network (world_of self.new) }
+        ensures never_gone { IfOk result (λ replies. AreOut (world_of self.old) → AllByRecursion IsNoRecall (map action_of actions.now)
+            → AreKept self.old.network (world_of self.old) (map action_of actions.now) (map reply_of replies.items)) }
+        ensures stays_out { OnOk result (AreOut (world_of self.old) → AllByRecursion IsNoRecall (map action_of actions.now) → AreOut (world_of self.new)) }
+    {
+        self.kept();
+        let mut replies = Vec::new(self.alloc());
+        if replies.reserve(actions.len()).is_err() {
+            return Err(RunMemory { done: 0 });
+        }
+        for (done, action) in actions.iter().enumerate() {
+            match self.step(action) {
+                Ok(reply) => replies.push_reserved(reply),
+                Err(_) => return Err(RunMemory { done: done as u64 }),
+            }
+        }
+        Ok(replies)
+    }
+
+    /// The allocator that the world was made with.
+    fn alloc(&self) -> Global {
+        *self.nodes.allocator()
+    }
+
+    /// Does one action, each by the call that is its own.
+    fn act(&mut self, action: &Action) -> Result<Reply, AllocError>
+        requires { IsOf self.old.network action.now }
+        ensures network { self.new.network ≡ self.old.network }
+        ensures acts { IfOk result (λ reply. Acts self.old.network (world_of self.old) (action_of action.now) (reply_of reply) (world_of self.new)) }
+        ensures err { OnErr result (self.new ≡ self.old) }
+    {
+        match action {
+            Action::Look { worker } => Ok(self.look(*worker)),
+            Action::Lower { worker, found } => Ok(self.lower(*worker, found)),
+            Action::Note { worker } => self.note(*worker),
+            Action::Meet { worker } => Ok(self.meet(*worker)),
+            Action::Take { worker, want } => self.take(*worker, *want),
+            Action::Give { piece, note } => self.give(piece, *note),
+            Action::Back { task } => Ok(self.back(task)),
+            Action::Recall => Ok(self.call_back()),
+            Action::Sweep => Ok(self.close_free()),
+        }
     }
 }
