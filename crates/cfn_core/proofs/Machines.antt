@@ -50,3 +50,8 @@ runs_more P [] [] w between new a r runs acts = (new, subst (λ b. Acts P b a r 
 runs_more P [] (y ∷ replies) w between new a r runs acts = absurd runs
 runs_more P (x ∷ actions) [] w between new a r runs acts = absurd runs
 runs_more P (x ∷ actions) (y ∷ replies) w between new a r runs acts = (runs.0, runs.1, runs_more P actions replies runs.0 between new a r runs.2 acts)
+
+-- a fact of each of a list and of one more
+pub each_more : {X : Type 0} (Q : X → Type 0) (xs : List X) (x : X) → AllByRecursion Q xs → Q x → AllByRecursion Q (xs ++ x ∷ [])
+each_more Q [] x each own = (own, tt)
+each_more Q (y ∷ xs) x each own = (each.0, each_more Q xs x each.1 own)

@@ -96,6 +96,19 @@ IsOf P (Back task) = Unit {0}
 IsOf P Recall = Unit {0}
 IsOf P Sweep = Unit {0}
 
+-- The task that an answer hands out is of the network.
+abbrev pub IsReplyOf : Network → Reply → Type 0
+IsReplyOf P Idle = Unit {0}
+IsReplyOf P (Seen threshold) = Unit {0}
+IsReplyOf P (Noted note) = Unit {0}
+IsReplyOf P (Given task) = task.network ≡ P
+IsReplyOf P Empty = Unit {0}
+IsReplyOf P Spent = Unit {0}
+IsReplyOf P Again = Unit {0}
+IsReplyOf P Gone = Unit {0}
+IsReplyOf P NotOut = Unit {0}
+IsReplyOf P Done = Unit {0}
+
 -- A machine keeps what every world keeps, its nodes are those of a tree, and the numbers of its leaves fit.
 pub record IsMachine (m : Machine) : Type 0 where
   pub network : IsNetwork m.network

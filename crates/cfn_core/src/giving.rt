@@ -4,7 +4,7 @@ ghost use Rattle.std.specs.Prelude.{◌≡◌, ◌↔◌, ◌≤◌, MatchOption
 ghost use Rattle.cfn_core.specs.World.{note_at};
 ghost use Rattle.cfn_core.specs.Actions.{Acts, CanGive, Give};
 ghost use Rattle.cfn_core.specs.Finding.{IsOutAt};
-ghost use Rattle.cfn_core.specs.Machine.{reply_of, world_of};
+ghost use Rattle.cfn_core.specs.Machine.{IsReplyOf, reply_of, world_of};
 ghost use Rattle.cfn_core.specs.Values.{piece_of};
 
 use crate::action::Reply;
@@ -22,6 +22,7 @@ impl World<'_> {
         requires { piece.now.network ≡ self.old.network }
         ensures network { self.new.network ≡ self.old.network }
         ensures acts { IfOk result (λ reply. Acts self.old.network (world_of self.old) (Give (piece_of piece.now) note) (reply_of reply) (world_of self.new)) }
+        ensures of { IfOk result (IsReplyOf self.old.network) }
         ensures err { OnErr result (self.new ≡ self.old) }
     {
         if !can_heed(self.notes.as_slice(), note, piece.threshold()) {
@@ -41,6 +42,7 @@ impl World<'_> {
         requires out { IsOutAt self.old.nodes place piece.now.task }
         ensures network { self.new.network ≡ self.old.network }
         ensures acts { IfOk result (λ reply. Acts self.old.network (world_of self.old) (Give (piece_of piece.now) note) (reply_of reply) (world_of self.new)) }
+        ensures of { IfOk result (IsReplyOf self.old.network) }
         ensures err { OnErr result (self.new ≡ self.old) }
     {
         piece.kept();

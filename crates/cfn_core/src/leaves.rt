@@ -4,7 +4,7 @@
 ghost use Rattle.std.specs.Prelude.{◌≡◌, ◌≢◌, ◌+◌, ◌-◌, ◌<◌, ◌≤◌, length, map, min, IfOk, OnErr};
 ghost use Rattle.cfn_core.specs.Actions.{Acts, CanTake, Take, Give, Back, Recall, Sweep, without};
 ghost use Rattle.cfn_core.specs.Finding.{IsFirstFree, granted_in};
-ghost use Rattle.cfn_core.specs.Machine.{reply_of, world_of};
+ghost use Rattle.cfn_core.specs.Machine.{IsReplyOf, reply_of, world_of};
 ghost use Rattle.cfn_core.specs.Values.{piece_of};
 
 use crate::action::Reply;
@@ -21,6 +21,7 @@ impl World<'_> {
     pub(crate) fn take(&mut self, worker: u32, want: u64) -> Result<Reply, AllocError>
         ensures network { self.new.network ≡ self.old.network }
         ensures acts { IfOk result (λ reply. Acts self.old.network (world_of self.old) (Take worker want) (reply_of reply) (world_of self.new)) }
+        ensures of { IfOk result (IsReplyOf self.old.network) }
         ensures err { OnErr result (self.new ≡ self.old) }
     {
         if worker as usize >= self.seats.len() || want == 0 {
@@ -64,6 +65,7 @@ impl World<'_> {
         requires first { IsFirstFree self.old.nodes (length self.old.nodes) first }
         ensures network { self.new.network ≡ self.old.network }
         ensures acts { IfOk result (λ reply. Acts self.old.network (world_of self.old) (Take worker want) (reply_of reply) (world_of self.new)) }
+        ensures of { IfOk result (IsReplyOf self.old.network) }
         ensures err { OnErr result (self.new ≡ self.old) }
     {
         let alloc = *self.nodes.allocator();
@@ -89,6 +91,7 @@ impl World<'_> {
     pub(crate) fn back(&mut self, task: &Task) -> Reply
         ensures network { self.new.network ≡ self.old.network }
         ensures acts { Acts self.old.network (world_of self.old) (Back task.now.task) (reply_of result) (world_of self.new) }
+        ensures of { IsReplyOf self.old.network result }
     {
         let number = task.leaf();
         let out = out_end(task);
@@ -104,6 +107,7 @@ impl World<'_> {
     pub(crate) fn call_back(&mut self) -> Reply
         ensures network { self.new.network ≡ self.old.network }
         ensures acts { Acts self.old.network (world_of self.old) Recall (reply_of result) (world_of self.new) }
+        ensures of { IsReplyOf self.old.network result }
     {
         recall(&mut self.nodes);
         Reply::Done
@@ -113,6 +117,7 @@ impl World<'_> {
     pub(crate) fn close_free(&mut self) -> Reply
         ensures network { self.new.network ≡ self.old.network }
         ensures acts { Acts self.old.network (world_of self.old) Sweep (reply_of result) (world_of self.new) }
+        ensures of { IsReplyOf self.old.network result }
     {
         let word = self.word;
         sweep(&mut self.nodes, word);

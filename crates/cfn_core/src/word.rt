@@ -2,7 +2,7 @@
 
 ghost use Rattle.std.specs.Prelude.{◌≡◌, IfOk, OnErr};
 ghost use Rattle.cfn_core.specs.Actions.{Acts, Look, Lower, Note, Meet};
-ghost use Rattle.cfn_core.specs.Machine.{found_of, reply_of, world_of};
+ghost use Rattle.cfn_core.specs.Machine.{IsReplyOf, found_of, reply_of, world_of};
 
 use crate::action::Reply;
 use crate::seat::{is_there, keep_cheaper, offer, set_met, set_seen};
@@ -15,6 +15,7 @@ impl World<'_> {
     pub(crate) fn look(&mut self, worker: u32) -> Reply
         ensures network { self.new.network ≡ self.old.network }
         ensures acts { Acts self.old.network (world_of self.old) (Look worker) (reply_of result) (world_of self.new) }
+        ensures of { IsReplyOf self.old.network result }
     {
         if !is_there(self.seats.as_slice(), worker) {
             return Reply::Idle;
@@ -29,6 +30,7 @@ impl World<'_> {
         requires { found.now.network ≡ self.old.network }
         ensures network { self.new.network ≡ self.old.network }
         ensures acts { Acts self.old.network (world_of self.old) (Lower worker (found_of found.now.held)) (reply_of result) (world_of self.new) }
+        ensures of { IsReplyOf self.old.network result }
     {
         if !is_there(self.seats.as_slice(), worker) {
             return Reply::Idle;
@@ -44,6 +46,7 @@ impl World<'_> {
     pub(crate) fn note(&mut self, worker: u32) -> Result<Reply, AllocError>
         ensures network { self.new.network ≡ self.old.network }
         ensures acts { IfOk result (λ reply. Acts self.old.network (world_of self.old) (Note worker) (reply_of reply) (world_of self.new)) }
+        ensures of { IfOk result (IsReplyOf self.old.network) }
         ensures err { OnErr result (self.new ≡ self.old) }
     {
         if !is_there(self.seats.as_slice(), worker) {
@@ -59,6 +62,7 @@ impl World<'_> {
     pub(crate) fn meet(&mut self, worker: u32) -> Reply
         ensures network { self.new.network ≡ self.old.network }
         ensures acts { Acts self.old.network (world_of self.old) (Meet worker) (reply_of result) (world_of self.new) }
+        ensures of { IsReplyOf self.old.network result }
     {
         if !is_there(self.seats.as_slice(), worker) {
             return Reply::Idle;

@@ -5,7 +5,7 @@ ghost use Rattle.std.specs.List.{AllByRecursion};
 ghost use Rattle.cfn_core.specs.World.{opening};
 ghost use Rattle.cfn_core.specs.Actions.{Acts, Runs, Reply as Answer};
 ghost use Rattle.cfn_core.specs.Laws.{Always, AreKept, AreOut, IsKept, IsNoRecall};
-ghost use Rattle.cfn_core.specs.Machine.{IsOf, action_of, reply_of, world_of};
+ghost use Rattle.cfn_core.specs.Machine.{IsOf, IsReplyOf, action_of, reply_of, world_of};
 
 use crate::action::{Action, Reply};
 use crate::node::{End, Node};
@@ -96,6 +96,7 @@ impl<'n> World<'n> {
         requires budget { budget < 2 ^ 63 }
         ensures network { IfOk result (λ world. world.network ≡ network.now) }
         ensures world { IfOk result (λ world. world_of world ≡ opening network.now workers budget) }
+        ensures out { IfOk result (λ world. AreOut (world_of world)) }
     {
         network.limits();
         let end = End::FreeLeaf { number: 0 };
@@ -132,6 +133,7 @@ impl<'n> World<'n> {
         requires { IsOf self.old.network action.now }
         ensures network { self.new.network ≡ self.old.network }
         ensures acts { IfOk result (λ reply. Acts self.old.network (world_of self.old) (action_of action.now) (reply_of reply) (world_of self.new)) }
+        ensures of { IfOk result (IsReplyOf self.old.network) }
         ensures err { OnErr result (self.new ≡ self.old) }
         ensures always { Always self.new.network (world_of self.new) }
         ensures never_gone { IfOk result (λ reply. AreOut (world_of self.old) → IsKept (world_of self.old) (action_of action.now) (reply_of reply)) }
@@ -148,6 +150,7 @@ impl<'n> World<'n> {
         requires { All (IsOf self.old.network) actions.now }
         ensures network { self.new.network ≡ self.old.network }
         ensures runs { IfOk result (λ replies. Runs self.old.network (world_of self.old) (map action_of actions.now) (map reply_of replies.items) (world_of self.new)) }
+        ensures of { IfOk result (λ replies. AllByRecursion (IsReplyOf self.old.network) replies.items) }
         ensures memory { IfErr result (λ memory. (memory.done < length actions.now)
             × ((replies : List Answer) × Runs self.old.network (world_of self.old) (map action_of (take memory.done actions.now)) replies (world_of self.new))) }
         ensures always { Always self.new.network (world_of self.new) }
@@ -179,6 +182,7 @@ impl<'n> World<'n> {
         requires { IsOf self.old.network action.now }
         ensures network { self.new.network ≡ self.old.network }
         ensures acts { IfOk result (λ reply. Acts self.old.network (world_of self.old) (action_of action.now) (reply_of reply) (world_of self.new)) }
+        ensures of { IfOk result (IsReplyOf self.old.network) }
         ensures err { OnErr result (self.new ≡ self.old) }
     {
         match action {

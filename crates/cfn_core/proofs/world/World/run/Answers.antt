@@ -1,8 +1,9 @@
 use Rattle.std.proofs.Common.{◌≡◌, ◌+◌, ◌<◌, ◌≤◌, [], ◌∷◌, ◌++◌, length, map, take, get_or, sym, ap, ap₂, ◌∙◌, subst, arith}
 use Rattle.std.proofs.lemmas.List.{map_more, map-append, take_all}
 use Rattle.cfn_core.specs.Actions.{Acts, Runs}
-use Rattle.cfn_core.specs.Machine.{action_of, reply_of, world_of}
-use Rattle.cfn_core.proofs.Machines.{runs_more}
+use Rattle.std.specs.List.{AllByRecursion}
+use Rattle.cfn_core.specs.Machine.{IsReplyOf, action_of, reply_of, world_of}
+use Rattle.cfn_core.proofs.Machines.{runs_more, each_more}
 use Rattle.cfn_core.proofs.Refusing.{are_kept, run_out}
 use Rattle.cfn_core.proofs.world.World.run.Goals as goal
 
@@ -25,6 +26,8 @@ loop-done-preserved c =
       runs = subst (λ l. Runs P w l (map reply_of c.push_reserved.new.self.items) (world_of c.step.new.self)) (sym actions)
           (subst (λ l. Runs P w (map action_of (take i xs) ++ action_of a ∷ []) l (world_of c.step.new.self)) (sym replies)
           (runs_more P (map action_of (take i xs)) (map reply_of c.loop-done.replies.items) w (world_of c.loop-done.self) (world_of c.step.new.self) (action_of a) (reply_of c.in-Ok.reply) c.loop-done.invariant.runs acts));
+      of = subst (λ l. AllByRecursion (IsReplyOf P) l) (sym c.push_reserved.ensures.items) (each_more (IsReplyOf P) c.loop-done.replies.items c.in-Ok.reply c.loop-done.invariant.of
+          (subst (λ Q. IsReplyOf Q c.in-Ok.reply) c.loop-done.invariant.network c.in-Ok.ensures.of));
       always = c.in-Ok.ensures.always;
       made = c.push_reserved.ensures.len ∙ ap (λ n. n + 1) c.loop-done.invariant.made;
       room = omega (arith, c.push_reserved.ensures.capacity, c.loop-done.invariant.room);
