@@ -9,6 +9,7 @@ pub mod Always
 pub mod Examples
 pub mod Tasks
 pub mod Making
+pub mod Halves
 pub mod Pieces
 pub mod Holding
 pub mod Marking

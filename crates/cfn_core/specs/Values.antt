@@ -1,5 +1,5 @@
 -- What contracts see of tasks and pieces: beside each the network that it is of.
-use Rattle.std.specs.Prelude.{ℕ, ◌≤◌, List}
+use Rattle.std.specs.Prelude.{◌≡◌, ℕ, ◌≤◌, List}
 use Rattle.cfn_model.specs.Network.{Network}
 use Rattle.cfn_proof.specs.declared.tree.Node.{Node as Branching}
 use Rattle.cfn_proof.specs.Nodes.{tree_of}
@@ -25,3 +25,7 @@ piece_of p = record { task = p.task; tree = tree_of p.nodes; threshold = p.thres
 pub record IsPieceValue (p : PieceValue) : Type 0 where
   pub piece : IsPiece p.network (piece_of p)
   pub threshold : p.threshold ≤ 9223372036854775807
+
+-- A task is of this network.
+abbrev pub IsTaskOf : Network → TaskValue → Type 0
+IsTaskOf P task = task.network ≡ P

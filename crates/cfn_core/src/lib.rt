@@ -26,3 +26,6 @@ pub use action::{Action, Reply};
 pub use piece::Piece;
 pub use task::Task;
 pub use world::{RunMemory, World};
+
+#[cfg(test)]
+mod tests;
