@@ -1,4 +1,4 @@
--- A leaf split by a decision, both of whose sides have a live value, is a piece.
+-- Costs stay small where a leaf is split by a decision.
 use Rattle.std.proofs.Common.{◌≡◌, ◌≢◌, ℕ, ◌+◌, ◌<◌, ◌≤◌, ◌^◌, Bool, true, false, not, ◌&&◌, List, [], ◌∷◌, length, refl, sym, ap, ◌∙◌, subst, arith}
 use Rattle.std.proofs.lemmas.Int.{ints}
 use Rattle.std.specs.Prelude.{slice_index, IsTrue, pos, ◌<ℤ◌, None, nat_lt}
@@ -42,9 +42,11 @@ module _ (P : Network) (history : List Event) (x a : ℕ) (small : HasSmallCosts
     where
       tuple_fewer : (f : ℕ) (tuple : List ℕ) → IsTrue (is_live_tuple P (Is x a ∷ history) f tuple) → IsTrue (is_live_tuple P history f tuple)
       tuple_fewer f tuple live =
-          let rest = nat_lt (entry_at P f tuple) P.upper && not (is_cut history f (cell (dims_at P f) tuple)) in
-          let b = both (all_live (Is x a ∷ history) (scope_at P f) tuple) rest live in
-          join (all_live history (scope_at P f) tuple) rest (all_fewer (Is x a) history (scope_at P f) tuple b.0) b.1
+          let below = nat_lt (entry_at P f tuple) P.upper in
+          let uncut = not (is_cut history f (cell (dims_at P f) tuple)) in
+          let b = both (all_live (Is x a ∷ history) (scope_at P f) tuple && below) uncut live in
+          let d = both (all_live (Is x a ∷ history) (scope_at P f) tuple) below b.0 in
+          join (all_live history (scope_at P f) tuple && below) uncut (join (all_live history (scope_at P f) tuple) below (all_fewer (Is x a) history (scope_at P f) tuple d.0) d.1) b.1
 
   pub small_is_not : HasSmallCosts P (IsNot x a ∷ history)
   small_is_not = record {
@@ -54,24 +56,15 @@ module _ (P : Network) (history : List Event) (x a : ℕ) (small : HasSmallCosts
     where
       tuple_fewer : (f : ℕ) (tuple : List ℕ) → IsTrue (is_live_tuple P (IsNot x a ∷ history) f tuple) → IsTrue (is_live_tuple P history f tuple)
       tuple_fewer f tuple live =
-          let rest = nat_lt (entry_at P f tuple) P.upper && not (is_cut history f (cell (dims_at P f) tuple)) in
-          let b = both (all_live (IsNot x a ∷ history) (scope_at P f) tuple) rest live in
-          join (all_live history (scope_at P f) tuple) rest (all_fewer (IsNot x a) history (scope_at P f) tuple b.0) b.1
+          let below = nat_lt (entry_at P f tuple) P.upper in
+          let uncut = not (is_cut history f (cell (dims_at P f) tuple)) in
+          let b = both (all_live (IsNot x a ∷ history) (scope_at P f) tuple && below) uncut live in
+          let d = both (all_live (IsNot x a ∷ history) (scope_at P f) tuple) below b.0 in
+          join (all_live history (scope_at P f) tuple && below) uncut (join (all_live history (scope_at P f) tuple) below (all_fewer (IsNot x a) history (scope_at P f) tuple d.0) d.1) b.1
 
 at_end : (P : Network) (path : List Event) → TameAlong P path → HasSmallCosts P path
 at_end P [] tame = tame
 at_end P (event ∷ path) tame = tame.0
 
--- the tree of a root that was split
-pub root_split : (x a : ℕ) → tree_of (split_at (open_node None ∷ []) 0 x a) ≡ Split [] x a (Open []) (Open [])
-root_split x a = refl
-
-module _ (P : Network) (path : List Event) (x : ℕ) (tame : TameAlong P path) (value : IsValue P x 0) (wide : 1 < slice_index P.sizes x) (live : IsTrue (is_live path x 0)) (other : IsTrue (is_live path x 1)) where
-  pub half_valid : (k : ℕ) → Valid P path (Split [] x 0 (Open []) (Open [])) k
-  half_valid k = (tt, value, tt, tt)
-
-  pub half_strict : Strict P path (Split [] x 0 (Open []) (Open []))
-  half_strict = (record { live = live; other = (1, wide, (λ h. omega (arith, h)), other) }, tt, tt)
-
-  pub half_tame : Tame P path (Split [] x 0 (Open []) (Open []))
-  half_tame = (at_end P path tame, small_is P path x 0 (at_end P path tame), small_is_not P path x 0 (at_end P path tame))
+pub half_tame : (P : Network) (path : List Event) (x : ℕ) → TameAlong P path → Tame P path (tree_of (split_at (open_node None ∷ []) 0 x 0))
+half_tame P path x tame = (at_end P path tame, small_is P path x 0 (at_end P path tame), small_is_not P path x 0 (at_end P path tame))
