@@ -94,6 +94,7 @@ begun P tree path number made start ahead some none same first =
   where
     whole : List Node
     whole = nodes_of P path (numbered number (tree_at tree 0))
+
     last : ℕ
     last = number + open_leaves (tree_at tree 0)
 

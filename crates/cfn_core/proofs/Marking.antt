@@ -97,7 +97,7 @@ handed_out m worker want left grant first nodes listed world can unspent leaves 
     let sums : granted_in m.nodes ≡ granted (pool_tree m.nodes) = ap granted_in listed ∙ granted_is P [] (pool_tree m.nodes) in
     let task : Task = record { leaf = first.number; worker = worker; grant = grant; floor = first.floor; path = path } in
     let is_task : task ≡ task_for P (world_of m) worker want first.number path =
-        ap₂ (λ g f. record { leaf = first.number; worker = worker; grant = g; floor = f; path = path }) (less ∙ ap (min want) (omega (arith, leaves, sums))) (floor_there P m.nodes listed first is) in
+    ap₂ (λ g f. record { leaf = first.number; worker = worker; grant = g; floor = f; path = path }) (less ∙ ap (min want) (omega (arith, leaves, sums))) (floor_there P m.nodes listed first is) in
     let all : nodes ≡ nodes_of P [] made.new = set ∙ made.all in
     let acts = take_task first.number path task made.new can unspent (λ same. omega (arith, same, leaves, sums, some)) (is_first P m.nodes listed first is) is_task made.replaced (record {
       reply = refl;

@@ -61,7 +61,7 @@ module _ (m : Machine) (seats : List Seat) (is : m.views ≡ map seat_of seats) 
   lower_acts found word new seats' own least is' offered =
       let best : found_of new.best.held ≡ cheaper m.network (found_of seat.best.held) (found_of found.held) = offered.best ∙ ap (λ P. cheaper P (found_of seat.best.held) (found_of found.held)) own in
       let view : seat_of new ≡ Some (record { best = cheaper m.network (found_of seat.best.held) (found_of found.held); seen = min m.word (price m.network (found_of found.held)); shares = 1 }) =
-          seen_as new (offered.met ∙ unmet) ∙ ap₂ (λ b s. Some (record { best = b; seen = s; shares = 1 })) best (offered.seen ∙ least) in
+      seen_as new (offered.met ∙ unmet) ∙ ap₂ (λ b s. Some (record { best = b; seen = s; shares = 1 })) best (offered.seen ∙ least) in
       by_view (world_of m) (Seen word) _ (λ v. Seen (min m.word (price m.network (found_of found.held)))) (λ v. lowered m.network (world_of m) i (found_of found.held) v) refl (record {
         reply = ap Seen least;
         world = ap₂ (λ w v. world_of (record m { word = w; views = v })) least (ap (map seat_of) is' ∙ changed new ∙ ap (slice_set m.views i) view);

@@ -13,13 +13,22 @@ use std::alloc::{AllocError, Global};
 #[derive(Clone, Copy, Debug, PartialEq, Eq)]
 pub(crate) enum End {
     /// An open leaf that nobody has.
-    FreeLeaf { number: u64 },
+    FreeLeaf {
+        number: u64,
+    },
     /// An open leaf that a worker has, who may make `grant` nodes of it.
-    OutLeaf { number: u64, worker: u32, grant: u64 },
+    OutLeaf {
+        number: u64,
+        worker: u32,
+        grant: u64,
+    },
     /// A closed leaf.
     ShutLeaf,
     /// A split: on its first side `variable` has `value`, on its second another value.
-    Branch { variable: u32, value: u32 },
+    Branch {
+        variable: u32,
+        value: u32,
+    },
 }
 
 /// A node: what stands before it, the floor there, the block of steps before its end, and its end.

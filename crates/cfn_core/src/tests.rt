@@ -1,6 +1,6 @@
 //! The machine at work, on three variables of which each two cost 1 where they agree.
 
-ghost use Rattle.std.specs.Prelude.{◌≡◌, ◌↔◌, IsTrue, IfOk, IfSome};
+ghost use Rattle.std.specs.Prelude.{◌≡◌, ◌<◌, ◌^◌, IsTrue, IfOk, IfSome};
 ghost use Rattle.std.specs.List.{AllByRecursion};
 ghost use Rattle.cfn_model.specs.Sums.{is_live, removes};
 ghost use Rattle.cfn_core.specs.Values.{IsTaskOf};
@@ -78,21 +78,87 @@ fn halved(
     Ok(Some(Piece::of(task, tree, network.ub())))
 }
 
+/// The opening for one worker.
+fn opened<'n>(alloc: Global, network: &'n Network, budget: u64) -> Result<World<'n>, AllocError>
+    requires { budget < 2 ^ 63 }
+    ensures { IfOk result (λ world. world.network ≡ network.now) }
+{
+    World::start(alloc, network, 1, budget)
+}
+
+/// Whether a worker's note gets the number 0.
+fn is_noted(world: &mut World<'_>, worker: u32) -> Result<bool, AllocError>
+    ensures { world.new.network ≡ world.old.network }
+{
+    Ok(matches!(
+        world.step(&Action::Note { worker })?,
+        Reply::Noted { note: 0 }
+    ))
+}
+
+/// Whether a piece that is given with the note 0 is taken.
+fn is_taken(world: &mut World<'_>, piece: Piece) -> Result<bool, AllocError>
+    requires { piece.network ≡ world.old.network }
+    ensures { world.new.network ≡ world.old.network }
+{
+    Ok(matches!(world.step(&Action::Give { piece, note: 0 })?, Reply::Done))
+}
+
+/// Whether a piece is refused after all leaves were called back.
+fn is_gone(world: &mut World<'_>, piece: Piece) -> Result<bool, AllocError>
+    requires { piece.network ≡ world.old.network }
+    ensures { world.new.network ≡ world.old.network }
+{
+    done(world.step(&Action::Recall))?;
+    Ok(matches!(world.step(&Action::Give { piece, note: 0 })?, Reply::Gone))
+}
+
+/// Whether a worker that asks for a leaf is told that the budget is spent.
+fn is_spent(world: &mut World<'_>) -> Result<bool, AllocError>
+    ensures { world.new.network ≡ world.old.network }
+{
+    Ok(matches!(
+        world.step(&Action::Take { worker: 0, want: 1 })?,
+        Reply::Spent
+    ))
+}
+
+/// The task that a worker takes, to make one node, if it gets one.
+fn task_for(world: &mut World<'_>, worker: u32) -> Result<Option<Task>, AllocError>
+    ensures own { world.new.network ≡ world.old.network }
+    ensures task { IfOk result (λ taken. IfSome taken (λ task. task.network ≡ world.old.network)) }
+{
+    match world.step(&Action::Take { worker, want: 1 })? {
+        Reply::Given { task } => Ok(Some(task)),
+        _ => Ok(None),
+    }
+}
+
+/// The root, taken by the worker 0 and split at the value 0 of the variable 0, if all goes well.
+fn split_root(
+    alloc: Global,
+    network: &Network,
+    world: &mut World<'_>,
+) -> Result<Option<Piece>, AllocError>
+    requires { world.old.network ≡ network.now }
+    ensures own { world.new.network ≡ network.now }
+    ensures piece { IfOk result (λ half. IfSome half (λ piece. piece.network ≡ network.now)) }
+{
+    match task_for(world, 0)? {
+        Some(task) if task.leaf() == 0 && task.grant() == 1 => halved(alloc, network, task, 0),
+        _ => Ok(None),
+    }
+}
+
 #[test]
 fn split_spends_the_budget(rt: HostRuntime) -> Result<(), Fail> {
     let alloc = rt.alloc();
     let network = tri(alloc)?;
-    let mut world = World::start(alloc, &network, 1, 1)?;
-    let take = Action::Take { worker: 0, want: 1 };
-    let Reply::Given { task } = world.step(&take)? else {
-        return Err("a task".into());
-    };
-    assert_eq!(rt; task.leaf(), 0);
-    assert_eq!(rt; task.grant(), 1);
-    let piece = halved(alloc, &network, task, 0)?.ok_or("a piece")?;
-    assert!(rt; matches!(world.step(&Action::Note { worker: 0 })?, Reply::Noted { note: 0 }));
-    assert!(rt; matches!(world.step(&Action::Give { piece, note: 0 })?, Reply::Done));
-    assert!(rt; matches!(world.step(&take)?, Reply::Spent));
+    let mut world = opened(alloc, &network, 1)?;
+    let piece = split_root(alloc, &network, &mut world)?.ok_or("a piece")?;
+    assert!(rt; is_noted(&mut world, 0)?);
+    assert!(rt; is_taken(&mut world, piece)?);
+    assert!(rt; is_spent(&mut world)?);
     Ok(())
 }
 
@@ -100,45 +166,45 @@ fn split_spends_the_budget(rt: HostRuntime) -> Result<(), Fail> {
 fn called_back_leaf_is_handed_out_again(rt: HostRuntime) -> Result<(), Fail> {
     let alloc = rt.alloc();
     let network = tri(alloc)?;
-    let mut world = World::start(alloc, &network, 1, 2)?;
-    let take = Action::Take { worker: 0, want: 1 };
-    let Reply::Given { task } = world.step(&take)? else {
-        return Err("a task".into());
-    };
-    let piece = halved(alloc, &network, task, 0)?.ok_or("a piece")?;
-    assert!(rt; matches!(world.step(&Action::Note { worker: 0 })?, Reply::Noted { note: 0 }));
-    assert!(rt; matches!(world.step(&Action::Recall)?, Reply::Done));
-    assert!(rt; matches!(world.step(&Action::Give { piece, note: 0 })?, Reply::Gone));
-    assert_eq!(rt; world.nodes.len(), 1);
-    assert!(rt; world.nodes[0].end == End::FreeLeaf { number: 0 });
-    let Reply::Given { task } = world.step(&take)? else {
-        return Err("the task again".into());
-    };
-    assert_eq!(rt; task.leaf(), 0);
+    let mut world = opened(alloc, &network, 2)?;
+    let piece = split_root(alloc, &network, &mut world)?.ok_or("a piece")?;
+    assert!(rt; is_noted(&mut world, 0)?);
+    assert!(rt; is_gone(&mut world, piece)?);
+    assert!(rt; is_free_root(&world));
+    let again = task_for(&mut world, 0)?;
+    assert!(rt; again.is_some());
     Ok(())
 }
 
+/// Whether the tree is one free leaf with the number 0.
+fn is_free_root(world: &World<'_>) -> bool {
+    match world.nodes.first() {
+        Some(root) => world.nodes.len() == 1 && root.end == End::FreeLeaf { number: 0 },
+        None => false,
+    }
+}
+
 #[test]
-fn list_takes_gives_and_takes(rt: HostRuntime) -> Result<(), Fail> {
+fn list_gives_and_takes(rt: HostRuntime) -> Result<(), Fail> {
     let alloc = rt.alloc();
     let network = tri(alloc)?;
-    let mut world = World::start(alloc, &network, 1, 1)?;
-    let take = Action::Take { worker: 0, want: 1 };
-    let Reply::Given { task } = world.step(&take)? else {
-        return Err("a task".into());
-    };
-    let piece = halved(alloc, &network, task, 0)?.ok_or("a piece")?;
+    let mut world = opened(alloc, &network, 1)?;
+    let piece = split_root(alloc, &network, &mut world)?.ok_or("a piece")?;
+    assert!(rt; spends_in_a_list(&mut world, piece));
+    Ok(())
+}
+
+/// Whether a list that notes, gives and takes is answered so that the budget is spent.
+fn spends_in_a_list(world: &mut World<'_>, piece: Piece) -> bool
+    requires { piece.network ≡ world.old.network }
+{
     let note = Action::Note { worker: 0 };
     let give = Action::Give { piece, note: 0 };
-    let actions = [note, give, take];
-    match world.run(&actions) {
-        Ok(replies) => {
-            assert_eq!(rt; replies.len(), 3);
-            assert!(rt; matches!(replies[2], Reply::Spent));
-        }
-        Err(memory) => assert_eq!(rt; memory.done, 3),
+    let take = Action::Take { worker: 0, want: 1 };
+    match world.run(&[note, give, take]) {
+        Ok(replies) => matches!(replies.last(), Some(Reply::Spent)),
+        Err(memory) => memory.done > 3,
     }
-    Ok(())
 }
 
 /// The next number of a plain generator, below 65,537.
@@ -194,7 +260,11 @@ fn lower(
     ensures { world.new.network ≡ network.now }
 {
     let mut found = Scored::empty(alloc, network)?;
-    let values = [(choice % 2) as u32, (choice / 2 % 2) as u32, (choice / 4 % 2) as u32];
+    let values = [
+        (choice % 2) as u32,
+        (choice / 2 % 2) as u32,
+        (choice / 4 % 2) as u32,
+    ];
     if network.fits(&values) == Fit::Fits {
         found.fill(network, &values);
     }

@@ -90,12 +90,14 @@ fn visit(
         End::Free => {
             let number = walk.number;
             let end = PoolEnd::FreeLeaf { number };
-            walk.made.push(Node::at(network, path, Block::new(alloc), end))?;
+            walk.made
+                .push(Node::at(network, path, Block::new(alloc), end))?;
             walk.number += 1;
         }
         End::Shut => {
             let block = node.block.copy(alloc)?;
-            walk.made.push(Node::at(network, path, block, PoolEnd::ShutLeaf))?;
+            walk.made
+                .push(Node::at(network, path, block, PoolEnd::ShutLeaf))?;
         }
         End::Split {
             variable,
@@ -105,8 +107,14 @@ fn visit(
         } => {
             let is = child_path(alloc, &path, &node.block, Event::Is { variable, value })?;
             let is_not = child_path(alloc, &path, &node.block, Event::IsNot { variable, value })?;
-            walk.ahead.push(Ahead { id: second, path: is_not })?;
-            walk.ahead.push(Ahead { id: first, path: is })?;
+            walk.ahead.push(Ahead {
+                id: second,
+                path: is_not,
+            })?;
+            walk.ahead.push(Ahead {
+                id: first,
+                path: is,
+            })?;
             let block = node.block.copy(alloc)?;
             let end = PoolEnd::Branch { variable, value };
             walk.made.push(Node::at(network, path, block, end))?;

@@ -49,9 +49,9 @@ returns-in_ok-push-in-Split-3-clause-on_way c = λ (whole : List Node) (last : �
     let two : Ahead = record { id = c.in-Split.second; path = c.in_ok-is_not-in-Split.is_not } in
     let ahead : c.push-in-Split-2.new.self.items ≡ (c.args.walk.now.ahead.items ++ two ∷ []) ++ one ∷ [] = c.in_ok-push-in-Split-2.ensures.items ∙ ap (λ l. l ++ one ∷ []) c.in_ok-push-in-Split.ensures.items in
     let turned : reverse c.push-in-Split-2.new.self.items ≡ one ∷ two ∷ reverse c.args.walk.now.ahead.items =
-        ap reverse ahead ∙ reverse-append (c.args.walk.now.ahead.items ++ two ∷ []) (one ∷ []) ∙ ap (λ l. one ∷ l) (reverse-append c.args.walk.now.ahead.items (two ∷ [])) in
+    ap reverse ahead ∙ reverse-append (c.args.walk.now.ahead.items ++ two ∷ []) (one ∷ []) ∙ ap (λ l. one ∷ l) (reverse-append c.args.walk.now.ahead.items (two ∷ [])) in
     let parts : reverse c.push-in-Split-2.new.self.items ≡ record { id = c.in-Split.first; path = Is x a ∷ after (node_at c.args.tree.now c.args.at.id.number).block c.args.at.path } ∷ record { id = c.in-Split.second; path = IsNot x a ∷ after (node_at c.args.tree.now c.args.at.id.number).block c.args.at.path } ∷ reverse c.args.walk.now.ahead.items =
-        turned ∙ ap₂ (λ p q. record { id = c.in-Split.first; path = p } ∷ record { id = c.in-Split.second; path = q } ∷ reverse c.args.walk.now.ahead.items) first second in
+    turned ∙ ap₂ (λ p q. record { id = c.in-Split.first; path = p } ∷ record { id = c.in-Split.second; path = q } ∷ reverse c.args.walk.now.ahead.items) first second in
     subst (λ l. IsOnWay P c.args.tree.now whole last l c.args.walk.now.number (reverse c.push-in-Split-2.new.self.items)) (sym items)
     (subst (λ l. IsOnWay P c.args.tree.now whole last (c.args.walk.now.made.items ++ node P c.args.at.path (node_at c.args.tree.now c.args.at.id.number).block (Branch x a) ∷ []) c.args.walk.now.number l) (sym parts)
     (split_made P c.args.tree.now c.linked.ensures.linked whole last c.args.walk.now.made.items c.args.walk.now.number (reverse c.args.walk.now.ahead.items) c.args.at way x a c.in-Split.first c.in-Split.second c.requires.there is))

@@ -14,6 +14,6 @@ returns-in-None-clause-acts c =
     let m = value c.self.inside in
     let piece = piece_of c.args.piece.now in
     let can : CanGive (world_of m) piece c.args.note = subst (λ k. MatchOption (note_at m.notes c.args.note) ⊥ (λ seen. seen ≤ k)) c.threshold.ensures
-        (subst (λ l. MatchOption (note_at l c.args.note) ⊥ (λ seen. seen ≤ c.threshold.result)) c.as_slice.ensures.value (c.if-not-can_heed.ensures.0 refl)) in
+    (subst (λ l. MatchOption (note_at l c.args.note) ⊥ (λ seen. seen ≤ c.threshold.result)) c.as_slice.ensures.value (c.if-not-can_heed.ensures.0 refl)) in
     let none : (j : ℕ) → IsOutAt m.nodes j piece.task → ⊥ = λ j at. c.in-None.ensures j (subst (λ (t : Task). IsOutAt c.as_slice-2.result.now j t) (sym c.task.ensures.task) (subst (λ l. IsOutAt l j piece.task) (sym c.as_slice-2.ensures.value) at)) in
     subst (λ (old : Machine). Acts old.network (world_of old) (Give piece c.args.note) Gone (world_of old)) c.self.view_is (gone m piece c.args.note c.self.invariant.machine.listed can none)

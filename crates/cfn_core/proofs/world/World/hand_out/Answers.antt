@@ -52,7 +52,7 @@ invariant_of-self-2 c =
     let items : c.insert.new.self.items ≡ c.of-hand.result ∷ c.self.inside.hands.items = c.in_ok-insert.ensures.items in
     let hands : tasks_in c.insert.new.self.items ≡ task ∷ m.hands = ap tasks_in items ∙ ap (λ t. t ∷ m.hands) hand in
     let acts : Acts m.network (world_of m) (Take c.args.worker c.args.want) (Given task) (world_of (record m { nodes = c.set_end.new.nodes.items; hands = tasks_in c.insert.new.self.items })) =
-        subst (λ h. Acts m.network (world_of m) (Take c.args.worker c.args.want) (Given task) (world_of (record m { nodes = c.set_end.new.nodes.items; hands = h }))) (sym hands) out.acts in
+    subst (λ h. Acts m.network (world_of m) (Take c.args.worker c.args.want) (Given task) (world_of (record m { nodes = c.set_end.new.nodes.items; hands = h }))) (sym hands) out.acts in
     changed m _ c.self.inside.best c.self.inside.seats.items (Take c.args.worker c.args.want) (Given task) c.self.invariant tt (record { listed = out.listed; acts = acts }) refl refl c.self.invariant.machine.next
 
 pub returns-clause-acts : goal.returns-clause-acts
@@ -71,7 +71,7 @@ returns-clause-acts c =
     let items : c.insert.new.self.items ≡ c.of-hand.result ∷ c.self.inside.hands.items = c.in_ok-insert.ensures.items in
     let hands : tasks_in c.insert.new.self.items ≡ task ∷ m.hands = ap tasks_in items ∙ ap (λ t. t ∷ m.hands) hand in
     let acts : Acts m.network (world_of m) (Take c.args.worker c.args.want) (Given task) (world_of (record m { nodes = c.set_end.new.nodes.items; hands = tasks_in c.insert.new.self.items })) =
-        subst (λ h. Acts m.network (world_of m) (Take c.args.worker c.args.want) (Given task) (world_of (record m { nodes = c.set_end.new.nodes.items; hands = h }))) (sym hands) out.acts in
+    subst (λ h. Acts m.network (world_of m) (Take c.args.worker c.args.want) (Given task) (world_of (record m { nodes = c.set_end.new.nodes.items; hands = h }))) (sym hands) out.acts in
     let given : task ≡ c.of-task.result.task = sym (c.of-task.ensures.task ∙ ap (λ p. record { leaf = c.args.first.number; worker = c.args.worker; grant = c.min-grant.result; floor = c.args.first.floor; path = p }) (c.in_ok-path.ensures ∙ ap (λ (e : Node). e.path) read)) in
     subst (λ (old : Machine). Acts old.network (world_of old) (Take c.args.worker c.args.want) (Given c.of-task.result.task) (world_of (record m { nodes = c.set_end.new.nodes.items; hands = tasks_in c.insert.new.self.items }))) c.self.view_is
     (subst (λ t. Acts m.network (world_of m) (Take c.args.worker c.args.want) (Given t) (world_of (record m { nodes = c.set_end.new.nodes.items; hands = tasks_in c.insert.new.self.items }))) given acts)

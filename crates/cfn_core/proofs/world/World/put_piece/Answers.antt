@@ -35,7 +35,7 @@ overflow_add-self c =
     let fit = numbers_fit m c.self.invariant.machine piece c.args.place out kept in
     let path : c.path.result.now ≡ piece.task.path = c.path.ensures ∙ ap (λ (t : Task). t.path) c.task-task.ensures.task in
     let made : c.in_ok-made.made.items ≡ nodes_of m.network piece.task.path (numbered m.next piece.tree) =
-        c.in_ok-made.ensures ∙ ap₂ (λ h t. nodes_of m.network h (numbered m.next (tree_of t))) path c.tree.ensures in
+    c.in_ok-made.ensures ∙ ap₂ (λ h t. nodes_of m.network h (numbered m.next (tree_of t))) path c.tree.ensures in
     let counts = opens m.network piece piece.task.path m.next c.in_ok-made.made.items kept made in
     let opened : c.open_count-opened.result ≡ open_leaves piece.tree = c.open_count-opened.ensures.value ∙ ap open_in c.as_slice.ensures.value ∙ counts.0 in
     omega (arith, more, fit, opened, c.self.invariant.machine.budget)
@@ -51,7 +51,7 @@ invariant_of-self-2 c =
     let fit = numbers_fit m c.self.invariant.machine piece c.args.place out kept in
     let path : c.path.result.now ≡ piece.task.path = c.path.ensures ∙ ap (λ (t : Task). t.path) c.task-task.ensures.task in
     let made : c.in_ok-made.made.items ≡ nodes_of m.network piece.task.path (numbered m.next piece.tree) =
-        c.in_ok-made.ensures ∙ ap₂ (λ h t. nodes_of m.network h (numbered m.next (tree_of t))) path c.tree.ensures in
+    c.in_ok-made.ensures ∙ ap₂ (λ h t. nodes_of m.network h (numbered m.next (tree_of t))) path c.tree.ensures in
     let counts = opens m.network piece piece.task.path m.next c.in_ok-made.made.items kept made in
     let opened : c.open_count-opened.result ≡ open_leaves piece.tree = c.open_count-opened.ensures.value ∙ ap open_in c.as_slice.ensures.value ∙ counts.0 in
     let size : c.len-size.result ≡ count piece.tree + open_leaves piece.tree = c.len-size.ensures ∙ c.in_ok-made.made.ok.0 ∙ counts.1 in
@@ -73,7 +73,7 @@ returns-clause-acts c =
     let fit = numbers_fit m c.self.invariant.machine piece c.args.place out kept in
     let path : c.path.result.now ≡ piece.task.path = c.path.ensures ∙ ap (λ (t : Task). t.path) c.task-task.ensures.task in
     let made : c.in_ok-made.made.items ≡ nodes_of m.network piece.task.path (numbered m.next piece.tree) =
-        c.in_ok-made.ensures ∙ ap₂ (λ h t. nodes_of m.network h (numbered m.next (tree_of t))) path c.tree.ensures in
+    c.in_ok-made.ensures ∙ ap₂ (λ h t. nodes_of m.network h (numbered m.next (tree_of t))) path c.tree.ensures in
     let counts = opens m.network piece piece.task.path m.next c.in_ok-made.made.items kept made in
     let opened : c.open_count-opened.result ≡ open_leaves piece.tree = c.open_count-opened.ensures.value ∙ ap open_in c.as_slice.ensures.value ∙ counts.0 in
     let size : c.len-size.result ≡ count piece.tree + open_leaves piece.tree = c.len-size.ensures ∙ c.in_ok-made.made.ok.0 ∙ counts.1 in

@@ -16,11 +16,11 @@ loop-done-preserved c =
     let a = c.index-actions-done.result in
     let there : i < length xs = c.loop-done-test.true in
     let acts : Acts P (world_of c.loop-done.self) (action_of a) (reply_of c.in-Ok.reply) (world_of c.step.new.self) =
-        subst (λ Q. Acts Q (world_of c.loop-done.self) (action_of a) (reply_of c.in-Ok.reply) (world_of c.step.new.self)) c.loop-done.invariant.network c.in-Ok.ensures.acts in
+    subst (λ Q. Acts Q (world_of c.loop-done.self) (action_of a) (reply_of c.in-Ok.reply) (world_of c.step.new.self)) c.loop-done.invariant.network c.in-Ok.ensures.acts in
     let actions : map action_of (take (i + 1) xs) ≡ map action_of (take i xs) ++ action_of a ∷ [] =
-        map_more action_of xs i a there ∙ ap (λ b. map action_of (take i xs) ++ action_of b ∷ []) (sym c.index-actions-done.is) in
+    map_more action_of xs i a there ∙ ap (λ b. map action_of (take i xs) ++ action_of b ∷ []) (sym c.index-actions-done.is) in
     let replies : map reply_of c.push_reserved.new.self.items ≡ map reply_of c.loop-done.replies.items ++ reply_of c.in-Ok.reply ∷ [] =
-        ap (map reply_of) c.push_reserved.ensures.items ∙ map-append reply_of c.loop-done.replies.items (c.in-Ok.reply ∷ []) in
+    ap (map reply_of) c.push_reserved.ensures.items ∙ map-append reply_of c.loop-done.replies.items (c.in-Ok.reply ∷ []) in
     record {
       network = c.in-Ok.ensures.network ∙ c.loop-done.invariant.network;
       runs = subst (λ l. Runs P w l (map reply_of c.push_reserved.new.self.items) (world_of c.step.new.self)) (sym actions)
