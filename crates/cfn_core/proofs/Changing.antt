@@ -1,5 +1,5 @@
 -- A list of nodes whose ends are changed one after another.
-use Rattle.std.proofs.Common.{◌≡◌, ℕ, ◌+◌, ◌-◌, ◌<◌, ◌≤◌, List, ◌++◌, length, map, take, drop, get_or, set, refl, sym, ap, ◌∙◌, subst, arith}
+use Rattle.std.proofs.Common.{◌≡◌, ℕ, ◌+◌, ◌<◌, List, ◌++◌, length, map, take, drop, get_or, set, sym, ap, ◌∙◌, arith}
 use Rattle.std.proofs.lemmas.List.{length-append, length-drop, length-map, length-take-le, get_or_read}
 use Rattle.std.proofs.lemmas.List.Edits.{map_over_more}
 use Rattle.cfn_core.specs.declared.node.End.{End}

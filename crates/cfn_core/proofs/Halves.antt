@@ -1,15 +1,13 @@
 -- Costs stay small where a leaf is split by a decision.
-use Rattle.std.proofs.Common.{◌≡◌, ◌≢◌, ℕ, ◌+◌, ◌<◌, ◌≤◌, ◌^◌, Bool, true, false, not, ◌&&◌, List, [], ◌∷◌, length, refl, sym, ap, ◌∙◌, subst, arith}
+use Rattle.std.proofs.Common.{◌≡◌, ℕ, Bool, true, false, not, ◌&&◌, List, [], ◌∷◌, refl, arith}
 use Rattle.std.proofs.lemmas.Int.{ints}
-use Rattle.std.specs.Prelude.{slice_index, IsTrue, pos, ◌<ℤ◌, None, nat_lt}
+use Rattle.std.specs.Prelude.{IsTrue, None, nat_lt}
 use Rattle.cfn_model.specs.declared.step.Event.{Event}
 use Rattle.cfn_model.specs.declared.step.Event.TheVariants.{Is, IsNot}
-use Rattle.cfn_model.specs.Network.{Network, dims_at, Fits, entry_at, scope_at, cell}
-use Rattle.cfn_model.specs.Sums.{unary, residual, removes, is_live, is_cut, all_live, is_live_tuple}
-use Rattle.cfn_model.specs.Steps.{IsValue}
-use Rattle.cfn_model.specs.Tree.{Tree, Open, Split, count, Valid, Strict, IsStrictSplit}
+use Rattle.cfn_model.specs.Network.{Network, dims_at, entry_at, scope_at, cell}
+use Rattle.cfn_model.specs.Sums.{removes, is_live, is_cut, all_live, is_live_tuple}
 use Rattle.cfn_proof.specs.Nodes.{open_node, split_at, tree_of}
-use Rattle.cfn_core.specs.Pool.{HasSmallCosts, Tame, TameAlong, HasEmptyOpen}
+use Rattle.cfn_core.specs.Pool.{HasSmallCosts, Tame, TameAlong}
 
 both : (a b : Bool) → (a && b) ≡ true → (a ≡ true) × (b ≡ true)
 both true true h = (refl, refl)

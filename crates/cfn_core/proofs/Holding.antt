@@ -1,5 +1,5 @@
 -- The tasks in hand, as contracts see them.
-use Rattle.std.proofs.Common.{◌≡◌, ℕ, List, [], ◌∷◌, map, refl, sym, ap, ◌∙◌, Bool, true, false, not, if◌then◌else◌, ◌==◌}
+use Rattle.std.proofs.Common.{◌≡◌, ℕ, List, [], ◌∷◌, map, refl, ap, Bool, true, false, not, if◌then◌else◌, ◌==◌}
 use Rattle.std.specs.Prelude.{filter}
 use Rattle.cfn_core.specs.declared.task.Task.{Task as HeldTask}
 use Rattle.cfn_core.specs.Pool.{Task}

@@ -1,10 +1,9 @@
 -- What a world keeps after an action, in the words of its fields.
-use Rattle.std.proofs.Common.{◌≡◌, ℕ, ◌+◌, ◌*◌, ◌<◌, ◌≤◌, List, [], length, map, inl, inr, refl, sym, ap, ◌∙◌, subst, Option, arith}
+use Rattle.std.proofs.Common.{◌≡◌, ℕ, ◌+◌, ◌*◌, ◌<◌, ◌≤◌, List, [], length, map, inl, inr, sym, ap, ◌∙◌, subst, Option, arith}
 use Rattle.std.proofs.lemmas.Bool.{cases_lt}
 use Rattle.std.proofs.lemmas.List.{length-map}
 use Rattle.std.specs.List.{AllByRecursion}
 use Rattle.cfn_net.specs.Scoring.{Scoring}
-use Rattle.cfn_core.specs.declared.node.Node.{Node}
 use Rattle.cfn_core.specs.declared.seat.Seat.{Seat}
 use Rattle.cfn_core.specs.declared.world.World.TheInside.{Inside}
 use Rattle.cfn_core.specs.Actions.{Action, Reply, IsAction, Acts, CanTake}

@@ -1,19 +1,17 @@
 -- A tree and the list of its nodes.
-use Rattle.std.proofs.Common.{◌≡◌, ◌≢◌, ℕ, ◌+◌, ◌<◌, ◌≤◌, ◌⊎◌, inl, inr, List, [], ◌∷◌, ◌++◌, length, map, refl, sym, ap, ap₂, ◌∙◌, subst, append_assoc, arith, if◌then◌else◌}
+use Rattle.std.proofs.Common.{◌≡◌, ℕ, ◌+◌, ◌⊎◌, inl, inr, List, [], ◌∷◌, ◌++◌, length, map, refl, sym, ap, ap₂, ◌∙◌, append_assoc, arith, if◌then◌else◌}
 use Rattle.std.proofs.lemmas.List.{append-nil, map-append, length-append}
 use Rattle.std.specs.Prelude.{Bool, true, false, nat_le}
-use Rattle.cfn_model.specs.declared.step.Step.{Step}
 use Rattle.cfn_model.specs.declared.step.Event.{Event}
 use Rattle.cfn_model.specs.declared.step.Event.TheVariants.{Is, IsNot}
 use Rattle.cfn_model.specs.Network.{Network}
 use Rattle.cfn_model.specs.Sums.{floor}
 use Rattle.cfn_model.specs.Steps.{after}
-use Rattle.cfn_model.specs.Tree.{Tree, count, open_leaves}
-use Rattle.cfn_core.specs.declared.node.End.{End}
-use Rattle.cfn_core.specs.declared.node.End.TheVariants.{FreeLeaf, OutLeaf, ShutLeaf, Branch}
+use Rattle.cfn_model.specs.Tree.{count, open_leaves}
+use Rattle.cfn_core.specs.declared.node.End.TheVariants.{FreeLeaf, ShutLeaf, Branch}
 use Rattle.cfn_core.specs.declared.node.Node.{Node}
 use Rattle.cfn_core.specs.Pool.{Mark, Free, Out, PoolTree, Leaf, Shut, Fork, tree_of, IsLeaf, Replaced, granted, recalled, swept}
-use Rattle.cfn_core.specs.Nodes.{node, leaf_end, nodes_of, forked, with_end, trees_of, first_of, pool_tree, IsListed, recalled_end, recalled_node, swept_end, swept_node}
+use Rattle.cfn_core.specs.Nodes.{node, leaf_end, nodes_of, forked, with_end, trees_of, first_of, pool_tree, IsListed, recalled_end, recalled_node, swept_node}
 use Rattle.cfn_core.specs.Finding.{open_end, open_in, grant_end, granted_in}
 
 -- a tree's nodes read as the tree

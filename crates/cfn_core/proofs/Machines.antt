@@ -1,16 +1,13 @@
 -- What a machine keeps.
-use Rattle.std.proofs.Common.{◌≡◌, ℕ, ◌+◌, ◌*◌, ◌<◌, ◌≤◌, ◌^◌, List, [], ◌∷◌, ◌++◌, replicate, refl, sym, ap, ◌∙◌, subst, ◌-◌, Option, Some, None, arith}
+use Rattle.std.proofs.Common.{◌≡◌, ℕ, ◌+◌, ◌*◌, ◌<◌, ◌≤◌, ◌^◌, List, [], ◌∷◌, ◌++◌, replicate, refl, sym, subst, ◌-◌, Some, arith}
 use Rattle.std.specs.List.{AllByRecursion}
 use Rattle.cfn_model.specs.Network.{Network, IsNetwork}
-use Rattle.cfn_net.specs.Scoring.{Scoring}
-use Rattle.cfn_core.specs.declared.node.Node.{Node}
-use Rattle.cfn_core.specs.declared.seat.Seat.{Seat}
-use Rattle.cfn_core.specs.Pool.{Free, Leaf, Task, View}
+use Rattle.cfn_core.specs.Pool.{Free, Leaf}
 use Rattle.cfn_core.specs.World.{World, new_view, opening}
 use Rattle.cfn_core.specs.Actions.{Action, Reply, IsAction, Acts, Runs}
 use Rattle.cfn_core.specs.Laws.{IsWorld, IsHanded}
 use Rattle.cfn_core.specs.Nodes.{nodes_of, pool_tree, IsListed}
-use Rattle.cfn_core.specs.Machine.{Machine, world_of, IsMachine, IsInside, IsSeatOf}
+use Rattle.cfn_core.specs.Machine.{Machine, world_of, IsMachine}
 use Rattle.cfn_core.proofs.Keeping.{opens, keeps}
 use Rattle.cfn_core.proofs.Handing.{opens_handed, keeps_handed}
 use Rattle.cfn_core.proofs.Listing.{tree_read, is_listed}

@@ -1,7 +1,6 @@
 -- What a walk over a piece's tree makes at each node.
 use Rattle.std.proofs.Common.{◌≡◌, ℕ, ◌+◌, ◌<◌, List, [], ◌∷◌, ◌++◌, length, refl, sym, ap, ◌∙◌, subst, append_assoc, reverse, arith}
 use Rattle.std.proofs.lemmas.List.{length-append, append-nil, reverse-append}
-use Rattle.cfn_model.specs.declared.step.Step.{Step}
 use Rattle.cfn_model.specs.declared.step.Event.{Event}
 use Rattle.cfn_model.specs.declared.step.Event.TheVariants.{Is, IsNot}
 use Rattle.cfn_model.specs.Network.{Network}
@@ -18,7 +17,7 @@ use Rattle.cfn_core.specs.declared.node.Node.{Node}
 use Rattle.cfn_core.specs.declared.walk.Ahead.{Ahead}
 use Rattle.cfn_core.specs.Pool.{numbered}
 use Rattle.cfn_core.specs.Nodes.{node, nodes_of}
-use Rattle.cfn_core.specs.Walk.{AreThere, numbers_left, nodes_left, IsOnWay}
+use Rattle.cfn_core.specs.Walk.{numbers_left, nodes_left, IsOnWay}
 
 module _ (P : Network) (tree : List Branching) (linked : IsLinked tree) where
   -- the tree of a node, by its end

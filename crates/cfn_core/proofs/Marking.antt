@@ -1,19 +1,16 @@
 -- A leaf that is found in the list of nodes: what takes its place, and which leaf is handed out first.
-use Rattle.std.proofs.Common.{◌≡◌, ◌≢◌, ℕ, zero, suc, ◌+◌, ◌-◌, ◌<◌, ◌≤◌, ◌⊎◌, inl, inr, List, [], ◌∷◌, ◌++◌, length, map, take, drop, get_or, set, min, refl, sym, ap, ap₂, ◌∙◌, subst, add-one, arith}
+use Rattle.std.proofs.Common.{◌≡◌, ◌≢◌, ℕ, suc, ◌+◌, ◌<◌, inl, inr, List, [], ◌∷◌, ◌++◌, length, map, take, drop, set, min, refl, sym, ap, ap₂, ◌∙◌, arith}
 use Rattle.std.proofs.lemmas.List.{take-append-drop, drop_more, set_split, length-append}
 use Rattle.std.proofs.lemmas.Bool.{cases_lt}
 use Rattle.std.specs.Prelude.{slice_set}
-use Rattle.cfn_model.specs.declared.step.Event.{Event}
 use Rattle.cfn_model.specs.Network.{Network}
 use Rattle.cfn_model.specs.Sums.{floor}
-use Rattle.cfn_model.specs.Tree.{Tree, count, open_leaves}
-use Rattle.cfn_core.specs.declared.node.End.{End}
-use Rattle.cfn_core.specs.declared.node.End.TheVariants.{FreeLeaf, OutLeaf, ShutLeaf, Branch}
+use Rattle.cfn_model.specs.Tree.{open_leaves}
+use Rattle.cfn_core.specs.declared.node.End.TheVariants.{FreeLeaf, OutLeaf}
 use Rattle.cfn_core.specs.declared.node.Node.{Node}
 use Rattle.cfn_core.specs.declared.finding.First.{First}
 use Rattle.cfn_core.specs.Pool.{Mark, Free, Out, PoolTree, Leaf, IsLeaf, Replaced, tree_of, granted, recalled, swept, Task, IsTask}
-use Rattle.cfn_core.specs.World.{World}
-use Rattle.cfn_core.specs.Actions.{Action, Reply, Answers, Acts, Take, Back, Recall, Sweep, Given, Empty, Spent, Again, NotOut, Done, CanTake, IsFirst, Takes, take_empty, take_spent, take_again, take_task, task_for, taken, back_not, back_done, without}
+use Rattle.cfn_core.specs.Actions.{Action, Reply, Acts, Take, Back, Recall, Sweep, Given, Empty, Spent, Again, NotOut, Done, CanTake, IsFirst, take_empty, take_spent, take_again, take_task, task_for, back_not, back_done, without}
 use Rattle.cfn_core.specs.Laws.{IsWorld}
 use Rattle.cfn_core.specs.Nodes.{node, leaf_end, nodes_of, pool_tree, IsListed, recalled_node, swept_node}
 use Rattle.cfn_core.specs.Finding.{no_node, node_at, open_in, granted_in, IsFirstFree, NoneFree, IsAt}

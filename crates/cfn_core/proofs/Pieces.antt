@@ -1,5 +1,5 @@
 -- A piece in the place of its leaf.
-use Rattle.std.proofs.Common.{◌≡◌, ℕ, ◌+◌, ◌*◌, ◌<◌, ◌≤◌, ◌^◌, inl, inr, List, [], ◌∷◌, ◌++◌, length, take, drop, refl, sym, ap, ap₂, ◌∙◌, subst, Option, None, arith}
+use Rattle.std.proofs.Common.{◌≡◌, ℕ, ◌+◌, ◌*◌, ◌≤◌, inl, inr, List, [], ◌∷◌, ◌++◌, length, take, drop, refl, sym, ap, ◌∙◌, subst, Option, None, arith}
 use Rattle.std.specs.Prelude.{slice_set}
 use Rattle.cfn_model.specs.declared.step.Event.{Event}
 use Rattle.cfn_model.specs.declared.step.Event.TheVariants.{Is, IsNot}
@@ -7,14 +7,13 @@ use Rattle.cfn_model.specs.Network.{Network}
 use Rattle.cfn_model.specs.Steps.{after}
 use Rattle.cfn_model.specs.Tree.{Tree, Open, Closed, Split, count, open_leaves}
 use Rattle.cfn_core.specs.declared.node.Node.{Node}
-use Rattle.cfn_core.specs.Pool.{Mark, Free, Out, PoolTree, Leaf, Shut, Fork, tree_of, IsLeaf, Replaced, granted, numbered, Task, Piece, IsPiece}
-use Rattle.cfn_core.specs.World.{World}
-use Rattle.cfn_core.specs.Actions.{Answers, Acts, Give, Idle, Gone, Done, CanGive, IsOut, Gives, give_idle, give_gone, give_done, without}
+use Rattle.cfn_core.specs.Pool.{Out, PoolTree, Leaf, Shut, Fork, IsLeaf, Replaced, granted, numbered, Task, Piece, IsPiece}
+use Rattle.cfn_core.specs.Actions.{Acts, Give, Gone, Done, CanGive, IsOut, give_gone, give_done, without}
 use Rattle.cfn_core.specs.Nodes.{node, leaf_end, nodes_of, pool_tree, IsListed}
 use Rattle.cfn_core.specs.Finding.{node_at, open_in, IsOutAt}
 use Rattle.cfn_core.specs.Machine.{Machine, world_of, IsMachine}
 use Rattle.cfn_core.proofs.Placing.{numbered_is}
-use Rattle.cfn_core.proofs.Listing.{Put, has_leaf, tree_read, is_listed, open_is, length_is}
+use Rattle.cfn_core.proofs.Listing.{has_leaf, tree_read, is_listed, open_is, length_is}
 use Rattle.cfn_core.proofs.Marking.{Left, placed, leaf_there, put_there}
 
 -- a leaf's grant is one of those that are granted

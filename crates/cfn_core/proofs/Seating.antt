@@ -1,7 +1,7 @@
 -- What the views of the workers become where one of them changes.
-use Rattle.std.proofs.Common.{◌≡◌, ℕ, zero, suc, ◌+◌, ◌<◌, List, [], ◌∷◌, ◌++◌, length, map, set, get_or, refl, sym, ap, ap₂, ◌∙◌, subst, true, false, min, Option, Some, None, MatchOption, if◌then◌else◌, arith}
+use Rattle.std.proofs.Common.{◌≡◌, ℕ, zero, suc, ◌+◌, List, [], ◌∷◌, ◌++◌, length, map, get_or, refl, sym, ap, ap₂, ◌∙◌, subst, true, false, min, Option, Some, None, MatchOption, if◌then◌else◌, arith}
 use Rattle.std.proofs.lemmas.List.{get_or-map, get_or_read, map-set}
-use Rattle.std.specs.Prelude.{slice_set, slice_index_or}
+use Rattle.std.specs.Prelude.{slice_set}
 use Rattle.std.specs.List.{AllByRecursion}
 use Rattle.cfn_model.specs.Network.{Network, Fits}
 use Rattle.cfn_model.specs.Certificate.{Solution, threshold_of}
@@ -9,7 +9,7 @@ use Rattle.cfn_net.specs.Scoring.{Scoring, IsPriced}
 use Rattle.cfn_core.specs.declared.seat.Seat.{Seat}
 use Rattle.cfn_core.specs.Pool.{View}
 use Rattle.cfn_core.specs.World.{World, price, cheaper, view_at, KeepsFitting}
-use Rattle.cfn_core.specs.Actions.{Reply, Idle, Seen, Noted, Done, Look, Lower, Note, Meet, Answers, Acts, looked, lowered, noted, joined, met}
+use Rattle.cfn_core.specs.Actions.{Reply, Idle, Seen, Noted, Done, Look, Lower, Note, Meet, Answers, Acts, looked, lowered, noted, met}
 use Rattle.cfn_core.specs.Machine.{Machine, world_of, found_of, seat_of, IsSeat, IsOffered, IsSeatOf}
 
 view_in : Seat → View

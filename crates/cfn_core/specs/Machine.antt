@@ -1,6 +1,6 @@
 -- What contracts see of the machine that runs: its network, and the world as the definitions have it, with the pool's
 -- tree as the list of its nodes.
-use Rattle.std.specs.Prelude.{◌≡◌, ℕ, ◌+◌, ◌*◌, ◌<◌, ◌≤◌, ◌^◌, List, length, map, slice_index_or, Option, Some, None, if◌then◌else◌}
+use Rattle.std.specs.Prelude.{◌≡◌, ℕ, ◌+◌, ◌*◌, ◌<◌, ◌≤◌, ◌^◌, List, length, slice_index_or, Option, Some, None, if◌then◌else◌}
 use Rattle.std.specs.List.{AllByRecursion}
 use Rattle.cfn_model.specs.Certificate.{Solution}
 use Rattle.cfn_model.specs.Network.{Network, IsNetwork}
@@ -16,7 +16,7 @@ use Rattle.cfn_core.specs.World.{World, cheaper}
 use Rattle.cfn_core.specs.Actions as actions
 use Rattle.cfn_core.specs.Laws.{IsWorld, IsHanded}
 use Rattle.cfn_core.specs.Nodes.{pool_tree, IsListed}
-use Rattle.cfn_core.specs.Values.{TaskValue, piece_of}
+use Rattle.cfn_core.specs.Values.{piece_of}
 
 pub record Machine : Type 0 where
   pub network : Network

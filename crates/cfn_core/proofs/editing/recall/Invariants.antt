@@ -1,4 +1,4 @@
-use Rattle.std.proofs.Common.{◌≡◌, ◌++◌, map, take, drop, length}
+use Rattle.std.proofs.Common.{◌≡◌, ◌++◌, map, take, drop}
 use Rattle.cfn_core.specs.Nodes.{recalled_node}
 use Rattle.cfn_core.proofs.editing.recall.Given as goal
 

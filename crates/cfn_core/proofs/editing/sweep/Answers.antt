@@ -1,4 +1,4 @@
-use Rattle.std.proofs.Common.{◌≡◌, ◌<◌, length, sym, ap, ◌∙◌, refl, arith}
+use Rattle.std.proofs.Common.{◌<◌, length, sym, ap, ◌∙◌, arith}
 use Rattle.cfn_core.specs.Nodes.{swept_node}
 use Rattle.cfn_core.proofs.Changing.{changed, changed_len}
 use Rattle.cfn_core.proofs.editing.sweep.Goals as goal

@@ -1,4 +1,4 @@
-use Rattle.std.proofs.Common.{◌≡◌, ◌++◌, map, take, drop, length}
+use Rattle.std.proofs.Common.{◌≡◌, ◌++◌, map, take, drop}
 use Rattle.cfn_core.specs.Nodes.{swept_node}
 use Rattle.cfn_core.proofs.editing.sweep.Given as goal
 

@@ -1,4 +1,4 @@
-use Rattle.std.proofs.Common.{◌≡◌, List, reverse, rules, sym, ap, ◌∙◌}
+use Rattle.std.proofs.Common.{◌≡◌, reverse, rules, sym, ap, ◌∙◌}
 use Rattle.std.proofs.lemmas.List.{reverse-reverse}
 use Rattle.std.proofs.lemmas.Slice.Eq.{slice_eq-Decides}
 use Rattle.cfn_core.proofs.finding.is_same.Goals as goal

@@ -1,4 +1,4 @@
-use Rattle.std.proofs.Common.{◌≡◌, rules, ap, ◌∙◌}
+use Rattle.std.proofs.Common.{rules, ap, ◌∙◌}
 use Rattle.std.proofs.lemmas.Fn.{filter_same}
 use Rattle.cfn_core.proofs.Holding.{stays, tasks_in, kept_tasks}
 use Rattle.cfn_core.proofs.hands.let_go.Goals as goal

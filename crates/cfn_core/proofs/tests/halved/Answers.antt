@@ -1,5 +1,5 @@
-use Rattle.std.proofs.Common.{[], ◌∷◌, None, sym, ap, ◌∙◌, subst}
-use Rattle.cfn_proof.specs.Nodes.{open_node, split_at, tree_of}
+use Rattle.std.proofs.Common.{sym, ap, ◌∙◌, subst}
+use Rattle.cfn_proof.specs.Nodes.{split_at, tree_of}
 use Rattle.cfn_core.specs.Pool.{Tame}
 use Rattle.cfn_core.proofs.Halves.{half_tame}
 use Rattle.cfn_core.proofs.tests.halved.Goals as goal

@@ -1,9 +1,8 @@
-use Rattle.std.proofs.Common.{◌≡◌, ℕ, ◌+◌, ◌<◌, List, [], ◌∷◌, ◌++◌, length, reverse, refl, sym, ap, ◌∙◌, subst, arith}
-use Rattle.cfn_proof.specs.Nodes.{tree_at, tree_of}
+use Rattle.std.proofs.Common.{◌≡◌, ◌+◌, [], length, reverse, ap, arith}
+use Rattle.cfn_proof.specs.Nodes.{tree_of}
 use Rattle.cfn_model.specs.Tree.{open_leaves}
 use Rattle.cfn_core.specs.Pool.{numbered}
 use Rattle.cfn_core.specs.Nodes.{nodes_of}
-use Rattle.cfn_core.specs.Walk.{IsOnWay}
 use Rattle.cfn_core.proofs.Making.{fewer_left, begun, done, turned, none_there}
 use Rattle.cfn_core.proofs.walk.piece_nodes.Goals as goal
 

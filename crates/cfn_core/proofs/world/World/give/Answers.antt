@@ -1,4 +1,4 @@
-use Rattle.std.proofs.Common.{◌≡◌, ◌≤◌, ℕ, refl, ap, sym, ◌∙◌, subst, MatchOption}
+use Rattle.std.proofs.Common.{◌≤◌, ℕ, refl, sym, subst, MatchOption}
 use Rattle.cfn_core.specs.Pool.{Task}
 use Rattle.cfn_core.specs.World.{note_at}
 use Rattle.cfn_core.specs.Actions.{Acts, CanGive, Give, Gone}

@@ -1,4 +1,4 @@
-use Rattle.std.proofs.Common.{◌+◌, ◌≤◌, ap, arith}
+use Rattle.std.proofs.Common.{ap, arith}
 use Rattle.cfn_core.specs.Finding.{granted_in}
 use Rattle.cfn_core.specs.Machine.{Machine}
 use Rattle.cfn_core.proofs.Insides.{value, within}

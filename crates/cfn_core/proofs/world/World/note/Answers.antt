@@ -1,4 +1,4 @@
-use Rattle.std.proofs.Common.{◌≡◌, ◌++◌, [], ◌∷◌, Some, length, refl, ap, sym, ◌∙◌, subst}
+use Rattle.std.proofs.Common.{◌≡◌, ◌++◌, [], ◌∷◌, Some, length, refl, ap, ◌∙◌}
 use Rattle.cfn_core.specs.declared.seat.Seat.{Seat}
 use Rattle.cfn_core.specs.Actions.{Note, Noted}
 use Rattle.cfn_core.proofs.Insides.{value, viewed}

@@ -1,4 +1,4 @@
-use Rattle.std.proofs.Common.{◌≡◌, ◌+◌, ◌≤◌, length, map, take, vec_len}
+use Rattle.std.proofs.Common.{◌≡◌, ◌≤◌, length, map, take, vec_len}
 use Rattle.std.specs.Prelude.{vec_capacity}
 use Rattle.cfn_core.specs.Actions.{Runs}
 use Rattle.cfn_core.specs.Laws.{Always}

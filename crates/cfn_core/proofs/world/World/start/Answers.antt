@@ -1,4 +1,4 @@
-use Rattle.std.proofs.Common.{◌≡◌, ◌-◌, [], ◌∷◌, ◌++◌, map, refl, ap, ap₂, sym, ◌∙◌}
+use Rattle.std.proofs.Common.{◌≡◌, ◌-◌, [], ◌∷◌, ◌++◌, map, refl, ap, ap₂, ◌∙◌}
 use Rattle.cfn_core.specs.declared.node.End.TheVariants.{FreeLeaf}
 use Rattle.cfn_core.specs.Pool.{Free, Leaf}
 use Rattle.cfn_core.specs.Nodes.{node, nodes_of}
