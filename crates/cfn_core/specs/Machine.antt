@@ -18,6 +18,8 @@ use Rattle.cfn_core.specs.Laws.{IsWorld, IsHanded}
 use Rattle.cfn_core.specs.Nodes.{pool_tree, IsListed}
 use Rattle.cfn_core.specs.Values.{piece_of}
 
+-- The network, the nodes of the pool's tree and what else the pool keeps, the word, the views of it, the notes and the
+-- tasks in hand.
 pub record Machine : Type 0 where
   pub network : Network
   pub nodes : List Node
@@ -122,6 +124,7 @@ pub record IsMachine (m : Machine) : Type 0 where
 abbrev pub IsSeatOf : Network → Seat → Type 0
 IsSeatOf P seat = seat.best.network ≡ P
 
+-- What the type of the running machine keeps.
 pub record IsInside (m : Machine) (best : Scoring) (seats : List Seat) : Type 0 where
   pub machine : IsMachine m
   pub own : best.network ≡ m.network
