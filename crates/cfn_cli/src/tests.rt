@@ -23,6 +23,15 @@ fn solves(alloc: Global, words: &[&str], workers: u8, budget: u64) -> bool {
     }
 }
 
+fn checks(alloc: Global, words: &[&str]) -> bool {
+    match parse(alloc, words) {
+        Ok(Command::Check(asked)) => {
+            asked.file.as_str() == "a" && asked.certificate.as_str() == "b"
+        }
+        _ => false,
+    }
+}
+
 fn costs(alloc: Global, words: &[&str], values: &[u32]) -> bool {
     match parse(alloc, words) {
         Ok(Command::Cost(asked)) => {
@@ -66,13 +75,8 @@ fn solve_is_read(rt: HostRuntime) {
 #[test]
 fn check_is_read(rt: HostRuntime) {
     let alloc = rt.alloc();
-    let taken = match parse(alloc, &["w", "check", "a", "b"]) {
-        Ok(Command::Check(asked)) => {
-            asked.file.as_str() == "a" && asked.certificate.as_str() == "b"
-        }
-        _ => false,
-    };
-    assert!(rt; taken);
+    assert!(rt; checks(alloc, &["w", "check", "a", "b"]));
+    assert!(rt; !checks(alloc, &["w", "check", "b", "a"]));
 }
 
 #[test]
