@@ -311,16 +311,41 @@ fn written_certificates_are_verified(rt: HostRuntime) -> Result<(), Fail> {
                 let words = ["wcspsolve", "solve", "in", "out", "--budget", budget];
                 let status = run(&rt, rt.alloc(), &words, &mut desk, &OpenGate);
                 assert!(rt; status < 3, "of {file}");
+                let verified = verified_line(rt.alloc(), desk.said_bytes())?;
                 let before = desk.said_bytes().len();
                 let words = ["wcspsolve", "check", "in", "out"];
                 let status = run(&rt, rt.alloc(), &words, &mut desk, &OpenGate);
                 assert_eq!(rt; status, 0, "of {file}");
-                let said = &desk.said_bytes()[before..];
-                assert!(rt; said.starts_with(b"verified lower "), "of {file}");
+                assert_eq!(rt;
+                    &desk.said_bytes()[before..],
+                    verified.as_slice(),
+                    "of {file}"
+                );
             }
         }
     }
     Ok(())
+}
+
+/// The line by which `check` says the bounds of a report.
+fn verified_line(alloc: Global, report: &[u8]) -> Result<Vec<u8>, AllocError> {
+    let mut line = Vec::new(alloc);
+    line.extend_from_slice(b"verified lower ")?;
+    line.extend_from_slice(behind(report, b"lower "))?;
+    line.extend_from_slice(b" best ")?;
+    line.extend_from_slice(behind(report, b"upper "))?;
+    line.push(b'\n')?;
+    Ok(line)
+}
+
+/// What stands behind a front, on the first line that begins with it.
+fn behind<'a>(text: &'a [u8], front: &[u8]) -> &'a [u8] {
+    for line in text.split(|byte| *byte == b'\n') {
+        if let Some(rest) = line.strip_prefix(front) {
+            return rest;
+        }
+    }
+    &[]
 }
 
 /// Both files are loaded before the first is read, and the certificate is judged last.
