@@ -9,12 +9,17 @@ use Rattle.cfn_model.specs.Reading.{Reads, Refuses, reading}
 use Rattle.cfn_model.specs.Text.{memory_fault_text}
 use Rattle.cfn_desk.specs.Desk.{Files, Rose}
 use Rattle.cfn_net.specs.Fitting.{IsFirstMisfit}
+use Rattle.cfn_model.specs.Certificate.{Certificate, Good}
+use Rattle.cfn_model.specs.Text.{Spells}
+use Rattle.cfn_fault.specs.declared.kind.FaultKind.{FaultKind}
+use Rattle.cfn_fault.specs.Fault.{Fault}
+use Rattle.cfn_fault.proofs.Faults.{no_fault_where_good}
 use Rattle.cfn_report.specs.Texts.{usage_text}
-use Rattle.cfn_cli.specs.Request.{Request, solve, cost, SolveRequest, CostRequest}
-use Rattle.cfn_app.specs.Outside.{Outside, ReadsFile, RefusesFile, Says, EndsSaying}
+use Rattle.cfn_cli.specs.Request.{Request, solve, check, cost, SolveRequest, CheckRequest, CostRequest}
+use Rattle.cfn_app.specs.Outside.{Outside, HasFile, ReadsFile, RefusesFile, Says, EndsSaying}
 use Rattle.cfn_app.specs.Headline.{status_of, Reports}
-use Rattle.cfn_app.specs.Runs.{Runs, no_memory, usage, unread, refused, written, unwritten, costs, wrong_number, wrong_value, file_of}
-use Rattle.cfn_app.specs.Statuses.{Solved, Costed, FileRefused, ValuesRefused, IsRefused, Tells, IsHindered, Statuses}
+use Rattle.cfn_app.specs.Runs.{Runs, no_memory, usage, unread, refused, written, unwritten, verified, disproved, costs, wrong_number, wrong_value, file_of}
+use Rattle.cfn_app.specs.Statuses.{Solved, Costed, Verified, Disproved, FileRefused, ValuesRefused, IsRefused, Tells, TellsBytes, IsHindered, Statuses}
 
 -- 0, 1, 2 or 6
 abbrev IsWordStatus : ℕ → Type 0
@@ -55,6 +60,15 @@ same_ask request ask other e o = cc
 solve_cost : (request : Option Request) (ask : SolveRequest) (other : CostRequest) → request ≡ Some (solve ask) → request ≡ Some (cost other) → ⊥
 solve_cost request ask other e o = cc
 
+solve_check : (request : Option Request) (ask : SolveRequest) (other : CheckRequest) → request ≡ Some (solve ask) → request ≡ Some (check other) → ⊥
+solve_check request ask other e o = cc
+
+check_cost : (request : Option Request) (ask : CheckRequest) (other : CostRequest) → request ≡ Some (check ask) → request ≡ Some (cost other) → ⊥
+check_cost request ask other e o = cc
+
+same_check : (request : Option Request) (ask other : CheckRequest) → request ≡ Some (check ask) → request ≡ Some (check other) → ask ≡ other
+same_check request ask other e o = cc
+
 same_cost : (request : Option Request) (ask other : CostRequest) → request ≡ Some (cost ask) → request ≡ Some (cost other) → ask ≡ other
 same_cost request ask other e o = cc
 
@@ -68,6 +82,10 @@ ok_or_err r P refusal ok err = cc
 
 one_ok : (r : Result Network Refusal) (P Q : Network) → r ≡ Ok P → r ≡ Ok Q → P ≡ Q
 one_ok r P Q p q = cc
+
+told_bytes : (files : Option Files) (name bytes other : List ℕ) → IsSomeAnd files (λ f. f name ≡ Some other) → IfSome files (λ f. f name ≡ Some bytes) → bytes ≡ other
+told_bytes None name bytes other told has = absurd told
+told_bytes (Some f) name bytes other told has = same_bytes bytes other (sym has ∙ told)
 
 told_reading : (files : Option Files) (file bytes : List ℕ) (P : Network) → IsSomeAnd files (λ f. (b : List ℕ) × (f file ≡ Some b) × Reads b P) → IfSome files (λ f. f file ≡ Some bytes) → Reads bytes P
 told_reading None file bytes P told has = absurd told
@@ -121,14 +139,16 @@ module _ (request : Option Request) (old new : Outside) (status : ℕ) where
   solved : (ask : SolveRequest) (found word : ResultWord) → request ≡ Some (solve ask) → Reports ask old new found → status ≡ status_of found → status ≡ status_of word → Solved request old new word
   solved ask found word q reports due is = (ask, q, subst (λ w. Reports ask old new w) (same_word found word (sym due ∙ is)) reports)
 
-  done : Runs request old new status → status ≡ 0 → Solved request old new Optimum ⊎ Costed request old new
+  done : Runs request old new status → status ≡ 0 → Solved request old new Optimum ⊎ (Verified request old new ⊎ Costed request old new)
   done (no_memory e) is = absurd (let o = ends _ 6 e in omega (arith, o, is))
   done (usage n e) is = absurd (let o = ends _ 3 e in omega (arith, o, is))
   done (unread five cut) is = absurd (omega (arith, five, is))
   done (refused ask r q file e) is = absurd (let o = ends _ 4 e in omega (arith, o, is))
   done (written ask word q reports due) is = inl (solved ask word Optimum q reports due is)
   done (unwritten ask P nodes c rows word q file promise five out) is = absurd (omega (arith, five, is))
-  done (costs ask P q file fits e) is = inr (ask, P, q, file, fits, says _ 0 e (omega (arith, is)))
+  done (verified ask P bytes c q file has verifies e) is = inr (inl (ask, P, bytes, c, q, file, has, verifies, says _ 0 e (omega (arith, is))))
+  done (disproved ask P bytes l kind q file has fails e) is = absurd (let o = ends _ 7 e in omega (arith, o, is))
+  done (costs ask P q file fits e) is = inr (inr (ask, P, q, file, fits, says _ 0 e (omega (arith, is))))
   done (wrong_number ask P q file other e) is = absurd (let o = ends _ 4 e in omega (arith, o, is))
   done (wrong_value ask P x q file misfit e) is = absurd (let o = ends _ 4 e in omega (arith, o, is))
 
@@ -139,6 +159,8 @@ module _ (request : Option Request) (old new : Outside) (status : ℕ) where
   none (refused ask r q file e) is = absurd (let o = ends _ 4 e in omega (arith, o, is))
   none (written ask word q reports due) is = solved ask word Nothing q reports due is
   none (unwritten ask P nodes c rows word q file promise five out) is = absurd (omega (arith, five, is))
+  none (verified ask P bytes c q file has verifies e) is = absurd (let o = ends _ 0 e in omega (arith, o, is))
+  none (disproved ask P bytes l kind q file has fails e) is = absurd (let o = ends _ 7 e in omega (arith, o, is))
   none (costs ask P q file fits e) is = absurd (let o = ends _ 0 e in omega (arith, o, is))
   none (wrong_number ask P q file other e) is = absurd (let o = ends _ 4 e in omega (arith, o, is))
   none (wrong_value ask P x q file misfit e) is = absurd (let o = ends _ 4 e in omega (arith, o, is))
@@ -150,6 +172,8 @@ module _ (request : Option Request) (old new : Outside) (status : ℕ) where
   spent (refused ask r q file e) is = absurd (let o = ends _ 4 e in omega (arith, o, is))
   spent (written ask word q reports due) is = solved ask word Budget q reports due is
   spent (unwritten ask P nodes c rows word q file promise five out) is = absurd (omega (arith, five, is))
+  spent (verified ask P bytes c q file has verifies e) is = absurd (let o = ends _ 0 e in omega (arith, o, is))
+  spent (disproved ask P bytes l kind q file has fails e) is = absurd (let o = ends _ 7 e in omega (arith, o, is))
   spent (costs ask P q file fits e) is = absurd (let o = ends _ 0 e in omega (arith, o, is))
   spent (wrong_number ask P q file other e) is = absurd (let o = ends _ 4 e in omega (arith, o, is))
   spent (wrong_value ask P x q file misfit e) is = absurd (let o = ends _ 4 e in omega (arith, o, is))
@@ -161,6 +185,8 @@ module _ (request : Option Request) (old new : Outside) (status : ℕ) where
   called (refused ask r q file e) is = absurd (let o = ends _ 4 e in omega (arith, o, is))
   called (written ask word q reports due) is = absurd (let s = word_status word in omega (arith, s, due, is))
   called (unwritten ask P nodes c rows word q file promise five out) is = absurd (omega (arith, five, is))
+  called (verified ask P bytes c q file has verifies e) is = absurd (let o = ends _ 0 e in omega (arith, o, is))
+  called (disproved ask P bytes l kind q file has fails e) is = absurd (let o = ends _ 7 e in omega (arith, o, is))
   called (costs ask P q file fits e) is = absurd (let o = ends _ 0 e in omega (arith, o, is))
   called (wrong_number ask P q file other e) is = absurd (let o = ends _ 4 e in omega (arith, o, is))
   called (wrong_value ask P x q file misfit e) is = absurd (let o = ends _ 4 e in omega (arith, o, is))
@@ -172,6 +198,8 @@ module _ (request : Option Request) (old new : Outside) (status : ℕ) where
   refusal (refused ask r q file e) is = inl (ask, r, q, file, says _ 4 e (omega (arith, is)))
   refusal (written ask word q reports due) is = absurd (let s = word_status word in omega (arith, s, due, is))
   refusal (unwritten ask P nodes c rows word q file promise five out) is = absurd (omega (arith, five, is))
+  refusal (verified ask P bytes c q file has verifies e) is = absurd (let o = ends _ 0 e in omega (arith, o, is))
+  refusal (disproved ask P bytes l kind q file has fails e) is = absurd (let o = ends _ 7 e in omega (arith, o, is))
   refusal (costs ask P q file fits e) is = absurd (let o = ends _ 0 e in omega (arith, o, is))
   refusal (wrong_number ask P q file other e) is = inr (ask, P, q, file, inl (other, says _ 4 e (omega (arith, is))))
   refusal (wrong_value ask P x q file misfit e) is = inr (ask, P, q, file, inr (x, misfit, says _ 4 e (omega (arith, is))))
@@ -183,6 +211,8 @@ module _ (request : Option Request) (old new : Outside) (status : ℕ) where
   fault (refused ask r q file e) is = rose _ 4 (omega arith) e is
   fault (written ask word q reports due) is = absurd (let s = word_status word in omega (arith, s, due, is))
   fault (unwritten ask P nodes c rows word q file promise five out) is = out.faults
+  fault (verified ask P bytes c q file has verifies e) is = rose _ 0 (omega arith) e is
+  fault (disproved ask P bytes l kind q file has fails e) is = rose _ 7 (omega arith) e is
   fault (costs ask P q file fits e) is = rose _ 0 (omega arith) e is
   fault (wrong_number ask P q file other e) is = rose _ 4 (omega arith) e is
   fault (wrong_value ask P x q file misfit e) is = rose _ 4 (omega arith) e is
@@ -194,17 +224,34 @@ module _ (request : Option Request) (old new : Outside) (status : ℕ) where
   memory (refused ask r q file e) is = absurd (let o = ends _ 4 e in omega (arith, o, is))
   memory (written ask word q reports due) is = inr (solved ask word Memory q reports due is)
   memory (unwritten ask P nodes c rows word q file promise five out) is = absurd (omega (arith, five, is))
+  memory (verified ask P bytes c q file has verifies e) is = absurd (let o = ends _ 0 e in omega (arith, o, is))
+  memory (disproved ask P bytes l kind q file has fails e) is = absurd (let o = ends _ 7 e in omega (arith, o, is))
   memory (costs ask P q file fits e) is = absurd (let o = ends _ 0 e in omega (arith, o, is))
   memory (wrong_number ask P q file other e) is = absurd (let o = ends _ 4 e in omega (arith, o, is))
   memory (wrong_value ask P x q file misfit e) is = absurd (let o = ends _ 4 e in omega (arith, o, is))
 
-  range : Runs request old new status → status ≤ 6
+  disproof : Runs request old new status → status ≡ 7 → Disproved request old new
+  disproof (no_memory e) is = absurd (let o = ends _ 6 e in omega (arith, o, is))
+  disproof (usage n e) is = absurd (let o = ends _ 3 e in omega (arith, o, is))
+  disproof (unread five cut) is = absurd (omega (arith, five, is))
+  disproof (refused ask r q file e) is = absurd (let o = ends _ 4 e in omega (arith, o, is))
+  disproof (written ask word q reports due) is = absurd (let s = word_status word in omega (arith, s, due, is))
+  disproof (unwritten ask P nodes c rows word q file promise five out) is = absurd (omega (arith, five, is))
+  disproof (verified ask P bytes c q file has verifies e) is = absurd (let o = ends _ 0 e in omega (arith, o, is))
+  disproof (disproved ask P bytes l kind q file has fails e) is = (ask, P, bytes, l, kind, q, file, has, fails, says _ 7 e (omega (arith, is)))
+  disproof (costs ask P q file fits e) is = absurd (let o = ends _ 0 e in omega (arith, o, is))
+  disproof (wrong_number ask P q file other e) is = absurd (let o = ends _ 4 e in omega (arith, o, is))
+  disproof (wrong_value ask P x q file misfit e) is = absurd (let o = ends _ 4 e in omega (arith, o, is))
+
+  range : Runs request old new status → status ≤ 7
   range (no_memory e) = let o = ends _ 6 e in omega (arith, o)
   range (usage n e) = let o = ends _ 3 e in omega (arith, o)
   range (unread five cut) = omega (arith, five)
   range (refused ask r q file e) = let o = ends _ 4 e in omega (arith, o)
   range (written ask word q reports due) = let s = word_status word in omega (arith, s, due)
   range (unwritten ask P nodes c rows word q file promise five out) = omega (arith, five)
+  range (verified ask P bytes c q file has verifies e) = let o = ends _ 0 e in omega (arith, o)
+  range (disproved ask P bytes l kind q file has fails e) = let o = ends _ 7 e in omega (arith, o)
   range (costs ask P q file fits e) = let o = ends _ 0 e in omega (arith, o)
   range (wrong_number ask P q file other e) = let o = ends _ 4 e in omega (arith, o)
   range (wrong_value ask P x q file misfit e) = let o = ends _ 4 e in omega (arith, o)
@@ -216,6 +263,8 @@ module _ (request : Option Request) (old new : Outside) (status : ℕ) where
   faultless (refused ask r q file e) other = (says _ 4 e other).faults
   faultless (written ask word q reports due) other = reports.written.faults
   faultless (unwritten ask P nodes c rows word q file promise five out) other = absurd (other five)
+  faultless (verified ask P bytes c q file has verifies e) other = (says _ 0 e other).faults
+  faultless (disproved ask P bytes l kind q file has fails e) other = (says _ 7 e other).faults
   faultless (costs ask P q file fits e) other = (says _ 0 e other).faults
   faultless (wrong_number ask P q file differs e) other = (says _ 4 e other).faults
   faultless (wrong_value ask P x q file misfit e) other = (says _ 4 e other).faults
@@ -239,6 +288,8 @@ module _ (request : Option Request) (old new : Outside) (status : ℕ) where
   no_command (refused ask r q file e) is = absurd (none_some request ask is q)
   no_command (written ask word q reports due) is = absurd (none_some request (solve ask) is q)
   no_command (unwritten ask P nodes c rows word q file promise five out) is = inr (inl five)
+  no_command (verified ask P bytes c q file has verifies e) is = absurd (none_some request (check ask) is q)
+  no_command (disproved ask P bytes l kind q file has fails e) is = absurd (none_some request (check ask) is q)
   no_command (costs ask P q file fits e) is = absurd (none_some request (cost ask) is q)
   no_command (wrong_number ask P q file other e) is = absurd (none_some request (cost ask) is q)
   no_command (wrong_value ask P x q file misfit e) is = absurd (none_some request (cost ask) is q)
@@ -250,6 +301,8 @@ module _ (request : Option Request) (old new : Outside) (status : ℕ) where
   file_refused (refused ask r q file e) refuses = due_or _ 4 e
   file_refused (written ask word q reports due) refuses = absurd (not_read old request (solve ask) reports.network q refuses reports.reads)
   file_refused (unwritten ask P nodes c rows word q file promise five out) refuses = inr (inl five)
+  file_refused (verified ask P bytes c q file has verifies e) refuses = absurd (not_read old request (check ask) P q refuses file)
+  file_refused (disproved ask P bytes l kind q file has fails e) refuses = absurd (not_read old request (check ask) P q refuses file)
   file_refused (costs ask P q file fits e) refuses = absurd (not_read old request (cost ask) P q refuses file)
   file_refused (wrong_number ask P q file other e) refuses = due_or _ 4 e
   file_refused (wrong_value ask P x q file misfit e) refuses = due_or _ 4 e
@@ -268,6 +321,8 @@ module _ (request : Option Request) (old new : Outside) (status : ℕ) where
       word_or_fault (inr (inr (inl t))) = inr (inr (inl (due ∙ t)))
       word_or_fault (inr (inr (inr s))) = inr (inr (inr (inr (due ∙ s))))
   solves (unwritten other Q nodes c rows word q file promise five out) ask P is told = inr (inr (inr (inl five)))
+  solves (verified other Q text c q file has verifies e) ask P is told = absurd (solve_check request ask other is q)
+  solves (disproved other Q text l kind q file has fails e) ask P is told = absurd (solve_check request ask other is q)
   solves (costs other Q q file fits e) ask P is told = absurd (solve_cost request ask other is q)
   solves (wrong_number other Q q file differs e) ask P is told = absurd (solve_cost request ask other is q)
   solves (wrong_value other Q x q file misfit e) ask P is told = absurd (solve_cost request ask other is q)
@@ -293,6 +348,8 @@ module _ (request : Option Request) (old new : Outside) (status : ℕ) where
       absurd (not_refused old ask.file P r told (subst (λ asked. RefusesFile old (file_of asked) r) (same_ask request other (cost ask) q is) file))
   costed (written other word q reports due) ask P is told fits = absurd (solve_cost request other ask q is)
   costed (unwritten other Q nodes c rows word q file promise five out) ask P is told fits = inr (inl five)
+  costed (verified other Q text c q file has verifies e) ask P is told fits = absurd (check_cost request other ask q is)
+  costed (disproved other Q text l kind q file has fails e) ask P is told fits = absurd (check_cost request other ask q is)
   costed (costs other Q q file fitted e) ask P is told fits = due_or _ 0 e
   costed (wrong_number other Q q file differs e) ask P is told fits =
       absurd (differs (fits_length Q.sizes other.values (same_unfit ask other P Q is q told file fits)))
@@ -307,9 +364,48 @@ module _ (request : Option Request) (old new : Outside) (status : ℕ) where
       absurd (not_refused old ask.file P r told (subst (λ asked. RefusesFile old (file_of asked) r) (same_ask request other (cost ask) q is) file))
   misfits (written other word q reports due) ask P is told unfit = absurd (solve_cost request other ask q is)
   misfits (unwritten other Q nodes c rows word q file promise five out) ask P is told unfit = inr (inl five)
+  misfits (verified other Q text c q file has verifies e) ask P is told unfit = absurd (check_cost request other ask q is)
+  misfits (disproved other Q text l kind q file has fails e) ask P is told unfit = absurd (check_cost request other ask q is)
   misfits (costs other Q q file fitted e) ask P is told unfit = absurd (unfit (same_fit ask other P Q is q told file fitted))
   misfits (wrong_number other Q q file differs e) ask P is told unfit = due_or _ 4 e
   misfits (wrong_value other Q x q file misfit e) ask P is told unfit = due_or _ 4 e
+
+  -- the certificate that was judged is the one that was asked for, for the network that the file reads as
+  against : (ask other : CheckRequest) (P Q : Network) (bytes text : List ℕ) → other ≡ ask → Tells old ask.file P → TellsBytes old ask.certificate bytes → ReadsFile old other.file Q → HasFile old other.certificate text → (Q ≡ P) × (text ≡ bytes)
+  against ask other P Q bytes text same told tells file has =
+      (one_network old ask.file P Q told (subst (λ o. ReadsFile old o.file Q) same file), told_bytes old.files ask.certificate text bytes tells (subst (λ o. HasFile old o.certificate text) same has))
+
+  checks : Runs request old new status → (ask : CheckRequest) (P : Network) (bytes : List ℕ) (c : Certificate) → request ≡ Some (check ask) → Tells old ask.file P → TellsBytes old ask.certificate bytes → Spells c bytes → Good P c → (status ≡ 0) ⊎ IsHindered status
+  checks (no_memory e) ask P bytes c is told tells spells good = inr (hindered _ e)
+  checks (usage n e) ask P bytes c is told tells spells good = absurd (none_some request (check ask) n is)
+  checks (unread five cut) ask P bytes c is told tells spells good = inr (inl five)
+  checks (refused other r q file e) ask P bytes c is told tells spells good =
+      absurd (not_refused old ask.file P r told (subst (λ asked. RefusesFile old (file_of asked) r) (same_ask request other (check ask) q is) file))
+  checks (written other word q reports due) ask P bytes c is told tells spells good = absurd (solve_check request other ask q is)
+  checks (unwritten other Q nodes d rows word q file promise five out) ask P bytes c is told tells spells good = inr (inl five)
+  checks (verified other Q text d q file has verifies e) ask P bytes c is told tells spells good = due_or _ 0 e
+  checks (disproved other Q text l kind q file has fails e) ask P bytes c is told tells spells good =
+      let same = against ask other P Q bytes text (same_check request other ask q is) told tells file has in
+      absurd (no_fault_where_good P bytes c l kind spells good (subst (λ t. Fault P t l kind) same.1 (subst (λ N. Fault N text l kind) same.0 fails)))
+  checks (costs other Q q file fits e) ask P bytes c is told tells spells good = absurd (check_cost request ask other is q)
+  checks (wrong_number other Q q file differs e) ask P bytes c is told tells spells good = absurd (check_cost request ask other is q)
+  checks (wrong_value other Q x q file misfit e) ask P bytes c is told tells spells good = absurd (check_cost request ask other is q)
+
+  refutes : Runs request old new status → (ask : CheckRequest) (P : Network) (bytes : List ℕ) (l : ℕ) (kind : FaultKind) → request ≡ Some (check ask) → Tells old ask.file P → TellsBytes old ask.certificate bytes → Fault P bytes l kind → (status ≡ 7) ⊎ IsHindered status
+  refutes (no_memory e) ask P bytes l kind is told tells fails = inr (hindered _ e)
+  refutes (usage n e) ask P bytes l kind is told tells fails = absurd (none_some request (check ask) n is)
+  refutes (unread five cut) ask P bytes l kind is told tells fails = inr (inl five)
+  refutes (refused other r q file e) ask P bytes l kind is told tells fails =
+      absurd (not_refused old ask.file P r told (subst (λ asked. RefusesFile old (file_of asked) r) (same_ask request other (check ask) q is) file))
+  refutes (written other word q reports due) ask P bytes l kind is told tells fails = absurd (solve_check request other ask q is)
+  refutes (unwritten other Q nodes d rows word q file promise five out) ask P bytes l kind is told tells fails = inr (inl five)
+  refutes (verified other Q text d q file has verifies e) ask P bytes l kind is told tells fails =
+      let same = against ask other P Q bytes text (same_check request other ask q is) told tells file has in
+      absurd (no_fault_where_good P bytes d l kind (subst (λ t. Spells d t) same.1 verifies.spells) (subst (λ N. Good N d) same.0 verifies.good) fails)
+  refutes (disproved other Q text line its q file has fault e) ask P bytes l kind is told tells fails = due_or _ 7 e
+  refutes (costs other Q q file fits e) ask P bytes l kind is told tells fails = absurd (check_cost request ask other is q)
+  refutes (wrong_number other Q q file differs e) ask P bytes l kind is told tells fails = absurd (check_cost request ask other is q)
+  refutes (wrong_value other Q x q file misfit e) ask P bytes l kind is told tells fails = absurd (check_cost request ask other is q)
 
   pub statuses : Runs request old new status → Statuses request old new status
   statuses run = record {
@@ -320,11 +416,14 @@ module _ (request : Option Request) (old new : Outside) (status : ℕ) where
     refused = (λ is. refusal run is);
     fault = (λ is. fault run is);
     memory = (λ is. memory run is);
+    disproved = (λ is. disproof run is);
     range = range run;
     faultless = (λ other. faultless run other);
     no_command = (λ is. no_command run is);
     file_refused = (λ refuses. file_refused run refuses);
     solves = (λ ask P is told. solves run ask P is told);
+    checks = (λ ask P bytes c is told tells spells good. checks run ask P bytes c is told tells spells good);
+    refuses = (λ ask P bytes l kind is told tells fails. refutes run ask P bytes l kind is told tells fails);
     costs = (λ ask P is told fits. costed run ask P is told fits);
     misfits = (λ ask P is told unfit. misfits run ask P is told unfit);
   }

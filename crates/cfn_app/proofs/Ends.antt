@@ -5,25 +5,36 @@ use Rattle.cfn_desk.specs.Desk.{Files}
 use Rattle.cfn_model.specs.Network.{Network}
 use Rattle.cfn_model.specs.Reading.{reading}
 use Rattle.cfn_report.specs.Saying.{Says as SaysText}
-use Rattle.cfn_cli.specs.Request.{Request, solve, cost, SolveRequest, CostRequest}
+use Rattle.cfn_cli.specs.Request.{Request, solve, check, cost, SolveRequest, CheckRequest, CostRequest}
 use Rattle.cfn_app.specs.Outside.{Outside, outside_of, HasFile, ReadsFile, EndsSaying}
-use Rattle.cfn_app.specs.Runs.{Runs, no_memory, unread, refused, written, unwritten, costs, wrong_number, wrong_value, file_of}
-use Rattle.cfn_app.specs.Output.{EndsAt, Searches, SaysCost, Unread}
+use Rattle.cfn_app.specs.Runs.{Runs, no_memory, unread, refused, written, unwritten, verified, disproved, costs, wrong_number, wrong_value, file_of}
+use Rattle.cfn_app.specs.Output.{EndsAt, NotLoaded, Searches, SaysCheck, SaysCost, Unread}
 use Rattle.cfn_wcsp.specs.declared.fault.ReadFault.{ReadFault}
 use Rattle.cfn_wcsp.specs.declared.fault.ReadFault.TheVariants.{Refused, Memory}
 use Rattle.cfn_wcsp.specs.Giving.{Fails}
 
+-- bytes that give no network
+pub unread_at : (old new : Outside) (status : ℕ) (bytes : List ℕ) (fault : ReadFault) → Fails fault (reading bytes) → EndsAt fault old new status → Unread bytes old new status
+unread_at old new status bytes (Refused refusal) fails ends = inr (refusal, fails, ends)
+unread_at old new status bytes Memory fails ends = inl ends
+
 -- a file whose bytes give no network
-pub unread_at : (file : List ℕ) (old new : Outside) (status : ℕ) (bytes : List ℕ) (fault : ReadFault) → HasFile old file bytes → Fails fault (reading bytes) → EndsAt fault old new status → Unread file old new status
-unread_at file old new status bytes (Refused refusal) has fails ends = inr (inr (refusal, record { bytes = bytes; file = has; refuses = fails }, ends))
-unread_at file old new status bytes Memory has fails ends = inr (inl ends)
+pub not_loaded : (file : List ℕ) (old new : Outside) (status : ℕ) (bytes : List ℕ) → HasFile old file bytes → Unread bytes old new status → NotLoaded file old new status
+not_loaded file old new status bytes has (inl ends) = inl (inr ends)
+not_loaded file old new status bytes has (inr (refusal, refuses, ends)) = inr (refusal, record { bytes = bytes; file = has; refuses = refuses }, ends)
 
 module _ (old new : Outside) (status : ℕ) where
   -- the file of a request gives no network
-  pub runs_unread : (ask : Request) → Unread (file_of ask) old new status → Runs (Some ask) old new status
-  runs_unread ask (inl (five, cut)) = unread five cut
-  runs_unread ask (inr (inl ends)) = no_memory ends
-  runs_unread ask (inr (inr (refusal, refuses, ends))) = refused ask refusal refl refuses ends
+  pub runs_unread : (ask : Request) → NotLoaded (file_of ask) old new status → Runs (Some ask) old new status
+  runs_unread ask (inl (inl (five, cut))) = unread five cut
+  runs_unread ask (inl (inr ends)) = no_memory ends
+  runs_unread ask (inr (refusal, refuses, ends)) = refused ask refusal refl refuses ends
+
+  -- a certificate was judged
+  pub runs_checked : (P : Network) (ask : CheckRequest) (bytes : List ℕ) → ReadsFile old ask.file P → HasFile old ask.certificate bytes → SaysCheck P bytes old new status → Runs (Some (check ask)) old new status
+  runs_checked P ask bytes reads has (inl (c, verifies, ends)) = verified ask P bytes c refl reads has verifies ends
+  runs_checked P ask bytes reads has (inr (inl (l, kind, fault, ends))) = disproved ask P bytes l kind refl reads has fault ends
+  runs_checked P ask bytes reads has (inr (inr ends)) = no_memory ends
 
   -- the network of the file was searched
   pub runs_searched : (P : Network) (ask : SolveRequest) → ReadsFile old ask.file P → Searches P ask old new status → Runs (Some (solve ask)) old new status

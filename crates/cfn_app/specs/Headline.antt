@@ -6,7 +6,7 @@ use Rattle.cfn_model.specs.declared.report.ResultWord.TheVariants.{Optimum, Noth
 use Rattle.cfn_model.specs.Network.{Network, IsNetwork, Fits, Least, cost}
 use Rattle.cfn_model.specs.Tree.{count, open_leaves, Strict, OpenBelow, bound}
 use Rattle.cfn_model.specs.Certificate.{Certificate, Good, threshold}
-use Rattle.cfn_model.specs.Text.{IsSpelled, spelling, report, write_fault_text}
+use Rattle.cfn_model.specs.Text.{IsSpelled, Spells, spelling, report, write_fault_text}
 use Rattle.cfn_desk.specs.Desk.{Rose, SaysPiece, SaysFront, Stores}
 use Rattle.cfn_search.specs.Outcome.{RowsHold}
 use Rattle.cfn_cli.specs.Request.{SolveRequest}
@@ -79,3 +79,10 @@ pub record Reports (ask : SolveRequest) (old new : Outside) (word : ResultWord) 
   pub reads : ReadsFile old ask.file network
   pub promise : Promise network ask.budget nodes certificate rows word
   pub written : Written ask.workers ask.certificate old new nodes certificate rows word
+
+-- A text was judged good: it spells a certificate that is good, which alone implies its bounds.
+pub record Verifies (P : Network) (bytes : List ℕ) (c : Certificate) : Type 0 where
+  pub spells : Spells c bytes
+  pub good : Good P c
+  pub network : IsNetwork P
+  pub bounds : (values : List ℕ) → Fits P.sizes values → c.lower ≤ cost P values

@@ -7,14 +7,18 @@ use Rattle.cfn_model.specs.Network.{Network, Fits, cost as cost_at}
 use Rattle.cfn_net.specs.Fitting.{IsFirstMisfit}
 use Rattle.cfn_model.specs.Certificate.{Certificate}
 use Rattle.cfn_model.specs.Text.{refusal_text, read_fault_text, memory_fault_text, cost_text, values_fault_text, value_fault_text}
-use Rattle.cfn_report.specs.Texts.{usage_text}
-use Rattle.cfn_cli.specs.Request.{Request, solve, cost, SolveRequest, CostRequest}
-use Rattle.cfn_app.specs.Outside.{Outside, ReadsFile, RefusesFile, SaysCut, EndsSaying}
-use Rattle.cfn_app.specs.Headline.{status_of, Promise, Reports, Unwritten}
+use Rattle.cfn_fault.specs.declared.kind.FaultKind.{FaultKind}
+use Rattle.cfn_fault.specs.Fault.{Fault}
+use Rattle.cfn_check.specs.Checking.{cost_of}
+use Rattle.cfn_report.specs.Texts.{usage_text, verified_text, refused_text}
+use Rattle.cfn_cli.specs.Request.{Request, solve, check, cost, SolveRequest, CheckRequest, CostRequest}
+use Rattle.cfn_app.specs.Outside.{Outside, HasFile, ReadsFile, RefusesFile, SaysCut, EndsSaying}
+use Rattle.cfn_app.specs.Headline.{status_of, Promise, Reports, Unwritten, Verifies}
 
 -- The file that a request reads.
 abbrev pub file_of : Request → List ℕ
 file_of (solve ask) = ask.file
+file_of (check ask) = ask.file
 file_of (cost ask) = ask.file
 
 -- How a run may end, by what its words ask for.
@@ -31,6 +35,10 @@ pub data Runs (request : Option Request) (old new : Outside) (status : ℕ) : Ty
   written : (ask : SolveRequest) (word : ResultWord) → request ≡ Some (solve ask) → Reports ask old new word → status ≡ status_of word → Runs request old new status
   -- solved, and the output failed
   unwritten : (ask : SolveRequest) (P : Network) (nodes : ℕ) (c : Certificate) (rows : List Row) (word : ResultWord) → request ≡ Some (solve ask) → ReadsFile old ask.file P → Promise P ask.budget nodes c rows word → status ≡ 5 → Unwritten ask.workers ask.certificate old new nodes c rows word → Runs request old new status
+  -- the certificate is good
+  verified : (ask : CheckRequest) (P : Network) (bytes : List ℕ) (c : Certificate) → request ≡ Some (check ask) → ReadsFile old ask.file P → HasFile old ask.certificate bytes → Verifies P bytes c → EndsSaying old new (verified_text c.lower (cost_of c.best)) 0 status → Runs request old new status
+  -- the certificate is refused
+  disproved : (ask : CheckRequest) (P : Network) (bytes : List ℕ) (l : ℕ) (kind : FaultKind) → request ≡ Some (check ask) → ReadsFile old ask.file P → HasFile old ask.certificate bytes → Fault P bytes l kind → EndsSaying old new (refused_text kind l) 7 status → Runs request old new status
   -- the cost of an assignment is said
   costs : (ask : CostRequest) (P : Network) → request ≡ Some (cost ask) → ReadsFile old ask.file P → Fits P.sizes ask.values → EndsSaying old new (cost_text P.upper (cost_at P ask.values)) 0 status → Runs request old new status
   -- there are more values or fewer than variables

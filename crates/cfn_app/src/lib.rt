@@ -5,6 +5,7 @@
 //! says in specs/Statuses.antt, and what a report promises in specs/Headline.antt.
 #![tactic(auto)]
 
+mod checking;
 mod costing;
 mod gate;
 mod loading;

@@ -6,6 +6,7 @@ ghost use Rattle.cfn_app.specs.Outside.{outside_of};
 ghost use Rattle.cfn_app.specs.Runs.{Runs};
 ghost use Rattle.cfn_app.specs.Statuses.{Statuses};
 
+use crate::checking::check_file;
 use crate::costing::cost_file;
 use crate::gate::Gate;
 use crate::solving::solve_file;
@@ -17,9 +18,9 @@ use std::alloc::Global;
 /// Does all that the program does, and answers the status that it ends with.
 ///
 /// `words` begins with the program's name. `rt` is the runtime and `gate` the gate that workers pass; all runs on the
-/// calling thread for now. 0: an optimum, or a cost. 1: no assignment is below the upper bound. 2: the budget is
+/// calling thread for now. 0: an optimum, a good certificate, or a cost. 1: no assignment is below the upper bound. 2: the budget is
 /// spent. 3: the words are no command. 4: the file or an assignment is refused. 5: a read or a write failed. 6: memory
-/// was refused.
+/// was refused. 7: the certificate is refused.
 pub fn run<R, D: Desk, G: Gate + Sync>(
     rt: &R,
     alloc: Global,
@@ -42,6 +43,7 @@ pub fn run<R, D: Desk, G: Gate + Sync>(
     let _ = gate;
     match cfn_cli::parse(alloc, words) {
         Ok(Command::Solve(ask)) => solve_file(alloc, &ask, desk),
+        Ok(Command::Check(ask)) => check_file(alloc, &ask, desk),
         Ok(Command::Cost(ask)) => cost_file(alloc, &ask, desk),
         Err(CliFault::Usage) => ending(cfn_report::write_usage(desk), USAGE),
         Err(CliFault::Memory) => ending(cfn_report::write_memory_fault(desk), MEMORY),

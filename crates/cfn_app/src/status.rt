@@ -14,6 +14,8 @@ pub const REFUSED: u8 = 4;
 pub const FAULT: u8 = 5;
 /// Memory was refused.
 pub const MEMORY: u8 = 6;
+/// The certificate is refused.
+pub const DISPROVED: u8 = 7;
 
 /// The status that is due where a text was said, or that of a fault.
 pub fn ending(said: Result<(), Failed>, due: u8) -> u8

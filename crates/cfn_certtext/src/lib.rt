@@ -9,11 +9,21 @@
 #![tactic(auto)]
 
 mod certificate;
+mod event;
+mod fields;
 mod line;
 mod nodes;
+mod parsed;
+mod parsing;
+mod reader;
+mod stage;
 mod walk;
 
 pub use certificate::write;
+pub use event::{Event, Item, StepText, TextFault};
+pub use reader::Reader;
 
+#[cfg(test)]
+mod reader_tests;
 #[cfg(test)]
 mod tests;

@@ -4,7 +4,7 @@ use Rattle.clap.specs.Words.{Row, Text, all_of, first_of}
 use Rattle.std.specs.Prelude.{IsErrAnd}
 use Rattle.cfn_cli.specs.declared.fault.CliFault.{CliFault}
 use Rattle.cfn_cli.specs.declared.fault.CliFault.TheVariants.{Usage}
-use Rattle.cfn_cli.specs.Request.{cost_of, number_of, solve_of, values_of}
+use Rattle.cfn_cli.specs.Request.{check_of, cost_of, number_of, solve_of, values_of}
 
 -- A fault of any kind, where nothing is asked for.
 pub nothing_asked : {T X : Type 0} (r : Result T CliFault) (asked : Option X) → asked ≡ None
@@ -44,6 +44,20 @@ pub solve_without_budget : (rows : List Row) (file certificate : Text) (workers 
     → number_of (codes "budget") 0 9223372036854775807 rows ≡ None → solve_of rows ≡ None
 unfolding solve_of
 solve_without_budget rows file certificate workers e1 e2 e3 e4 = rw (e1, e2, e3, e4) refl
+
+pub check_made : (rows : List Row) (file certificate : Text) → first_of (codes "file") rows ≡ Some file
+    → first_of (codes "certificate") rows ≡ Some certificate → check_of rows ≡ Some (record { file = file; certificate = certificate })
+unfolding check_of
+check_made rows file certificate e1 e2 = rw (e1, e2) refl
+
+pub check_without_file : (rows : List Row) → first_of (codes "file") rows ≡ None → check_of rows ≡ None
+unfolding check_of
+check_without_file rows e1 = rw e1 refl
+
+pub check_without_certificate : (rows : List Row) (file : Text) → first_of (codes "file") rows ≡ Some file
+    → first_of (codes "certificate") rows ≡ None → check_of rows ≡ None
+unfolding check_of
+check_without_certificate rows file e1 e2 = rw (e1, e2) refl
 
 pub cost_made : (rows : List Row) (file : Text) (texts : List Text) (values : List ℕ) → first_of (codes "file") rows ≡ Some file
     → all_of (codes "values") rows ≡ Some texts → values_of texts ≡ Some values

@@ -48,12 +48,16 @@ unfoldable pub solve_app : App
 solve_app = with_rule (with_rule (with_rule (with_rule (new_app (codes "solve")) file_rule)
     certificate_rule) workers_rule) budget_rule
 
+-- check FILE CERT
+unfoldable pub check_app : App
+check_app = with_rule (with_rule (new_app (codes "check")) file_rule) certificate_rule
+
 -- cost FILE VALUES..
 unfoldable pub cost_app : App
 cost_app = with_rule (with_rule (new_app (codes "cost")) file_rule) values_rule
 
--- The program, which wants one of its two commands.
+-- The program, which wants one of its commands.
 unfoldable pub command_line : App
-command_line = with_subcommand (with_subcommand
+command_line = with_subcommand (with_subcommand (with_subcommand
     (on_top (λ s. record s { subcommand_required = true }) (new_app (codes "wcspsolve")))
-    solve_app.top) cost_app.top
+    solve_app.top) check_app.top) cost_app.top

@@ -8,8 +8,9 @@ use Rattle.clap.specs.Words.{Kinds, Row, Text, all_of, fault_of, first_of, subco
 use Rattle.clap.specs.ValueTests.{is_unsigned_in}
 use Rattle.cfn_cli.specs.Line.{command_line}
 use Rattle.cfn_cli.specs.declared.command.Command.{Command}
-use Rattle.cfn_cli.specs.declared.command.Command.TheVariants.{Solve, Cost}
+use Rattle.cfn_cli.specs.declared.command.Command.TheVariants.{Solve, Check, Cost}
 use Rattle.cfn_cli.specs.declared.command.SolveArguments.{SolveArguments}
+use Rattle.cfn_cli.specs.declared.command.CheckArguments.{CheckArguments}
 use Rattle.cfn_cli.specs.declared.command.CostArguments.{CostArguments}
 
 -- ---- requests
@@ -20,12 +21,17 @@ pub record SolveRequest : Type 0 where
   pub workers : ℕ
   pub budget : ℕ
 
+pub record CheckRequest : Type 0 where
+  pub file : Text
+  pub certificate : Text
+
 pub record CostRequest : Type 0 where
   pub file : Text
   pub values : List ℕ
 
 pub data Request : Type 0 where
   solve : SolveRequest → Request
+  check : CheckRequest → Request
   cost : CostRequest → Request
 
 -- ---- the request that a command holds
@@ -38,11 +44,15 @@ spoken_solve a = record {
   budget = a.budget;
 }
 
+abbrev pub spoken_check : CheckArguments → CheckRequest
+spoken_check a = record { file = string_bytes a.file; certificate = string_bytes a.certificate }
+
 abbrev pub spoken_cost : CostArguments → CostRequest
 spoken_cost a = record { file = string_bytes a.file; values = a.values.items }
 
 abbrev pub request : Command → Request
 request (Solve a) = solve (spoken_solve a)
+request (Check a) = check (spoken_check a)
 request (Cost a) = cost (spoken_cost a)
 
 -- ---- the numbers
@@ -81,6 +91,12 @@ solve_of rows = option_and_then (λ file. option_and_then (λ certificate.
     (number_of (codes "workers") 1 64 rows))
     (first_of (codes "certificate") rows)) (first_of (codes "file") rows)
 
+unfoldable pub check_of : List Row → Option CheckRequest
+check_of rows = option_and_then (λ file. option_map (λ certificate. record {
+  file = file;
+  certificate = certificate;
+}) (first_of (codes "certificate") rows)) (first_of (codes "file") rows)
+
 unfoldable pub cost_of : List Row → Option CostRequest
 cost_of rows = option_and_then (λ file. option_map (λ values. record {
   file = file;
@@ -90,7 +106,8 @@ cost_of rows = option_and_then (λ file. option_map (λ values. record {
 abbrev pub request_named : Text → List Row → Option Request
 request_named name rows =
     if bytes_eq name (codes "solve") then option_map solve (solve_of rows)
-    else (if bytes_eq name (codes "cost") then option_map cost (cost_of rows) else None)
+    else (if bytes_eq name (codes "check") then option_map check (check_of rows)
+    else (if bytes_eq name (codes "cost") then option_map cost (cost_of rows) else None))
 
 abbrev pub request_from : Option (Text × List Row) → Option Request
 request_from = option_and_then (λ met. request_named met.0 met.1)
@@ -117,8 +134,10 @@ request_of words = if is_taken words then request_from (entered_by words) else N
 
 abbrev pub IfSolve : Command → (SolveArguments → Type 0) → Type 0
 IfSolve (Solve a) P = P a
+IfSolve (Check a) P = Unit {0}
 IfSolve (Cost a) P = Unit {0}
 
 abbrev pub IfCost : Command → (CostArguments → Type 0) → Type 0
 IfCost (Solve a) P = Unit {0}
+IfCost (Check a) P = Unit {0}
 IfCost (Cost a) P = P a

@@ -5,6 +5,8 @@
 pub enum Command {
     /// `solve FILE CERT [--workers W] [--budget B]`
     Solve(SolveArguments),
+    /// `check FILE CERT`
+    Check(CheckArguments),
     /// `cost FILE VALUES..`
     Cost(CostArguments),
 }
@@ -21,6 +23,15 @@ pub struct SolveArguments {
     /// How many nodes the search may expand: 0 to 2^63 - 1, and the greatest where the words give
     /// no number.
     pub budget: u64,
+}
+
+/// A certificate to judge, and the file that it is for.
+#[derive(Debug, Drop)]
+pub struct CheckArguments {
+    /// The name of the file that the network is read from.
+    pub file: String,
+    /// The name of the file that the certificate is read from.
+    pub certificate: String,
 }
 
 /// An assignment of which the cost is asked for.

@@ -1,6 +1,7 @@
 //! The command line of the program `wcspsolve`: which command its words spell.
 //!
 //!     wcspsolve solve FILE CERT [--workers W] [--budget B]
+//!     wcspsolve check FILE CERT
 //!     wcspsolve cost FILE VALUES..
 //!
 //! The crate `clap` says which word is which argument, by the command that `line` builds. `reading`
@@ -15,7 +16,7 @@ mod line;
 mod parsing;
 mod reading;
 
-pub use command::{Command, CostArguments, SolveArguments};
+pub use command::{CheckArguments, Command, CostArguments, SolveArguments};
 pub use fault::CliFault;
 pub use parsing::parse;
 

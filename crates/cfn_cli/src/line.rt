@@ -3,20 +3,22 @@
 ghost use Rattle.std.specs.Prelude.{◌≡◌, IfOk, false};
 ghost use Rattle.clap.specs.Words.{rule_of};
 ghost use Rattle.cfn_cli.specs.Building.{Builds};
-ghost use Rattle.cfn_cli.specs.Line.{budget_rule, certificate_rule, command_line, cost_app, file_rule, solve_app, values_rule, workers_rule};
+ghost use Rattle.cfn_cli.specs.Line.{budget_rule, certificate_rule, check_app, command_line, cost_app, file_rule, solve_app, values_rule, workers_rule};
 
 use clap::{Arg, ArgAction, Command, value_parser};
 use std::alloc::{AllocError, Global};
 
-/// The program with its two commands, of which one has to be given.
+/// The program with its commands, of which one has to be given.
 pub(crate) fn command_line<'a>(alloc: Global) -> Result<Command<'a>, AllocError>
     ensures { IfOk result (Builds command_line) }
 {
     let solve = solve(alloc)?;
+    let check = check(alloc)?;
     let cost = cost(alloc)?;
     Command::new(alloc, "wcspsolve")
         .subcommand_required(true)
         .subcommand(solve)?
+        .subcommand(check)?
         .subcommand(cost)
 }
 
@@ -28,6 +30,14 @@ fn solve<'a>(alloc: Global) -> Result<Command<'a>, AllocError>
         .arg(certificate(alloc))?
         .arg(workers(alloc))?
         .arg(budget(alloc))
+}
+
+fn check<'a>(alloc: Global) -> Result<Command<'a>, AllocError>
+    ensures { IfOk result (Builds check_app) }
+{
+    Command::new(alloc, "check")
+        .arg(file(alloc))?
+        .arg(certificate(alloc))
 }
 
 fn cost<'a>(alloc: Global) -> Result<Command<'a>, AllocError>

@@ -3,9 +3,9 @@
 ghost use Rattle.std.specs.Prelude.{◌≡◌, ◌≤◌, ◌<◌, ◌^◌, Some, None, IfErr, IfOk, IfSome, length, map};
 ghost use Rattle.std.specs.List.{All};
 ghost use Rattle.clap.specs.Words.{first_of, found_of, rows_of, subcommand_rows_of};
-ghost use Rattle.cfn_cli.specs.Request.{IfCost, IfSolve, cost_of, number_in, number_of, request, request_from, request_named, solve_of, spoken_cost, spoken_solve, values_of};
+ghost use Rattle.cfn_cli.specs.Request.{IfCost, IfSolve, check_of, cost_of, number_in, number_of, request, request_from, request_named, solve_of, spoken_check, spoken_cost, spoken_solve, values_of};
 
-use crate::command::{Command, CostArguments, SolveArguments};
+use crate::command::{CheckArguments, Command, CostArguments, SolveArguments};
 use crate::fault::CliFault;
 use clap::ArgMatches;
 use std::alloc::Global;
@@ -46,6 +46,8 @@ fn named(alloc: Global, name: &str, found: &ArgMatches<'_>) -> Result<Command, C
 {
     if name == "solve" {
         Ok(Command::Solve(solve(alloc, found)?))
+    } else if name == "check" {
+        Ok(Command::Check(check(alloc, found)?))
     } else if name == "cost" {
         Ok(Command::Cost(cost(alloc, found)?))
     } else {
@@ -69,6 +71,19 @@ fn solve(alloc: Global, found: &ArgMatches<'_>) -> Result<SolveArguments, CliFau
         certificate: String::from_str(alloc, certificate)?,
         workers: workers as u8,
         budget,
+    })
+}
+
+fn check(alloc: Global, found: &ArgMatches<'_>) -> Result<CheckArguments, CliFault>
+    ensures arguments { IfOk result (λ k. check_of (rows_of (found_of found.now)) ≡ Some (spoken_check k)) }
+    ensures usage { IfErr result (λ fault. fault ≡ CliFault.Usage
+        → check_of (rows_of (found_of found.now)) ≡ None) }
+{
+    let file = text(found, "file")?;
+    let judged = text(found, "certificate")?;
+    Ok(CheckArguments {
+        file: String::from_str(alloc, file)?,
+        certificate: String::from_str(alloc, judged)?,
     })
 }
 

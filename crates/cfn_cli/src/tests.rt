@@ -23,6 +23,15 @@ fn solves(alloc: Global, words: &[&str], workers: u8, budget: u64) -> bool {
     }
 }
 
+fn checks(alloc: Global, words: &[&str]) -> bool {
+    match parse(alloc, words) {
+        Ok(Command::Check(asked)) => {
+            asked.file.as_str() == "a" && asked.certificate.as_str() == "b"
+        }
+        _ => false,
+    }
+}
+
 fn costs(alloc: Global, words: &[&str], values: &[u32]) -> bool {
     match parse(alloc, words) {
         Ok(Command::Cost(asked)) => {
@@ -64,6 +73,13 @@ fn solve_is_read(rt: HostRuntime) {
 }
 
 #[test]
+fn check_is_read(rt: HostRuntime) {
+    let alloc = rt.alloc();
+    assert!(rt; checks(alloc, &["w", "check", "a", "b"]));
+    assert!(rt; !checks(alloc, &["w", "check", "b", "a"]));
+}
+
+#[test]
 fn cost_is_read(rt: HostRuntime) {
     let alloc = rt.alloc();
     assert!(rt; costs(alloc, &["w", "cost", "f", "0", "1", "2"], &[0, 1, 2]));
@@ -82,7 +98,9 @@ fn other_words_are_usage(rt: HostRuntime) {
         &["w", "-V"],
         &["w", "help"],
         &["w", "help", "solve"],
-        &["w", "check", "a", "b"],
+        &["w", "check", "a"],
+        &["w", "check", "a", "b", "c"],
+        &["w", "check", "a", "b", "--budget", "1"],
         &["w", "solve"],
         &["w", "solve", "a"],
         &["w", "solve", "a", "b", "c"],

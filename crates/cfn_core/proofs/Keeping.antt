@@ -255,7 +255,7 @@ keeps P w new Recall r brings holds acts = left_as (recall_kept P w holds) acts
 keeps P w new Sweep r brings holds acts = left_as (sweep_kept P w holds) acts
 
 -- the opening
-opening_small : (P : Network) → IsNetwork P → HasSmallCosts P []
+pub opening_small : (P : Network) → IsNetwork P → HasSmallCosts P []
 opening_small P network = record {
   unary = λ x a is live. omega (arith, ints);
   residual = λ f tuple there fits live. small (nat_lt 0 (arity P f)) (entry_at P f tuple) (omega (arith, network.upper, (network.functions f there).capped (cell (dims P.sizes (function_at P f).scope) tuple)));

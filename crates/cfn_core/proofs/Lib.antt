@@ -8,3 +8,13 @@ pub mod Answering
 pub mod Always
 pub mod Examples
 pub mod Tasks
+pub mod Making
+pub mod Halves
+pub mod Pieces
+pub mod Holding
+pub mod Marking
+pub mod Insides
+pub mod Machines
+pub mod Seating
+pub mod Changing
+pub mod Listing

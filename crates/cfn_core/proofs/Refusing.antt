@@ -6,7 +6,7 @@ use Rattle.cfn_model.specs.Network.{Network}
 use Rattle.cfn_core.specs.Pool.{Mark, Free, Out, PoolTree, Leaf, IsLeaf, Replaced, numbered, Task, Piece}
 use Rattle.cfn_core.specs.World.{World, view_at, opening}
 use Rattle.cfn_core.specs.Actions.{Action, Look, Lower, Note, Meet, Take, Give, Back, Recall, Sweep, Reply, Idle, Done, Gone, Answers, task_for, taken, Takes, take_idle, take_empty, take_spent, take_again, take_task, given, Gives, give_idle, give_gone, give_done, returned, Returns, back_not, back_done, cleared, IsOut, Acts, Runs}
-use Rattle.cfn_core.specs.Laws.{IsInHand, IsNoRecall, NeverGone}
+use Rattle.cfn_core.specs.Laws.{IsInHand, IsNoRecall, NeverGone, AreOut, IsKept, AreKept}
 use Rattle.cfn_core.proofs.Views.{by_option}
 use Rattle.cfn_core.proofs.Handing.{replaced_in, replaced_stays, without_back, swept_stays, free_not_out}
 
@@ -109,3 +109,27 @@ gives_not_gone w new piece note r out (give_done tree can at answers) gone = don
 pub never_gone : NeverGone
 never_gone P workers budget actions replies w new piece note r never runs hand acts =
     gives_not_gone w new piece note r ((runs_out P actions replies (opening P workers budget) w never (record { each = λ task hand. absurd hand }) runs).each piece.task hand) acts
+
+-- the same, from any world whose tasks in hand are all out
+pub stays_out : (P : Network) (w new : World) (action : Action) (r : Reply) → Acts P w action r new → AreOut w → IsNoRecall action → AreOut new
+stays_out P w new action r acts out never = (keeps_out P w new action r never (record { each = out }) acts).each
+
+pub is_kept : (P : Network) (w new : World) (action : Action) (r : Reply) → Acts P w action r new → AreOut w → IsKept w action r
+is_kept P w new (Look i) r acts out = tt
+is_kept P w new (Lower i found) r acts out = tt
+is_kept P w new (Note i) r acts out = tt
+is_kept P w new (Meet i) r acts out = tt
+is_kept P w new (Take i want) r acts out = tt
+is_kept P w new (Give piece note) r acts out = λ hand. gives_not_gone w new piece note r (out piece.task hand) acts
+is_kept P w new (Back task) r acts out = tt
+is_kept P w new Recall r acts out = tt
+is_kept P w new Sweep r acts out = tt
+
+pub are_kept : (P : Network) (actions : List Action) (replies : List Reply) (w new : World) → Runs P w actions replies new → AreOut w → AllByRecursion IsNoRecall actions → AreKept P w actions replies
+are_kept P [] replies w new runs out never = tt
+are_kept P (action ∷ actions) [] w new runs out never = absurd runs
+are_kept P (action ∷ actions) (r ∷ replies) w new runs out never =
+    (runs.0, runs.1, is_kept P w runs.0 action r runs.1 out, are_kept P actions replies runs.0 new runs.2 (stays_out P w runs.0 action r runs.1 out never.0) never.1)
+
+pub run_out : (P : Network) (actions : List Action) (replies : List Reply) (w new : World) → Runs P w actions replies new → AreOut w → AllByRecursion IsNoRecall actions → AreOut new
+run_out P actions replies w new runs out never = (runs_out P actions replies w new never (record { each = out }) runs).each

@@ -7,7 +7,7 @@ use Rattle.cfn_model.specs.Network.{Network, IsNetwork, Fits, Least, cost}
 use Rattle.cfn_model.specs.Tree.{Valid, bound, open_leaves}
 use Rattle.cfn_core.specs.Pool.{Mark, Free, Out, PoolTree, Leaf, Shut, Fork, tree_of, IsLeaf, leaf_of, Task, IsTask, Piece, IsSound}
 use Rattle.cfn_core.specs.World.{World, HasWordRule, opening}
-use Rattle.cfn_core.specs.Actions.{Action, Look, Lower, Note, Meet, Take, Give, Back, Recall, Sweep, Reply, Given, Gone, IsAction, Acts, Runs, AreActions}
+use Rattle.cfn_core.specs.Actions.{Action, Look, Lower, Note, Meet, Take, Give, Back, Recall, Sweep, Reply, Given, Gone, IsAction, IsOut, Acts, Runs, AreActions}
 
 -- The pool is sound, and the word keeps its rule.
 pub record IsWorld (P : Network) (w : World) : Type 0 where
@@ -100,6 +100,28 @@ IsNoRecall Sweep = Unit {0}
 abbrev pub NeverGone : Type 0
 NeverGone = (P : Network) (workers budget : ℕ) (actions : List Action) (replies : List Reply) (w new : World) (piece : Piece) (note : ℕ) (r : Reply) →
     AllByRecursion IsNoRecall actions → Runs P (opening P workers budget) actions replies w → IsInHand piece.task w.hands → Acts P w (Give piece note) r new → r ≢ Gone
+
+-- Each task in hand is of a leaf that is out. That holds at the opening, where none is in hand, and as long as no leaf is
+-- called back.
+abbrev pub AreOut : World → Type 0
+AreOut w = (task : Task) → IsInHand task w.hands → IsOut w task
+
+-- A piece whose task is in hand when it is given is not answered Gone: in one answer, and in all answers to a list.
+abbrev pub IsKept : World → Action → Reply → Type 0
+IsKept w (Look worker) r = Unit {0}
+IsKept w (Lower worker found) r = Unit {0}
+IsKept w (Note worker) r = Unit {0}
+IsKept w (Meet worker) r = Unit {0}
+IsKept w (Take worker want) r = Unit {0}
+IsKept w (Give piece note) r = IsInHand piece.task w.hands → r ≢ Gone
+IsKept w (Back task) r = Unit {0}
+IsKept w Recall r = Unit {0}
+IsKept w Sweep r = Unit {0}
+
+abbrev pub AreKept : Network → World → List Action → List Reply → Type 0
+AreKept P w [] replies = Unit {0}
+AreKept P w (action ∷ actions) [] = ⊥
+AreKept P w (action ∷ actions) (r ∷ replies) = (between : World) × Acts P w action r between × IsKept w action r × AreKept P between actions replies
 
 -- Each action has an answer in every world, and one alone where the leaves have numbers of their own.
 abbrev pub AnswersAll : Type 0

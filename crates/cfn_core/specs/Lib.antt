@@ -3,3 +3,8 @@ pub mod World
 pub mod Actions
 pub mod Laws
 pub mod Examples
+pub mod Nodes
+pub mod Walk
+pub mod Finding
+pub mod Values
+pub mod Machine

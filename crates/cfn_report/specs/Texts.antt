@@ -2,7 +2,9 @@
 use Rattle.std.specs.Prelude.{ℕ, List, [], ◌∷◌, Option, codes, decimal}
 use Rattle.cfn_model.specs.declared.report.ResultWord.{ResultWord}
 use Rattle.cfn_model.specs.Certificate.{Solution}
-use Rattle.cfn_model.specs.Text.{result_word, text, upper_lines}
+use Rattle.cfn_model.specs.Text.{line, number_or_none, result_word, text, upper_lines}
+use Rattle.cfn_fault.specs.declared.kind.FaultKind.{FaultKind}
+use Rattle.cfn_fault.specs.declared.kind.FaultKind.TheVariants as kinds
 use Rattle.cfn_report.specs.declared.word.Word.{Word}
 use Rattle.cfn_report.specs.declared.word.Word.TheVariants.{Name, Number}
 
@@ -15,6 +17,7 @@ abbrev pub usage_text : List ℕ
 usage_text =
     text ((codes "error" ∷ codes "usage" ∷ [])
     ∷ (codes "wcspsolve" ∷ codes "solve" ∷ codes "FILE" ∷ codes "CERT" ∷ codes "[--workers" ∷ codes "W]" ∷ codes "[--budget" ∷ codes "B]" ∷ [])
+    ∷ (codes "wcspsolve" ∷ codes "check" ∷ codes "FILE" ∷ codes "CERT" ∷ [])
     ∷ (codes "wcspsolve" ∷ codes "cost" ∷ codes "FILE" ∷ codes "VALUES.." ∷ [])
     ∷ [])
 
@@ -28,3 +31,23 @@ bound_lines lower best = (codes "lower" ∷ decimal lower ∷ []) ∷ upper_line
 
 abbrev pub end_lines : ℕ → ResultWord → List (List (List ℕ))
 end_lines nodes word = (codes "nodes" ∷ decimal nodes ∷ []) ∷ (codes "result" ∷ result_word word ∷ []) ∷ []
+
+-- The name of the way in which a certificate's line fails.
+abbrev pub fault_name : FaultKind → List ℕ
+fault_name kinds.Text = codes "text"
+fault_name kinds.Network = codes "network"
+fault_name kinds.Best = codes "best"
+fault_name kinds.Range = codes "range"
+fault_name kinds.Project = codes "project"
+fault_name kinds.Extend = codes "extend"
+fault_name kinds.Lift = codes "lift"
+fault_name kinds.Cut = codes "cut"
+fault_name kinds.Close = codes "close"
+fault_name kinds.Lower = codes "lower"
+
+-- What is said of a certificate that is good: its bounds. And of any other: how its first line that fails does so.
+abbrev pub verified_text : ℕ → Option ℕ → List ℕ
+verified_text lower best = line (codes "verified" ∷ codes "lower" ∷ decimal lower ∷ codes "best" ∷ number_or_none best ∷ [])
+
+abbrev pub refused_text : FaultKind → ℕ → List ℕ
+refused_text kind l = line (codes "refused" ∷ fault_name kind ∷ codes "at" ∷ decimal l ∷ [])

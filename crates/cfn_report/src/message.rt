@@ -6,11 +6,12 @@
 ghost use Rattle.std.specs.Prelude.{◌≡◌};
 ghost use Rattle.cfn_model.specs.Text.{allowed_word, cost_text, kind_name, memory_fault_text, read_fault_text, refusal_text, value_fault_text, values_fault_text, write_fault_text};
 ghost use Rattle.cfn_report.specs.Saying.{Says};
-ghost use Rattle.cfn_report.specs.Texts.{usage_text, word_text};
+ghost use Rattle.cfn_report.specs.Texts.{fault_name, refused_text, usage_text, verified_text, word_text};
 
 use crate::line::say_bytes;
-use crate::word::{Word, say_words};
+use crate::word::{Word, say_words, word_of};
 use cfn_desk::{Desk, Failed};
+use cfn_fault::FaultKind;
 use cfn_model::{Kind, Refusal};
 
 /// Says that a file is refused: the kind of what is wrong, and the number of the word, from 1. An `Err` has said
@@ -54,7 +55,7 @@ pub fn write_usage<D: Desk>(desk: &mut D) -> Result<(), Failed>
     ensures { Says D.files D.said D.out D.writing D.faults desk.old usage_text result desk.new }
 {
     say_bytes(
-        b"error usage\nwcspsolve solve FILE CERT [--workers W] [--budget B]\nwcspsolve cost FILE VALUES..\n",
+        b"error usage\nwcspsolve solve FILE CERT [--workers W] [--budget B]\nwcspsolve check FILE CERT\nwcspsolve cost FILE VALUES..\n",
         desk,
     )
 }
@@ -97,6 +98,55 @@ pub fn write_value_fault<D: Desk>(x: u32, desk: &mut D) -> Result<(), Failed>
         Word::Number(u64::from(x)),
     ];
     say_words(&words, desk)
+}
+
+/// Says that a certificate is good, with its lower bound and the cost of its best assignment, if it has one. An `Err`
+/// has said some front of it.
+pub fn write_verified<D: Desk>(lower: u64, best: Option<u64>, desk: &mut D) -> Result<(), Failed>
+    ensures { Says D.files D.said D.out D.writing D.faults desk.old (verified_text lower best)
+        result desk.new }
+{
+    let words = [
+        Word::Name("verified"),
+        Word::Name("lower"),
+        Word::Number(lower),
+        Word::Name("best"),
+        word_of(best),
+    ];
+    say_words(&words, desk)
+}
+
+/// Says that a certificate is refused: how its first line that fails does so, and the number of that line, from 1. An
+/// `Err` has said some front of it.
+pub fn write_refused<D: Desk>(kind: FaultKind, line: u64, desk: &mut D) -> Result<(), Failed>
+    ensures { Says D.files D.said D.out D.writing D.faults desk.old (refused_text kind line)
+        result desk.new }
+{
+    let words = [
+        Word::Name("refused"),
+        Word::Name(fault_name(kind)),
+        Word::Name("at"),
+        Word::Number(line),
+    ];
+    say_words(&words, desk)
+}
+
+/// The name of the way in which a certificate's line fails.
+fn fault_name(kind: FaultKind) -> &'static str
+    ensures { result.now ≡ fault_name kind }
+{
+    match kind {
+        FaultKind::Text => "text",
+        FaultKind::Network => "network",
+        FaultKind::Best => "best",
+        FaultKind::Range => "range",
+        FaultKind::Project => "project",
+        FaultKind::Extend => "extend",
+        FaultKind::Lift => "lift",
+        FaultKind::Cut => "cut",
+        FaultKind::Close => "close",
+        FaultKind::Lower => "lower",
+    }
 }
 
 /// Whether a cost is below the upper bound, as a word.

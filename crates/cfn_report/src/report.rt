@@ -1,13 +1,13 @@
 //! The report of a search.
 
 ghost use Rattle.std.specs.Prelude.{◌≡◌, [], ◌∷◌, Some, decimal, map};
-ghost use Rattle.cfn_model.specs.Text.{line, number_or_none, report as report_text, result_word, row_words, text, upper_lines};
+ghost use Rattle.cfn_model.specs.Text.{line, report as report_text, result_word, row_words, text, upper_lines};
 ghost use Rattle.cfn_proof.specs.Certificates.{certificate_of, solution_of};
 ghost use Rattle.cfn_report.specs.Saying.{Says};
 ghost use Rattle.cfn_report.specs.Texts.{bound_lines, end_lines, size_lines, word_text};
 
 use crate::line::say_bytes;
-use crate::word::{Word, say_values, say_words};
+use crate::word::{Word, say_values, say_words, word_of};
 use cfn_desk::{Desk, Failed};
 use cfn_model::{ResultWord, Row};
 use cfn_net::Scored;
@@ -134,16 +134,6 @@ fn say_number<D: Desk>(name: &'static str, number: u64, desk: &mut D) -> Result<
         (line (name.now ∷ decimal number ∷ [])) result desk.new }
 {
     say_words(&[Word::Name(name), Word::Number(number)], desk)
-}
-
-/// A number, or `none`.
-fn word_of(number: Option<u64>) -> Word
-    ensures { word_text result ≡ number_or_none number }
-{
-    match number {
-        Some(number) => Word::Number(number),
-        None => Word::Name("none"),
-    }
 }
 
 /// The word for how a search ended.

@@ -3,6 +3,7 @@ ghost use Rattle.std.specs.Prelude.{◌≡◌, ◌<◌, ◌≤◌, [], ◌∷◌
 use crate::word::{Word, say_words};
 use crate::*;
 use cfn_desk::{Failed, MemoryDesk};
+use cfn_fault::FaultKind;
 use cfn_model::{Kind, Refusal, ResultWord, Row};
 use cfn_net::{Builder, Network, Scored};
 use cfn_proof::{Certificate, Tree};
@@ -138,9 +139,13 @@ fn says_each_message(rt: HostRuntime) -> Result<(), Fail> {
     assert_eq!(rt; write_cost(10, 10, &mut desk), Ok(()));
     assert_eq!(rt; write_values_fault(3, 4, &mut desk), Ok(()));
     assert_eq!(rt; write_value_fault(2, &mut desk), Ok(()));
+    assert_eq!(rt; write_verified(1, Some(1), &mut desk), Ok(()));
+    assert_eq!(rt; write_verified(5, None, &mut desk), Ok(()));
+    assert_eq!(rt; write_refused(FaultKind::Lift, 9, &mut desk), Ok(()));
     let text = b"error table-too-wide at 17\nerror read\nerror write\nerror memory\nerror usage\n\
-        wcspsolve solve FILE CERT [--workers W] [--budget B]\nwcspsolve cost FILE VALUES..\ncost 9 allowed\ncost 10 forbidden\nerror values expected 3 got 4\n\
-        error value at 2\n";
+        wcspsolve solve FILE CERT [--workers W] [--budget B]\nwcspsolve check FILE CERT\n\
+        wcspsolve cost FILE VALUES..\ncost 9 allowed\ncost 10 forbidden\n\
+        error values expected 3 got 4\nerror value at 2\nverified lower 1 best 1\nverified lower 5 best none\nrefused lift at 9\n";
     assert_eq!(rt; desk.said_bytes(), text.as_slice());
     Ok(())
 }

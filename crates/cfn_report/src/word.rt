@@ -1,7 +1,7 @@
 //! Words, and lines of them.
 
 ghost use Rattle.std.specs.Prelude.{◌≡◌, ◌≤◌, [], ◌∷◌, ◌++◌, codes, decimal, map};
-ghost use Rattle.cfn_model.specs.Text.{line};
+ghost use Rattle.cfn_model.specs.Text.{line, number_or_none};
 ghost use Rattle.cfn_report.specs.Saying.{Adds, Says};
 ghost use Rattle.cfn_report.specs.Texts.{word_text};
 
@@ -130,4 +130,14 @@ fn add_number<D: Desk>(into: &mut Line, number: u64, end: u8, desk: &mut D) -> R
     let mut piece = [end; DIGITS + 1];
     let start = write_digits(number, &mut piece, DIGITS);
     into.add(&piece[start..], desk)
+}
+
+/// A number, or `none`.
+pub fn word_of(number: Option<u64>) -> Word
+    ensures { word_text result ≡ number_or_none number }
+{
+    match number {
+        Some(number) => Word::Number(number),
+        None => Word::Name("none"),
+    }
 }

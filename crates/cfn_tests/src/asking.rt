@@ -125,8 +125,9 @@ fn options_stand_anywhere(rt: HostRuntime) -> Result<(), Fail> {
 
 #[test]
 fn other_words_are_no_command(rt: HostRuntime) -> Result<(), Fail> {
-    let rows: [&[&str]; 16] = [
+    let rows: [&[&str]; 17] = [
         &["wcspsolve"],
+        &["wcspsolve", "check", "in"],
         &["wcspsolve", "solve"],
         &["wcspsolve", "solve", "in"],
         &["wcspsolve", "solve", "in", "out", "more"],
@@ -154,7 +155,7 @@ fn other_words_are_no_command(rt: HostRuntime) -> Result<(), Fail> {
         let run = Run::of(&rt, words, TINY, &[])?;
         assert_eq!(rt; run.status, 3);
         let said =
-            b"error usage\nwcspsolve solve FILE CERT [--workers W] [--budget B]\nwcspsolve cost FILE VALUES..\n";
+            b"error usage\nwcspsolve solve FILE CERT [--workers W] [--budget B]\nwcspsolve check FILE CERT\nwcspsolve cost FILE VALUES..\n";
         assert_eq!(rt; run.said(), said.as_slice());
         assert_eq!(rt; run.certificate(), b"".as_slice());
     }

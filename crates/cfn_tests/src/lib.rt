@@ -2,13 +2,15 @@
 //!
 //! - `running` is a whole run over files in memory, and `drawing` draws small networks with the least cost that their
 //!   words say.
-//! - `solving`, `asking`, `reading` and `failing` judge whole runs: what is found, what the words of a command line ask
-//!   for, which files are refused, and what a fault of the outside leaves.
+//! - `solving`, `asking`, `reading`, `checking` and `failing` judge whole runs: what is found, what the words of a
+//!   command line ask for, which files are refused and which certificates, and what a fault of the outside leaves.
 //! - `least` judges searches by the plain program and by the drawn words.
 #![tactic(auto)]
 
 #[cfg(test)]
 mod asking;
+#[cfg(test)]
+mod checking;
 #[cfg(test)]
 mod drawing;
 #[cfg(test)]

@@ -28,3 +28,15 @@ pub returns-in-Ok-Cost-clause-statuses : goal.returns-in-Ok-Cost-clause-statuses
 returns-in-Ok-Cost-clause-statuses g c =
     let d = g.D.Desk in
     statuses (request_of (map (λ w. w.now) c.args.words.now)) (outside_of d.files d.said d.out d.writing d.faults c.args.desk.now) (outside_of d.files d.said d.out d.writing d.faults c.cost_file.new.desk) c.cost_file.result (returns-in-Ok-Cost-clause-runs g c)
+
+-- src/program.rt:24:1
+pub returns-in-Ok-Check-clause-runs : goal.returns-in-Ok-Check-clause-runs
+returns-in-Ok-Check-clause-runs g c =
+    let d = g.D.Desk in
+    subst (λ request. Runs request (outside_of d.files d.said d.out d.writing d.faults c.args.desk.now) (outside_of d.files d.said d.out d.writing d.faults c.check_file.new.desk) c.check_file.result) (sym (c.in-Ok-Check.ensures.command ∙ ap (λ command. Some (request command)) c.in-Ok-Check.field-0-is)) c.check_file.ensures
+
+-- src/program.rt:24:1
+pub returns-in-Ok-Check-clause-statuses : goal.returns-in-Ok-Check-clause-statuses
+returns-in-Ok-Check-clause-statuses g c =
+    let d = g.D.Desk in
+    statuses (request_of (map (λ w. w.now) c.args.words.now)) (outside_of d.files d.said d.out d.writing d.faults c.args.desk.now) (outside_of d.files d.said d.out d.writing d.faults c.check_file.new.desk) c.check_file.result (returns-in-Ok-Check-clause-runs g c)

@@ -1,7 +1,7 @@
 use Rattle.std.proofs.Common.{subst}
 use Rattle.cfn_cli.specs.Request.{spoken_solve, solve}
 use Rattle.cfn_app.specs.Outside.{outside_of, ReadsFile}
-use Rattle.cfn_app.specs.Output.{Searches, Unread}
+use Rattle.cfn_app.specs.Output.{NotLoaded, Searches}
 use Rattle.cfn_app.proofs.Ends.{runs_searched, runs_unread}
 use Rattle.cfn_app.proofs.solving.solve_file.Goals as goal
 
@@ -23,4 +23,4 @@ returns-in-Err g c =
     let old = outside_of d.files d.said d.out d.writing d.faults c.args.desk.now in
     let new = outside_of d.files d.said d.out d.writing d.faults c.load.new.desk in
     runs_unread old new c.in-Err.status (solve (spoken_solve c.args.ask.now))
-    (subst (λ name. Unread name old new c.in-Err.status) c.as_str.ensures.value c.in-Err.ensures.network)
+    (subst (λ name. NotLoaded name old new c.in-Err.status) c.as_str.ensures.value c.in-Err.ensures.network)

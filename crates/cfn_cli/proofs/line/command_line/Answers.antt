@@ -9,4 +9,5 @@ returns c =
     let start = begun _ _ c.new.ensures.app c.new.ensures.local in
     let required = command_required _ _ _ c.subcommand_required.ensures start in
     let with_solve = command_added _ _ _ _ _ c.in_ok-subcommand.ensures required c.in_ok-solve.ensures in
-    IfOk-weaker c.subcommand-2.result _ _ (λ new adds. command_added _ _ new _ _ adds with_solve c.in_ok-cost.ensures) c.subcommand-2.ensures
+    let with_check = command_added _ _ _ _ _ c.in_ok-subcommand-2.ensures with_solve c.in_ok-check.ensures in
+    IfOk-weaker c.subcommand-3.result _ _ (λ new adds. command_added _ _ new _ _ adds with_check c.in_ok-cost.ensures) c.subcommand-3.ensures

@@ -1,0 +1,15 @@
+pub mod Arities
+pub mod Cells
+pub mod Amounts
+pub mod Live
+pub mod Verifying
+pub mod BestValues
+pub mod Lines
+pub mod Telling
+pub mod Walking
+pub mod Projecting
+pub mod Walks
+pub mod Shifted
+pub mod Saying
+pub mod Rooms
+pub mod Wiped

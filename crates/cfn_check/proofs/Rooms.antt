@@ -1,0 +1,112 @@
+-- Sums over a trail stay far within 128 bits.
+use Rattle.std.proofs.Common.{ℕ, suc, ◌+◌, ◌*◌, ◌<◌, ◌≤◌, ◌^◌, List, [], ◌∷◌, length, get_or, sym, ap, ◌∙◌, arith}
+use Rattle.std.proofs.lemmas.Int.{ints}
+use Rattle.std.proofs.lemmas.List.Sums.{sum_by-cons}
+use Rattle.std.specs.Prelude.{Bool, true, false, if◌then◌else◌, ℤ, pos, neg_ℤ, ◌≤ℤ◌, sum_by, slice_index, nat_lt}
+use Rattle.cfn_model.specs.declared.step.Step.TheVariants.{Project, Extend, Lift, CutValue, CutTuple}
+use Rattle.cfn_model.specs.declared.step.Event.{Event}
+use Rattle.cfn_model.specs.declared.step.Event.TheVariants.{Did, Is, IsNot}
+use Rattle.cfn_model.specs.Network.{Function, Network, IsNetwork, cell, dims_at, entry_at, arity, function_at, no_function}
+use Rattle.cfn_model.specs.Sums.{when, lifted, constant, constant_of, floor, unary_by, unary, residual_by, residual, removes}
+use Rattle.cfn_net.proofs.Digits.{tuple_of, tuple_of-numbered}
+use Rattle.cfn_check.specs.declared.entry.Entry.{Entry}
+use Rattle.cfn_check.specs.Tables.{Tables, HasRoom, takers, residual_at}
+use Rattle.cfn_check.specs.Standing.{IsPossible, IsTrail, IsLedger, events_of}
+
+pub record Within (n : ℕ) (z : ℤ) : Type 0 where
+  pub low : neg_ℤ (pos n) ≤ℤ z
+  pub high : z ≤ℤ pos n
+
+nothing : (n : ℕ) → Within n (pos 0)
+nothing n = record { low = omega (arith, ints); high = omega (arith, ints) }
+
+up : (n m : ℕ) → m ≤ n → Within n (pos m)
+up n m h = record { low = omega (arith, ints); high = omega (arith, ints) }
+
+down : (n m : ℕ) → m ≤ n → Within n (neg_ℤ (pos m))
+down n m h = record { low = omega (arith, ints); high = omega (arith, ints) }
+
+within_when : (n : ℕ) (b : Bool) (z : ℤ) → Within n z → Within n (when b z)
+within_when n true z w = w
+within_when n false z w = nothing n
+
+unary_by_within : (P : Network) (event : Event) (x a : ℕ) → IsPossible P event → Within (2 ^ 64) (unary_by P event x a)
+unary_by_within P (Did (Project f i b m)) x a h = within_when (2 ^ 64) _ (pos m) (up (2 ^ 64) m (omega (arith, h.1)))
+unary_by_within P (Did (Extend f i b m)) x a h = within_when (2 ^ 64) _ (neg_ℤ (pos m)) (down (2 ^ 64) m (omega (arith, h.1)))
+unary_by_within P (Did (Lift y m)) x a h = within_when (2 ^ 64) _ (neg_ℤ (pos m)) (down (2 ^ 64) m (omega (arith, h.1)))
+unary_by_within P (Did (CutValue y b)) x a h = nothing (2 ^ 64)
+unary_by_within P (Did (CutTuple f c)) x a h = nothing (2 ^ 64)
+unary_by_within P (Is y b) x a h = nothing (2 ^ 64)
+unary_by_within P (IsNot y b) x a h = nothing (2 ^ 64)
+
+residual_by_within : (P : Network) (event : Event) (f : ℕ) (tuple : List ℕ) → IsPossible P event → Within (2 ^ 64) (residual_by event f tuple)
+residual_by_within P (Did (Project g i b m)) f tuple h = within_when (2 ^ 64) _ (neg_ℤ (pos m)) (down (2 ^ 64) m (omega (arith, h.1)))
+residual_by_within P (Did (Extend g i b m)) f tuple h = within_when (2 ^ 64) _ (pos m) (up (2 ^ 64) m (omega (arith, h.1)))
+residual_by_within P (Did (Lift y m)) f tuple h = nothing (2 ^ 64)
+residual_by_within P (Did (CutValue y b)) f tuple h = nothing (2 ^ 64)
+residual_by_within P (Did (CutTuple g c)) f tuple h = nothing (2 ^ 64)
+residual_by_within P (Is y b) f tuple h = nothing (2 ^ 64)
+residual_by_within P (IsNot y b) f tuple h = nothing (2 ^ 64)
+
+lifted_small : (P : Network) (event : Event) → IsPossible P event → lifted event ≤ 2 ^ 64
+lifted_small P (Did (Project f i b m)) h = omega arith
+lifted_small P (Did (Extend f i b m)) h = omega arith
+lifted_small P (Did (Lift y m)) h = omega (arith, h.1)
+lifted_small P (Did (CutValue y b)) h = omega arith
+lifted_small P (Did (CutTuple f c)) h = omega arith
+lifted_small P (Is y b) h = omega arith
+lifted_small P (IsNot y b) h = omega arith
+
+unary_within : (P : Network) (entries : List Entry) (x a : ℕ) → IsTrail P entries → Within (2 ^ 64 * length entries) (unary P (events_of entries) x a)
+unary_within P [] x a trail = record { low = omega (arith, ints); high = omega (arith, ints) }
+unary_within P (entry ∷ entries) x a trail =
+    let one = unary_by_within P entry.event x a trail.0 in
+    let rest = unary_within P entries x a trail.2 in
+    record { low = omega (arith, ints, one.low, rest.low); high = omega (arith, ints, one.high, rest.high) }
+
+residual_within : (P : Network) (entries : List Entry) (f : ℕ) (tuple : List ℕ) → entry_at P f tuple < 2 ^ 63 → IsTrail P entries → Within (2 ^ 64 * length entries + 2 ^ 63) (residual P (events_of entries) f tuple)
+residual_within P [] f tuple small trail = within_when (2 ^ 64 * 0 + 2 ^ 63) (nat_lt 0 (arity P f)) (pos (entry_at P f tuple)) (up (2 ^ 64 * 0 + 2 ^ 63) (entry_at P f tuple) (omega arith))
+residual_within P (entry ∷ entries) f tuple small trail =
+    let one = residual_by_within P entry.event f tuple trail.0 in
+    let rest = residual_within P entries f tuple small trail.2 in
+    record { low = omega (arith, ints, one.low, rest.low); high = omega (arith, ints, one.high, rest.high) }
+
+floor_within : (P : Network) (entries : List Entry) → IsTrail P entries → floor P (events_of entries) ≤ 2 ^ 64 * length entries + floor P []
+floor_within P [] trail = omega arith
+floor_within P (entry ∷ entries) trail =
+    let one = lifted_small P entry.event trail.0 in
+    let rest = floor_within P entries trail.2 in
+    omega (arith, one, rest)
+
+takers_within : (entries : List Entry) (x a : ℕ) → takers (events_of entries) x a ≤ length entries
+takers_within [] x a = omega arith
+takers_within (entry ∷ entries) x a = more (removes entry.event x a) _ _ (takers_within entries x a)
+  where
+    more : (b : Bool) (n m : ℕ) → n ≤ m → (if b then 1 else 0) + n ≤ suc m
+    more true n m h = omega arith
+    more false n m h = omega arith
+
+constant_small : (scope entries : List ℕ) (m : ℕ) → slice_index entries 0 ≤ m → constant_of scope entries ≤ m
+constant_small [] entries m h = h
+constant_small (x ∷ scope) entries m h = omega arith
+
+constants_small : (fs : List Function) (m : ℕ) → ((i : ℕ) → i < length fs → constant (get_or fs i no_function) ≤ m) → sum_by constant fs ≤ m * length fs
+constants_small [] m h = omega arith
+constants_small (f ∷ fs) m h =
+    let rest = constants_small fs m (λ i l. h (suc i) (omega arith)) in
+    omega (arith, sum_by-cons constant f fs, h 0 (omega arith), rest)
+
+pub room : (P : Network) (t : Tables) (entries : List Entry) → IsNetwork P → IsLedger P t entries → HasRoom P t
+room P t entries network ledger =
+    let says = ledger.says in
+    record {
+      floor = let f = floor_within P entries ledger.trail in let k = constants_small P.functions (2 ^ 63) (λ i l. constant_small (function_at P i).scope (function_at P i).entries (2 ^ 63) (let c = (network.functions i l).capped 0 in omega (arith, c, network.upper))) in omega (arith, f, k, says.floor, network.few_functions, ledger.short);
+      unary = λ x a l m. (let e = says.unary x a l m in let w = unary_within P entries x a ledger.trail in record { low = omega (arith, ints, e, w.low, ledger.short); high = omega (arith, ints, e, w.high, ledger.short) });
+      takers = λ x a l m. (let e = says.takers x a l m in let w = takers_within entries x a in omega (arith, e, w, ledger.short));
+      residual = λ f c l m. (let n = tuple_of-numbered (dims_at P f) c m in
+          let tuple = tuple_of (dims_at P f) c in
+          let e = sym (ap (residual_at t f) n.number) ∙ says.residual f tuple l n.fits in
+          let k = (network.functions f l).capped (cell (dims_at P f) tuple) in
+          let w = residual_within P entries f tuple (omega (arith, k, network.upper)) ledger.trail in
+          record { low = omega (arith, ints, e, w.low, ledger.short); high = omega (arith, ints, e, w.high, ledger.short) });
+    }

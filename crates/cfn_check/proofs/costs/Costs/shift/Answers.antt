@@ -1,0 +1,30 @@
+use Rattle.std.proofs.Common.{◌≡◌, ◌<◌, ℕ, List, length, get_or, subst, ap, ◌∙◌, arith}
+use Rattle.std.proofs.Common.{to_z, of_z}
+use mir.Syntax.{w128}
+use Rattle.std.proofs.lemmas.Int.{to_z-of_z}
+use Rattle.std.proofs.lemmas.List.{get_or_read}
+use Rattle.cfn_model.specs.Network.{variable_at}
+use Rattle.std.specs.Prelude.{◌==◌, pos, ◌+ℤ◌}
+use Rattle.cfn_model.specs.Sums.{when}
+use Rattle.cfn_check.specs.Columns.{in_column}
+use Rattle.cfn_check.specs.Values.{Gains}
+use Rattle.cfn_check.specs.Tables.{Values, Tuples, no_values, no_tuples}
+use Rattle.cfn_check.proofs.Shifted.{shifted}
+use Rattle.cfn_check.proofs.costs.Costs.shift.Goals as goal
+
+pub returns-clause-moves : goal.returns-clause-moves
+returns-clause-moves c =
+    let P = c.args.network.now in
+    let x = get_or c.scope.result.now c.args.place 0 in
+    let shape = rw (← c.self.view_is) at c.requires.shape in
+    let at : x ≡ variable_at P c.args.f c.args.place = ap (λ (xs : List ℕ). get_or xs c.args.place 0) c.scope.ensures in
+    let there : x < length P.sizes = omega (arith, at, (c.limits.ensures.functions c.args.f c.requires.place.function).variables c.args.place c.requires.place.place) in
+    let vars : x < length c.self.inside.domains.items = omega (arith, shape.variables) in
+    let funs : c.args.f < length c.self.inside.functions.items = omega (arith, shape.functions, c.requires.place.function) in
+    let v : c.index_mut.result.now ≡ get_or c.self.inside.domains.items x no_values = get_or_read c.self.inside.domains.items x c.index_mut.result.now vars c.index_mut.ensures.value no_values in
+    let t : c.index_mut-2.result.now ≡ get_or c.self.inside.functions.items c.args.f no_tuples = get_or_read c.self.inside.functions.items c.args.f c.index_mut-2.result.now funs c.index_mut-2.ensures.value no_tuples in
+    let gain : to_z w128 (of_z w128 c.args.gain) ≡ c.args.gain = to_z-of_z w128 c.args.gain c.ranges.gain in
+    let loss : to_z w128 (of_z w128 c.args.loss) ≡ c.args.loss = to_z-of_z w128 c.args.loss c.ranges.loss in
+    let gains = subst (λ (w : Values). Gains (λ b. when (c.args.value == b) c.args.gain) w.costs c.add.new.self.costs) v (rw gain at c.add.ensures.costs) in
+    let losses = subst (λ (w : Tuples). (k : ℕ) → k < length w.costs → get_or c.shift.new.self.costs k (pos 0) ≡ (when (in_column c.of-column.result k) c.args.loss +ℤ get_or w.costs k (pos 0))) t (rw loss at c.shift.ensures.costs) in
+    rw (← c.self.view_is) (shifted P c.args.f c.args.place c.args.value x c.args.gain c.args.loss c.of-column.result _ c.add.new.self c.shift.new.self shape c.requires.place there at c.of-column.ensures gains (c.add.ensures.takers ∙ ap (λ w. w.takers) v) losses)

@@ -1,0 +1,10 @@
+use Rattle.std.proofs.Common.{◌≡◌}
+use Rattle.cfn_check.proofs.Amounts.{GivenBelow, one_if_other}
+use Rattle.cfn_check.proofs.domain.Domain.give_others.Given as goal
+
+-- the values before this one are given back, but for the one
+abbrev pub invariant-loop-b : goal.invariant-loop-b
+invariant-loop-b l = record {
+  costs : l.self.costs ≡ l.fn.self.costs;
+  takers : GivenBelow (one_if_other l.value) l.fn.self.takers l.self.takers l.b;
+}

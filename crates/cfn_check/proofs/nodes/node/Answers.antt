@@ -1,0 +1,7 @@
+use Rattle.std.proofs.lemmas.Result.{IfOk-weaker}
+use Rattle.cfn_check.proofs.Lines.{step_taken}
+use Rattle.cfn_check.proofs.nodes.node.Goals as goal
+
+pub returns-in-Step-clause-takes : goal.returns-in-Step-clause-takes
+returns-in-Step-clause-takes c =
+    IfOk-weaker c.step.result _ _ (λ fault judged it history paths at due. step_taken c.args.walk.now c.step.new.self c.args.item c.in-Step.step fault c.in-Step.is judged it history paths at due) c.step.ensures.steps

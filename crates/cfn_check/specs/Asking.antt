@@ -1,0 +1,20 @@
+-- What a judge of steps and decisions answers, and does.
+use Rattle.std.specs.Prelude.{◌≡◌, ℕ, Bool, true, false}
+use Rattle.cfn_model.specs.declared.step.Step.{Step}
+use Rattle.cfn_model.specs.declared.step.Event.{Event}
+use Rattle.cfn_model.specs.declared.step.Event.TheVariants.{Did}
+use Rattle.cfn_model.specs.Steps.{IsValue, InRange, Allowed}
+use Rattle.cfn_check.specs.declared.asked.Judged.{Judged}
+use Rattle.cfn_check.specs.declared.asked.Judged.TheVariants.{Done, Range, NotAllowed}
+use Rattle.cfn_check.specs.Standing.{Standing, with_event}
+
+-- What a judge has found and done: an allowed step is made, and any other leaves all as it was.
+abbrev pub IsJudged : Standing → ℕ → Step → Standing → Judged → Type 0
+IsJudged old k step new Done = Allowed old.network old.history k step × (new ≡ with_event (Did step) old)
+IsJudged old k step new Range = (InRange old.network step → ⊥) × (new ≡ old)
+IsJudged old k step new NotAllowed = InRange old.network step × (Allowed old.network old.history k step → ⊥) × (new ≡ old)
+
+-- What a decision has found and done: true exactly where its numbers are in range, and then the event is made.
+abbrev pub IsDecided : Standing → ℕ → ℕ → Event → Standing → Bool → Type 0
+IsDecided old x a event new true = IsValue old.network x a × (new ≡ with_event event old)
+IsDecided old x a event new false = (IsValue old.network x a → ⊥) × (new ≡ old)

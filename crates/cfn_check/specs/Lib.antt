@@ -1,0 +1,11 @@
+pub mod Values
+pub mod Tables
+pub mod Columns
+pub mod Standing
+pub mod Asking
+pub mod Lacking
+pub mod Walking
+pub mod Taking
+pub mod Assigning
+pub mod Checking
+pub mod Numbers

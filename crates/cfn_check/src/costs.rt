@@ -1,0 +1,394 @@
+//! The floor, the unary costs and live values of all variables, and the residual costs and cut tuples of all functions.
+//!
+//! A project or an extend touches one value and the cells that have it at one place; a lift, a cut or a decision
+//! touches the values of one variable, or one cell. What an event adds can be taken off again at the same cost.
+
+ghost use Rattle.std.specs.Prelude.{◌≡◌, ◌≢◌, ℕ, ◌+◌, ◌*◌, ◌<◌, ◌≤◌, ◌^◌, ◌==◌, ◌&&◌, ◌↔◌, not, true, List, [], ◌∷◌, length, slice_index, slice_index_or, sum_by, replicate, pos, neg_ℤ, ◌+ℤ◌, IfOk, IsTrue, if◌then◌else◌};
+ghost use Rattle.cfn_model.specs.declared.step.Step.TheVariants.{Project, Lift, CutTuple};
+ghost use Rattle.cfn_model.specs.declared.step.Event.TheVariants.{Did};
+ghost use Rattle.cfn_model.specs.Network.{Fits, cells, cell, dims_at, variable_at, function_at};
+ghost use Rattle.cfn_model.specs.Sums.{when, constant, residual};
+ghost use Rattle.cfn_model.specs.Steps.{IsValue, IsPlace, IsCell};
+ghost use Rattle.cfn_check.specs.Tables.{Values, Tuples, values_at, tuples_at, no_values, no_tuples, IsFirst, first_values, has_none, wiped_count, unary_at, takers_at, residual_at, cut_at, HasShape, Says, Moves, Adds, Has, Cuts, HasRoom, IsAmount};
+ghost use Rattle.cfn_check.specs.Standing.{IsPossible};
+
+use crate::column::Column;
+use crate::domain::Domain;
+use crate::residuals::Residuals;
+use cfn_model::{Event, Step};
+use cfn_net::Network;
+use std::alloc::{AllocError, Global};
+use std::marker::Model;
+
+/// The tables: 16 bytes for the cost of each value and each tuple, 8 bytes for how many events took a value, and one
+/// byte for whether a tuple is cut.
+#[derive(Drop)]
+pub(crate) struct Costs {
+    floor: u128,
+    domains: Vec<Domain>,
+    functions: Vec<Residuals>,
+    wiped: u32,
+}
+
+impl Model for Costs {
+    ghost use Rattle.std.specs.Prelude.{◌≡◌};
+    ghost use Rattle.cfn_check.specs.Tables.{Tables, wiped_count};
+
+    ghost Value = { Tables };
+
+    ghost view = { λ c. record { floor = c.floor; variables = c.domains.items; functions = c.functions.items } };
+
+    ghost invariant = { λ c. c.wiped ≡ wiped_count c.domains.items };
+}
+
+impl Costs {
+    /// A network's costs before any event. An `Err` is want of memory.
+    pub(crate) fn of(alloc: Global, network: &Network) -> Result<Costs, AllocError>
+        ensures { IfOk result (λ t. Says network.now [] t) }
+    {
+        network.limits();
+        Ok(Costs {
+            floor: constants(network),
+            domains: domains_of(alloc, network)?,
+            functions: functions_of(alloc, network)?,
+            wiped: 0,
+        })
+    }
+
+    pub(crate) fn floor(&self) -> u128
+        ensures { result ≡ self.now.floor }
+    {
+        self.floor
+    }
+
+    /// Whether a variable has no live value.
+    pub(crate) fn is_wiped(&self) -> bool
+        ensures { result ≡ not (wiped_count self.now.variables == 0) }
+    {
+        self.wiped != 0
+    }
+
+    pub(crate) fn unary(&self, x: u32, value: u32) -> i128
+        requires variable { x < length self.now.variables }
+        requires value { value < length (values_at self.now x).costs }
+        ensures { result ≡ unary_at self.now x value }
+    {
+        self.domains[x as usize].cost(value)
+    }
+
+    pub(crate) fn is_live(&self, x: u32, value: u32) -> bool
+        requires variable { x < length self.now.variables }
+        requires value { value < length (values_at self.now x).takers }
+        ensures { result ≡ (takers_at self.now x value == 0) }
+    {
+        self.domains[x as usize].is_live(value)
+    }
+
+    pub(crate) fn residual(&self, f: u32, cell: u32) -> i128
+        requires function { f < length self.now.functions }
+        requires cell { cell < length (tuples_at self.now f).costs }
+        ensures { result ≡ residual_at self.now f cell }
+    {
+        self.functions[f as usize].cost(cell)
+    }
+
+    pub(crate) fn is_cut(&self, f: u32, cell: u32) -> bool
+        requires function { f < length self.now.functions }
+        requires cell { cell < length (tuples_at self.now f).cut }
+        ensures { result ≡ cut_at self.now f cell }
+    {
+        self.functions[f as usize].is_cut(cell)
+    }
+
+    /// Adds what an event changes.
+    pub(crate) fn apply(&mut self, network: &Network, event: Event)
+        requires shape { HasShape network.now self.old }
+        requires room { HasRoom network.now self.old }
+        requires event { IsPossible network.now event }
+        ensures shape { HasShape network.now self.new }
+        ensures adds { Adds network.now event self.old self.new }
+        ensures cut { Cuts network.now event true self.old self.new }
+    {
+        match event {
+            Event::Did(step) => self.make(network, step),
+            Event::Is { variable, value } => self.take_others(network, variable, value),
+            Event::IsNot { variable, value } => self.take(network, variable, value),
+        }
+    }
+
+    /// Takes off again what an event has added. A tuple that it cut stays cut unless the cut was fresh.
+    pub(crate) fn revert(&mut self, network: &Network, event: Event, fresh: bool)
+        requires shape { HasShape network.now self.old }
+        requires room { HasRoom network.now self.old }
+        requires event { IsPossible network.now event }
+        requires has { Has network.now event self.old }
+        ensures shape { HasShape network.now self.new }
+        ensures adds { Adds network.now event self.new self.old }
+        ensures cut { Cuts network.now event (not fresh) self.old self.new }
+    {
+        match event {
+            Event::Did(step) => self.unmake(network, step, fresh),
+            Event::Is { variable, value } => self.give_others(network, variable, value),
+            Event::IsNot { variable, value } => self.give(network, variable, value),
+        }
+    }
+
+    fn make(&mut self, network: &Network, step: Step)
+        requires shape { HasShape network.now self.old }
+        requires room { HasRoom network.now self.old }
+        requires event { IsPossible network.now (Did step) }
+        ensures shape { HasShape network.now self.new }
+        ensures adds { Adds network.now (Did step) self.old self.new }
+        ensures cut { Cuts network.now (Did step) true self.old self.new }
+    {
+        match step {
+            Step::Project {
+                function,
+                place,
+                value,
+                amount,
+            } => {
+                let amount = amount as i128;
+                self.shift(network, function, place, value, amount, -amount)
+            }
+            Step::Extend {
+                function,
+                place,
+                value,
+                amount,
+            } => {
+                let amount = amount as i128;
+                self.shift(network, function, place, value, -amount, amount)
+            }
+            Step::Lift { variable, amount } => self.lift(network, variable, amount),
+            Step::CutValue { variable, value } => self.take(network, variable, value),
+            Step::CutTuple { function, cell } => self.mark(network, function, cell, true),
+        }
+    }
+
+    fn unmake(&mut self, network: &Network, step: Step, fresh: bool)
+        requires shape { HasShape network.now self.old }
+        requires room { HasRoom network.now self.old }
+        requires event { IsPossible network.now (Did step) }
+        requires has { Has network.now (Did step) self.old }
+        ensures shape { HasShape network.now self.new }
+        ensures adds { Adds network.now (Did step) self.new self.old }
+        ensures cut { Cuts network.now (Did step) (not fresh) self.old self.new }
+    {
+        match step {
+            Step::Project {
+                function,
+                place,
+                value,
+                amount,
+            } => {
+                let amount = amount as i128;
+                self.shift(network, function, place, value, -amount, amount)
+            }
+            Step::Extend {
+                function,
+                place,
+                value,
+                amount,
+            } => {
+                let amount = amount as i128;
+                self.shift(network, function, place, value, amount, -amount)
+            }
+            Step::Lift { variable, amount } => self.unlift(network, variable, amount),
+            Step::CutValue { variable, value } => self.give(network, variable, value),
+            Step::CutTuple { function, cell } => self.mark(network, function, cell, !fresh),
+        }
+    }
+
+    /// Adds `gain` to the cost of a value at a place of a function, and `loss` to that of each tuple that has it there.
+    fn shift(&mut self, network: &Network, f: u32, place: u32, value: u32, gain: i128, loss: i128)
+        requires shape { HasShape network.now self.old }
+        requires room { HasRoom network.now self.old }
+        requires place { IsPlace network.now f place value }
+        requires gain { IsAmount gain }
+        requires loss { IsAmount loss }
+        ensures shape { HasShape network.now self.new }
+        ensures moves { Moves network.now 0 (λ y b. when ((variable_at network.now f place == y) && (value == b)) gain)
+            (λ y b. 0) (λ g tuple. when ((f == g) && (slice_index tuple place == value)) loss) self.old self.new }
+        ensures cut { (g c : ℕ) → cut_at self.new g c ≡ cut_at self.old g c }
+    {
+        network.limits();
+        let column = Column::of(network, f, place, value);
+        let x = network.scope(f)[place as usize];
+        self.domains[x as usize].add(value, gain);
+        self.functions[f as usize].shift(column, loss);
+    }
+
+    /// Lifts an amount from each value of a variable to the floor.
+    fn lift(&mut self, network: &Network, x: u32, amount: u64)
+        requires shape { HasShape network.now self.old }
+        requires room { HasRoom network.now self.old }
+        requires variable { x < length network.now.sizes }
+        ensures shape { HasShape network.now self.new }
+        ensures adds { Adds network.now (Did (Lift x amount)) self.old self.new }
+        ensures functions { self.new.functions ≡ self.old.functions }
+    {
+        self.floor += amount as u128;
+        self.domains[x as usize].add_to_all(-(amount as i128));
+    }
+
+    /// Takes a lift off again.
+    fn unlift(&mut self, network: &Network, x: u32, amount: u64)
+        requires shape { HasShape network.now self.old }
+        requires room { HasRoom network.now self.old }
+        requires variable { x < length network.now.sizes }
+        requires floor { amount ≤ self.old.floor }
+        ensures shape { HasShape network.now self.new }
+        ensures adds { Adds network.now (Did (Lift x amount)) self.new self.old }
+        ensures functions { self.new.functions ≡ self.old.functions }
+    {
+        self.floor -= amount as u128;
+        self.domains[x as usize].add_to_all(amount as i128);
+    }
+
+    /// Takes a value once more.
+    fn take(&mut self, network: &Network, x: u32, value: u32)
+        requires shape { HasShape network.now self.old }
+        requires room { HasRoom network.now self.old }
+        requires value { IsValue network.now x value }
+        ensures shape { HasShape network.now self.new }
+        ensures moves { Moves network.now 0 (λ y b. pos 0) (λ y b. if (x == y) && (value == b) then 1 else 0)
+            (λ g tuple. pos 0) self.old self.new }
+        ensures functions { self.new.functions ≡ self.old.functions }
+    {
+        network.limits();
+        let domain = &mut self.domains[x as usize];
+        let before = domain.has_none();
+        domain.take(value);
+        let now = domain.has_none();
+        self.wiped = recount(self.wiped, before, now);
+    }
+
+    /// Gives a value back once.
+    fn give(&mut self, network: &Network, x: u32, value: u32)
+        requires shape { HasShape network.now self.old }
+        requires value { IsValue network.now x value }
+        requires taken { 0 < takers_at self.old x value }
+        ensures shape { HasShape network.now self.new }
+        ensures moves { Moves network.now 0 (λ y b. pos 0) (λ y b. if (x == y) && (value == b) then 1 else 0)
+            (λ g tuple. pos 0) self.new self.old }
+        ensures functions { self.new.functions ≡ self.old.functions }
+    {
+        network.limits();
+        let domain = &mut self.domains[x as usize];
+        let before = domain.has_none();
+        domain.give(value);
+        let now = domain.has_none();
+        self.wiped = recount(self.wiped, before, now);
+    }
+
+    /// Takes each value of a variable but one once more.
+    fn take_others(&mut self, network: &Network, x: u32, value: u32)
+        requires shape { HasShape network.now self.old }
+        requires room { HasRoom network.now self.old }
+        requires value { IsValue network.now x value }
+        ensures shape { HasShape network.now self.new }
+        ensures moves { Moves network.now 0 (λ y b. pos 0) (λ y b. if (x == y) && not (value == b) then 1 else 0)
+            (λ g tuple. pos 0) self.old self.new }
+        ensures functions { self.new.functions ≡ self.old.functions }
+    {
+        network.limits();
+        let domain = &mut self.domains[x as usize];
+        let before = domain.has_none();
+        domain.take_others(value);
+        let now = domain.has_none();
+        self.wiped = recount(self.wiped, before, now);
+    }
+
+    /// Gives each value of a variable but one back once.
+    fn give_others(&mut self, network: &Network, x: u32, value: u32)
+        requires shape { HasShape network.now self.old }
+        requires value { IsValue network.now x value }
+        requires taken { (b : ℕ) → b < slice_index network.now.sizes x → value ≢ b → 0 < takers_at self.old x b }
+        ensures shape { HasShape network.now self.new }
+        ensures moves { Moves network.now 0 (λ y b. pos 0) (λ y b. if (x == y) && not (value == b) then 1 else 0)
+            (λ g tuple. pos 0) self.new self.old }
+        ensures functions { self.new.functions ≡ self.old.functions }
+    {
+        network.limits();
+        let domain = &mut self.domains[x as usize];
+        let before = domain.has_none();
+        domain.give_others(value);
+        let now = domain.has_none();
+        self.wiped = recount(self.wiped, before, now);
+    }
+
+    /// Says of a tuple whether it is cut.
+    fn mark(&mut self, network: &Network, f: u32, cell: u32, is: bool)
+        requires shape { HasShape network.now self.old }
+        requires cell { IsCell network.now f cell }
+        ensures shape { HasShape network.now self.new }
+        ensures forward { Adds network.now (Did (CutTuple f cell)) self.old self.new }
+        ensures back { Adds network.now (Did (CutTuple f cell)) self.new self.old }
+        ensures cut { Cuts network.now (Did (CutTuple f cell)) is self.old self.new }
+    {
+        self.functions[f as usize].set_cut(cell, is);
+    }
+}
+
+/// How many variables have no live value, after one of them has changed.
+fn recount(wiped: u32, before: bool, now: bool) -> u32
+    requires before { IsTrue before → 0 < wiped }
+    requires few { wiped ≤ 1048576 }
+    ensures { result + (if before then 1 else 0) ≡ wiped + (if now then 1 else 0) }
+{
+    match (before, now) {
+        (true, false) => wiped - 1,
+        (false, true) => wiped + 1,
+        _ => wiped,
+    }
+}
+
+/// All values of all variables live, without unary costs.
+fn domains_of(alloc: Global, network: &Network) -> Result<Vec<Domain>, AllocError>
+    ensures size { IfOk result (λ d. length d.items ≡ length network.now.sizes) }
+    ensures each { IfOk result (λ d. (x : ℕ) → x < length network.now.sizes → slice_index_or d.items x no_values
+        ≡ first_values (slice_index network.now.sizes x)) }
+{
+    let mut domains = Vec::new(alloc);
+    for x in 0..network.variables() {
+        domains.push(Domain::of(alloc, network.size(x))?)?;
+    }
+    Ok(domains)
+}
+
+/// The entries of all functions, with no tuple cut.
+fn functions_of(alloc: Global, network: &Network) -> Result<Vec<Residuals>, AllocError>
+    ensures size { IfOk result (λ t. length t.items ≡ length network.now.functions) }
+    ensures each { IfOk result (λ t. (f : ℕ) → f < length network.now.functions → IsFirst network.now f (slice_index_or t.items f no_tuples)) }
+{
+    let mut functions = Vec::new(alloc);
+    for f in 0..network.functions() {
+        functions.push(Residuals::of(alloc, network, f)?)?;
+    }
+    Ok(functions)
+}
+
+/// The constants of all functions of arity 0.
+fn constants(network: &Network) -> u128
+    ensures { result ≡ sum_by constant network.now.functions }
+{
+    let mut sum = 0;
+    for f in 0..network.functions() {
+        sum += constant(network, f) as u128;
+    }
+    sum
+}
+
+/// The constant that a function of arity 0 is, or 0.
+fn constant(network: &Network, f: u32) -> u64
+    requires { f < length network.now.functions }
+    ensures { result ≡ constant (function_at network.now f) }
+{
+    network.limits();
+    if network.scope(f).is_empty() {
+        network.entry(f, 0)
+    } else {
+        0
+    }
+}

@@ -1,0 +1,39 @@
+//! The separate checker of certificates.
+//!
+//! It stands on no solver's store, and adds up all shifts in tables of its own, with sums of 128 bits.
+//!
+//! - `check` judges a certificate from the bytes of its text; `Check` is its answer. `certificate` goes over the text in
+//!   the order of its lines: `reading` has those before the tree, `best` and `assignment` the best assignment, `nodes`
+//!   those of the tree. `Walk` is the way down and up the tree, with an `Owed` for each split whose second child is
+//!   still to come.
+//! - `Ledger` is where one path of the tree stands. It judges a step and makes it, makes decisions, tells whether a leaf
+//!   may be closed, and goes back to a mark. `asked` has which steps of a text are in range, `allowed` what each step
+//!   asks; an `Entry` is one event of the path.
+//! - `Costs` are the tables: the floor, a `Domain` for each variable, `Residuals` for each function. A `Column` has the
+//!   cells of a function that a project or an extend touches.
+#![tactic(auto)]
+
+mod allowed;
+mod answer;
+mod asked;
+mod assignment;
+mod best;
+mod certificate;
+mod column;
+mod costs;
+mod domain;
+mod entry;
+mod ledger;
+mod nodes;
+mod owed;
+mod reading;
+mod residuals;
+mod walk;
+
+pub use answer::Check;
+pub use asked::Judged;
+pub use certificate::check;
+pub use ledger::{Ledger, Mark};
+
+#[cfg(test)]
+mod tests;

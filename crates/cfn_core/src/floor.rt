@@ -1,0 +1,55 @@
+//! The floor at the end of a path, added up from its events.
+
+ghost use Rattle.std.specs.Prelude.{◌≡◌, ◌<◌, ◌^◌, [], length};
+ghost use Rattle.cfn_model.specs.Network.{function_at};
+ghost use Rattle.cfn_model.specs.Sums.{lifted, floor, constant};
+
+use cfn_net::Network;
+use cfn_proof::{Event, Path, Step};
+
+/// The floor at the end of a path: the constants of the functions of arity 0, and what was lifted (Cooper et al. 2010).
+/// It takes no memory.
+pub(crate) fn floor(network: &Network, path: &Path) -> u128
+    ensures { result ≡ floor network.now path.now }
+{
+    let mut sum = constants(network);
+    let events = path.events();
+    for event in events {
+        sum += lifted(*event) as u128;
+    }
+    sum
+}
+
+/// The constants of all functions of arity 0.
+fn constants(network: &Network) -> u128
+    ensures value { result ≡ floor network.now [] }
+    ensures small { result < 2 ^ 96 }
+{
+    let mut sum = 0;
+    for f in 0..network.functions() {
+        sum += constant(network, f) as u128;
+    }
+    sum
+}
+
+/// The constant that a function is where it has no variables, and else 0.
+fn constant(network: &Network, f: u32) -> u64
+    requires { f < length network.now.functions }
+    ensures { result ≡ constant (function_at network.now f) }
+{
+    if network.scope(f).is_empty() {
+        network.entry(f, 0)
+    } else {
+        0
+    }
+}
+
+/// What an event adds to the floor.
+fn lifted(event: Event) -> u64
+    ensures { result ≡ lifted event }
+{
+    match event {
+        Event::Did(Step::Lift { amount, .. }) => amount,
+        _ => 0,
+    }
+}

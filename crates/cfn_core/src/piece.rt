@@ -1,0 +1,97 @@
+//! What a worker made of a task.
+
+ghost use Rattle.std.specs.Prelude.{◌≡◌, ◌≤◌};
+ghost use Rattle.cfn_model.specs.Tree.{Valid, Strict, count};
+ghost use Rattle.cfn_proof.specs.Nodes.{tree_of};
+ghost use Rattle.cfn_core.specs.Pool.{IsPiece, HasEmptyOpen, Tame};
+ghost use Rattle.cfn_core.specs.Values.{piece_of};
+
+use crate::task::Task;
+use cfn_proof::Tree;
+use std::marker::Model;
+
+/// A task, the tree that its worker made below its leaf, and the threshold that the tree was made at.
+///
+/// The tree goes on from the leaf: it is valid there at the threshold, strict, and has small costs all along. It has 1
+/// to `grant` splits and closed leaves, and the blocks of its open leaves are empty.
+#[derive(Drop)]
+pub struct Piece {
+    task: Task,
+    tree: Tree,
+    threshold: u64,
+}
+
+impl Model for Piece {
+    ghost use Rattle.std.specs.Prelude.{◌≤◌};
+    ghost use Rattle.cfn_core.specs.Pool.{IsPiece};
+    ghost use Rattle.cfn_core.specs.Values.{PieceValue, IsPieceValue};
+
+    ghost Value = { PieceValue };
+
+    ghost view = { λ p. record { network = p.task.network; task = p.task.task; nodes = p.tree; threshold = p.threshold } };
+
+    ghost invariant = { λ p. IsPieceValue (record { network = p.task.network; task = p.task.task; nodes = p.tree; threshold = p.threshold }) };
+}
+
+impl Piece {
+    /// The piece of a task. The threshold is at most 9,223,372,036,854,775,807. It takes no memory.
+    pub fn of(task: Task, tree: Tree, threshold: u64) -> Piece
+        requires valid { Valid task.network task.task.path (tree_of tree) threshold }
+        requires strict { Strict task.network task.task.path (tree_of tree) }
+        requires tame { Tame task.network task.task.path (tree_of tree) }
+        requires empty { HasEmptyOpen (tree_of tree) }
+        requires some { 1 ≤ count (tree_of tree) }
+        requires few { count (tree_of tree) ≤ task.task.grant }
+        requires threshold { threshold ≤ 9223372036854775807 }
+        ensures { result ≡ record { network = task.network; task = task.task; nodes = tree; threshold = threshold } }
+    {
+        Piece {
+            task,
+            tree,
+            threshold,
+        }
+    }
+
+    /// Nothing: its contract tells a caller what a piece keeps.
+    pub fn kept(&self)
+        ensures piece { IsPiece self.now.network (piece_of self.now) }
+        ensures threshold { self.now.threshold ≤ 9223372036854775807 }
+    {
+        let _ = &self.threshold;
+    }
+
+    /// The task that the piece is of.
+    pub fn task(&self) -> &Task
+        ensures network { result.now.network ≡ self.now.network }
+        ensures task { result.now.task ≡ self.now.task }
+    {
+        &self.task
+    }
+
+    /// The tree below the leaf.
+    pub fn tree(&self) -> &Tree
+        ensures { result.now ≡ self.now.nodes }
+    {
+        &self.tree
+    }
+
+    /// The threshold that the tree was made at, at most 9,223,372,036,854,775,807.
+    pub fn threshold(&self) -> u64
+        ensures { result ≡ self.now.threshold }
+    {
+        self.threshold
+    }
+
+    /// The task again, without the tree. It takes no memory.
+    pub fn into_task(self) -> Task
+        ensures network { result.network ≡ self.network }
+        ensures task { result.task ≡ self.task }
+    {
+        let Piece {
+            task,
+            tree: _,
+            threshold: _,
+        } = self;
+        task
+    }
+}

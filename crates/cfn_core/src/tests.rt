@@ -1,0 +1,395 @@
+//! The machine at work, on three variables of which each two cost 1 where they agree.
+
+ghost use Rattle.std.specs.Prelude.{◌≡◌, ◌<◌, ◌^◌, IsTrue, IfOk, IfSome};
+ghost use Rattle.std.specs.List.{AllByRecursion};
+ghost use Rattle.cfn_model.specs.Sums.{is_live, removes};
+ghost use Rattle.cfn_core.specs.Values.{IsTaskOf};
+
+use super::*;
+use crate::node::End;
+use cfn_net::{Builder, Fit, Network, Scored};
+use cfn_proof::{Event, Path, Step, Tree};
+use std::alloc::{AllocError, Global};
+use std::test::*;
+
+/// Three variables with two values, of which each two cost 1 where they agree.
+fn tri(alloc: Global) -> Result<Network, AllocError> {
+    let mut builder = Builder::make(alloc, b"tri", &[2, 2, 2], 10)?;
+    let agree = [([0, 0].as_slice(), 1), ([1, 1].as_slice(), 1)];
+    builder.function(&[0, 1], 0, &agree)?;
+    builder.function(&[0, 2], 0, &agree)?;
+    builder.function(&[1, 2], 0, &agree)?;
+    builder.finish()
+}
+
+/// Three variables with two values. Every assignment costs 4, the constant, so a lowering lets a sweep close all.
+fn level(alloc: Global) -> Result<Network, AllocError> {
+    let mut builder = Builder::make(alloc, b"level", &[2, 2, 2], 10)?;
+    builder.function(&[], 4, &[])?;
+    builder.finish()
+}
+
+/// Whether an event takes a value from a variable.
+fn removes(event: Event, x: u32, a: u32) -> bool
+    ensures { result ≡ removes event x a }
+{
+    match event {
+        Event::Did(Step::CutValue { variable, value }) | Event::IsNot { variable, value } => {
+            variable == x && value == a
+        }
+        Event::Is { variable, value } => variable == x && value != a,
+        Event::Did(_) => false,
+    }
+}
+
+/// Whether a value is live at the end of a path.
+fn is_live(path: &Path, x: u32, a: u32) -> bool
+    ensures { IsTrue result → IsTrue (is_live path.now x a) }
+{
+    let events = path.events();
+    for event in events {
+        if removes(*event, x, a) {
+            return false;
+        }
+    }
+    true
+}
+
+/// A task's leaf split at the value 0 of a variable, where 0 and 1 are live, at the threshold of the upper bound.
+fn halved(
+    alloc: Global,
+    network: &Network,
+    task: Task,
+    variable: u32,
+) -> Result<Option<Piece>, AllocError>
+    requires { task.network ≡ network.now }
+    ensures { IfOk result (λ half. IfSome half (λ piece. piece.network ≡ network.now)) }
+{
+    if variable >= network.variables() || network.size(variable) < 2 {
+        return Ok(None);
+    }
+    if !is_live(task.path(), variable, 0) || !is_live(task.path(), variable, 1) {
+        return Ok(None);
+    }
+    network.limits();
+    task.kept();
+    let mut tree = Tree::new(alloc)?;
+    tree.split(Tree::ROOT, variable, 0)?;
+    Ok(Some(Piece::of(task, tree, network.ub())))
+}
+
+/// The opening for one worker.
+fn opened<'n>(alloc: Global, network: &'n Network, budget: u64) -> Result<World<'n>, AllocError>
+    requires { budget < 2 ^ 63 }
+    ensures { IfOk result (λ world. world.network ≡ network.now) }
+{
+    World::start(alloc, network, 1, budget)
+}
+
+/// Whether a worker's note gets the number 0.
+fn is_noted(world: &mut World<'_>, worker: u32) -> Result<bool, AllocError>
+    ensures { world.new.network ≡ world.old.network }
+{
+    Ok(matches!(
+        world.step(&Action::Note { worker })?,
+        Reply::Noted { note: 0 }
+    ))
+}
+
+/// Whether a piece that is given with the note 0 is taken.
+fn is_taken(world: &mut World<'_>, piece: Piece) -> Result<bool, AllocError>
+    requires { piece.network ≡ world.old.network }
+    ensures { world.new.network ≡ world.old.network }
+{
+    Ok(matches!(world.step(&Action::Give { piece, note: 0 })?, Reply::Done))
+}
+
+/// Whether a piece is refused after all leaves were called back.
+fn is_gone(world: &mut World<'_>, piece: Piece) -> Result<bool, AllocError>
+    requires { piece.network ≡ world.old.network }
+    ensures { world.new.network ≡ world.old.network }
+{
+    done(world.step(&Action::Recall))?;
+    Ok(matches!(world.step(&Action::Give { piece, note: 0 })?, Reply::Gone))
+}
+
+/// Whether a worker that asks for a leaf is told that the budget is spent.
+fn is_spent(world: &mut World<'_>) -> Result<bool, AllocError>
+    ensures { world.new.network ≡ world.old.network }
+{
+    Ok(matches!(
+        world.step(&Action::Take { worker: 0, want: 1 })?,
+        Reply::Spent
+    ))
+}
+
+/// The task that a worker takes, to make one node, if it gets one.
+fn task_for(world: &mut World<'_>, worker: u32) -> Result<Option<Task>, AllocError>
+    ensures own { world.new.network ≡ world.old.network }
+    ensures task { IfOk result (λ taken. IfSome taken (λ task. task.network ≡ world.old.network)) }
+{
+    match world.step(&Action::Take { worker, want: 1 })? {
+        Reply::Given { task } => Ok(Some(task)),
+        _ => Ok(None),
+    }
+}
+
+/// The root, taken by the worker 0 and split at the value 0 of the variable 0, if all goes well.
+fn split_root(
+    alloc: Global,
+    network: &Network,
+    world: &mut World<'_>,
+) -> Result<Option<Piece>, AllocError>
+    requires { world.old.network ≡ network.now }
+    ensures own { world.new.network ≡ network.now }
+    ensures piece { IfOk result (λ half. IfSome half (λ piece. piece.network ≡ network.now)) }
+{
+    match task_for(world, 0)? {
+        Some(task) if task.leaf() == 0 && task.grant() == 1 => halved(alloc, network, task, 0),
+        _ => Ok(None),
+    }
+}
+
+#[test]
+fn split_spends_the_budget(rt: HostRuntime) -> Result<(), Fail> {
+    let alloc = rt.alloc();
+    let network = tri(alloc)?;
+    let mut world = opened(alloc, &network, 1)?;
+    let piece = split_root(alloc, &network, &mut world)?.ok_or("a piece")?;
+    assert!(rt; is_noted(&mut world, 0)?);
+    assert!(rt; is_taken(&mut world, piece)?);
+    assert!(rt; is_spent(&mut world)?);
+    Ok(())
+}
+
+#[test]
+fn called_back_leaf_is_handed_out_again(rt: HostRuntime) -> Result<(), Fail> {
+    let alloc = rt.alloc();
+    let network = tri(alloc)?;
+    let mut world = opened(alloc, &network, 2)?;
+    let piece = split_root(alloc, &network, &mut world)?.ok_or("a piece")?;
+    assert!(rt; is_noted(&mut world, 0)?);
+    assert!(rt; is_gone(&mut world, piece)?);
+    assert!(rt; is_free_root(&world));
+    let again = task_for(&mut world, 0)?;
+    assert!(rt; again.is_some());
+    Ok(())
+}
+
+/// Whether the tree is one free leaf with the number 0.
+fn is_free_root(world: &World<'_>) -> bool {
+    match world.nodes.first() {
+        Some(root) => world.nodes.len() == 1 && root.end == End::FreeLeaf { number: 0 },
+        None => false,
+    }
+}
+
+#[test]
+fn list_gives_and_takes(rt: HostRuntime) -> Result<(), Fail> {
+    let alloc = rt.alloc();
+    let network = tri(alloc)?;
+    let mut world = opened(alloc, &network, 1)?;
+    let piece = split_root(alloc, &network, &mut world)?.ok_or("a piece")?;
+    assert!(rt; spends_in_a_list(&mut world, piece));
+    Ok(())
+}
+
+/// Whether a list that notes, gives and takes is answered so that the budget is spent.
+fn spends_in_a_list(world: &mut World<'_>, piece: Piece) -> bool
+    requires { piece.network ≡ world.old.network }
+{
+    let note = Action::Note { worker: 0 };
+    let give = Action::Give { piece, note: 0 };
+    let take = Action::Take { worker: 0, want: 1 };
+    match world.run(&[note, give, take]) {
+        Ok(replies) => matches!(replies.last(), Some(Reply::Spent)),
+        Err(memory) => memory.done > 3,
+    }
+}
+
+/// The next number of a plain generator, below 65,537.
+fn next_number(state: u64) -> u64 {
+    (75 * (state % 65537) + 74) % 65537
+}
+
+/// Some action of some worker. A task that is handed out is kept, and a kept one is given or given back.
+fn act(
+    alloc: Global,
+    network: &Network,
+    world: &mut World<'_>,
+    tasks: &mut Vec<Task>,
+    state: u64,
+) -> Result<(), AllocError>
+    requires own { world.old.network ≡ network.now }
+    requires tasks { AllByRecursion (IsTaskOf network.now) tasks.old.items }
+    ensures own { world.new.network ≡ network.now }
+    ensures tasks { AllByRecursion (IsTaskOf network.now) tasks.new.items }
+{
+    let worker = (state % 5) as u32;
+    let choice = state / 5;
+    match choice % 16 {
+        0 | 1 => lower(alloc, network, world, worker, choice),
+        2 => done(world.step(&Action::Look { worker })),
+        3 | 4 => done(world.step(&Action::Note { worker })),
+        5 => done(world.step(&Action::Sweep)),
+        6 if choice % 64 == 6 => done(world.step(&Action::Recall)),
+        7 if choice % 128 == 7 => done(world.step(&Action::Meet { worker })),
+        8 | 9 | 10 | 11 => take(world, tasks, worker, choice % 3),
+        _ => match tasks.pop() {
+            Some(task) => hand_in(alloc, network, world, task, choice),
+            None => Ok(()),
+        },
+    }
+}
+
+/// An action whose answer does not matter.
+fn done(reply: Result<Reply, AllocError>) -> Result<(), AllocError> {
+    reply?;
+    Ok(())
+}
+
+/// A worker lowers the word to the cost of some assignment, or of none.
+fn lower(
+    alloc: Global,
+    network: &Network,
+    world: &mut World<'_>,
+    worker: u32,
+    choice: u64,
+) -> Result<(), AllocError>
+    requires { world.old.network ≡ network.now }
+    ensures { world.new.network ≡ network.now }
+{
+    let mut found = Scored::empty(alloc, network)?;
+    let values = [
+        (choice % 2) as u32,
+        (choice / 2 % 2) as u32,
+        (choice / 4 % 2) as u32,
+    ];
+    if network.fits(&values) == Fit::Fits {
+        found.fill(network, &values);
+    }
+    done(world.step(&Action::Lower { worker, found }))
+}
+
+/// A worker asks for a leaf, and keeps the task.
+fn take(
+    world: &mut World<'_>,
+    tasks: &mut Vec<Task>,
+    worker: u32,
+    want: u64,
+) -> Result<(), AllocError>
+    ensures own { world.new.network ≡ world.old.network }
+    ensures tasks { AllByRecursion (IsTaskOf world.old.network) tasks.old.items → AllByRecursion (IsTaskOf world.old.network) tasks.new.items }
+{
+    if let Reply::Given { task } = world.step(&Action::Take { worker, want })? {
+        tasks.push(task)?;
+    }
+    Ok(())
+}
+
+/// A task is given back, or given split.
+fn hand_in(
+    alloc: Global,
+    network: &Network,
+    world: &mut World<'_>,
+    task: Task,
+    choice: u64,
+) -> Result<(), AllocError>
+    requires own { world.old.network ≡ network.now }
+    requires task { task.network ≡ network.now }
+    ensures { world.new.network ≡ network.now }
+{
+    if choice % 5 == 0 {
+        return done(world.step(&Action::Back { task }));
+    }
+    let variable = (choice % 3) as u32;
+    let Some(piece) = halved(alloc, network, task, variable)? else {
+        return Ok(());
+    };
+    let Reply::Noted { note } = world.step(&Action::Note { worker: 3 })? else {
+        return Ok(());
+    };
+    done(world.step(&Action::Give { piece, note }))
+}
+
+/// Whether the shares add up to 128.
+fn shares_add_up(world: &World<'_>) -> bool {
+    let unmet = world.seats.iter().filter(|seat| !seat.met).count();
+    unmet as u128 + world.shares as u128 == 128
+}
+
+/// Whether the word is the least of the upper bound and the prices of all that is kept.
+fn word_is_least(network: &Network, world: &World<'_>) -> bool {
+    let mut least = network.ub().min(world.best.price());
+    for seat in &world.seats {
+        if !seat.met {
+            least = least.min(seat.best.price());
+        }
+    }
+    world.word == least
+}
+
+/// Whether the nodes that are made and those that are granted keep to the budget.
+fn budget_is_kept(world: &World<'_>) -> bool {
+    let mut sum = world.spent;
+    for node in &world.nodes {
+        if let End::OutLeaf { grant, .. } = node.end {
+            sum = sum.saturating_add(grant);
+        }
+    }
+    sum <= world.budget
+}
+
+/// Whether the open leaves have numbers of their own.
+fn numbers_differ(world: &World<'_>) -> bool {
+    for (place, node) in world.nodes.iter().enumerate() {
+        let number = number_of(node.end);
+        for other in &world.nodes[..place] {
+            if number.is_some() && number == number_of(other.end) {
+                return false;
+            }
+        }
+    }
+    true
+}
+
+/// The number of an open leaf.
+fn number_of(end: End) -> Option<u64> {
+    match end {
+        End::FreeLeaf { number } | End::OutLeaf { number, .. } => Some(number),
+        End::ShutLeaf | End::Branch { .. } => None,
+    }
+}
+
+/// Two hundred actions of a seed. Answers how many nodes were made.
+fn trial(alloc: Global, network: &Network, seed: u64) -> Result<u64, Fail> {
+    let mut world = World::start(alloc, network, 3, 12)?;
+    let mut tasks = Vec::new(alloc);
+    let mut state = seed;
+    for _turn in 0..200 {
+        state = next_number(state);
+        act(alloc, network, &mut world, &mut tasks, state)?;
+        let is_kept = shares_add_up(&world)
+            && word_is_least(network, &world)
+            && budget_is_kept(&world)
+            && numbers_differ(&world);
+        if !is_kept {
+            return Err("a rule of the machine".into());
+        }
+    }
+    Ok(world.spent)
+}
+
+#[test]
+fn actions_in_any_order_keep_the_rules(rt: HostRuntime) -> Result<(), Fail> {
+    let alloc = rt.alloc();
+    let network = tri(alloc)?;
+    let flat = level(alloc)?;
+    let mut made = 0u64;
+    for seed in [7, 11, 13, 17, 19] {
+        made = made.saturating_add(trial(alloc, &network, seed)?);
+        made = made.saturating_add(trial(alloc, &flat, seed)?);
+    }
+    assert!(rt; made > 20);
+    Ok(())
+}

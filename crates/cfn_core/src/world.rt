@@ -1,0 +1,200 @@
+//! The machine that runs.
+
+ghost use Rattle.std.specs.Prelude.{◌≡◌, ◌<◌, ◌≤◌, ◌^◌, List, length, map, take, All, IfOk, IfErr, OnOk, OnErr};
+ghost use Rattle.std.specs.List.{AllByRecursion};
+ghost use Rattle.cfn_core.specs.World.{opening};
+ghost use Rattle.cfn_core.specs.Actions.{Acts, Runs, Reply as Answer};
+ghost use Rattle.cfn_core.specs.Laws.{Always, AreKept, AreOut, IsKept, IsNoRecall};
+ghost use Rattle.cfn_core.specs.Machine.{IsOf, IsReplyOf, action_of, reply_of, world_of};
+
+use crate::action::{Action, Reply};
+use crate::node::{End, Node};
+use crate::seat::{Seat, new_seats};
+use crate::task::Task;
+use cfn_net::{Network, Scored};
+use cfn_proof::{Block, Path};
+use std::alloc::{AllocError, Global};
+use std::marker::Model;
+
+/// The pool with its tree, the word, a view of it for each worker, notes of what was seen, and the tasks in hand.
+///
+/// Contracts see the world of the definitions, for the network that it is of. In every world the pool is sound, the word
+/// keeps its rule, and the task of each leaf that is out is in hand.
+#[derive(Drop)]
+pub struct World<'n> {
+    pub(crate) network: &'n Network,
+    pub(crate) nodes: Vec<Node>,
+    /// The number of the next open leaf.
+    pub(crate) next: u64,
+    pub(crate) budget: u64,
+    /// How many nodes were made.
+    pub(crate) spent: u64,
+    /// The pool's own view of the word.
+    pub(crate) best: Scored,
+    pub(crate) seen: u64,
+    pub(crate) shares: u32,
+    pub(crate) word: u64,
+    /// The views of the workers, the main thread's last.
+    pub(crate) seats: Vec<Seat>,
+    /// What each note has seen, where it is not heeded yet.
+    pub(crate) notes: Vec<Option<u64>>,
+    /// The tasks in hand, the newest first.
+    pub(crate) hands: Vec<Task>,
+}
+
+/// Want of memory in a list of actions: only the first `done` were done.
+#[derive(Clone, Copy, Debug, PartialEq, Eq)]
+pub struct RunMemory {
+    pub done: u64,
+}
+
+impl<'n> Model for World<'n> {
+    ghost use Rattle.std.specs.Prelude.{map};
+    ghost use Rattle.cfn_core.specs.Machine.{Machine, IsInside, found_of, seat_of};
+
+    ghost Value = { Machine };
+
+    ghost view = { λ w. record {
+      network = w.network.now;
+      nodes = w.nodes.items;
+      next = w.next;
+      budget = w.budget;
+      spent = w.spent;
+      view = record { best = found_of w.best.held; seen = w.seen; shares = w.shares };
+      word = w.word;
+      views = map seat_of w.seats.items;
+      notes = w.notes.items;
+      hands = map (λ t. t.task) w.hands.items;
+    } };
+
+    ghost invariant = { λ w. IsInside (record {
+      network = w.network.now;
+      nodes = w.nodes.items;
+      next = w.next;
+      budget = w.budget;
+      spent = w.spent;
+      view = record { best = found_of w.best.held; seen = w.seen; shares = w.shares };
+      word = w.word;
+      views = map seat_of w.seats.items;
+      notes = w.notes.items;
+      hands = map (λ t. t.task) w.hands.items;
+    }) w.best w.seats.items };
+}
+
+impl<'n> World<'n> {
+    /// The opening for the workers from 0 to `workers` - 1, of which there are 1 to 64, and the main thread as one more:
+    /// one free leaf, and nothing found. The budget of nodes is at most 9,223,372,036,854,775,807. An `Err` is want of
+    /// memory.
+    pub fn start(
+        alloc: Global,
+        network: &'n Network,
+        workers: u32,
+        budget: u64,
+    ) -> Result<World<'n>, AllocError>
+        requires some { 1 ≤ workers }
+        requires few { workers ≤ 64 }
+        requires budget { budget < 2 ^ 63 }
+        ensures network { IfOk result (λ world. world.network ≡ network.now) }
+        ensures world { IfOk result (λ world. world_of world ≡ opening network.now workers budget) }
+        ensures out { IfOk result (λ world. AreOut (world_of world)) }
+    {
+        network.limits();
+        let end = End::FreeLeaf { number: 0 };
+        let root = Node::at(network, Path::new(alloc), Block::new(alloc), end);
+        let mut nodes = Vec::new(alloc);
+        nodes.push(root)?;
+        Ok(World {
+            network,
+            nodes,
+            next: 1,
+            budget,
+            spent: 0,
+            best: Scored::empty(alloc, network)?,
+            seen: network.ub(),
+            shares: 127 - workers,
+            word: network.ub(),
+            seats: new_seats(alloc, network, workers + 1)?,
+            notes: Vec::new(alloc),
+            hands: Vec::new(alloc),
+        })
+    }
+
+    /// Nothing: its contract tells a caller what holds in every world. The pool is sound, every assignment is covered, the
+    /// word keeps its rule, the tree is valid at the word, and the task of each leaf that is out is in hand.
+    pub fn kept(&self)
+        ensures { Always self.now.network (world_of self.now) }
+    {
+        let _ = &self.word;
+    }
+
+    /// Does one action, and answers it. What the action brings is of the world's network. An `Err`, want of memory, leaves
+    /// the world as it was.
+    pub fn step(&mut self, action: &Action) -> Result<Reply, AllocError>
+        requires { IsOf self.old.network action.now }
+        ensures network { self.new.network ≡ self.old.network }
+        ensures acts { IfOk result (λ reply. Acts self.old.network (world_of self.old) (action_of action.now) (reply_of reply) (world_of self.new)) }
+        ensures of { IfOk result (IsReplyOf self.old.network) }
+        ensures err { OnErr result (self.new ≡ self.old) }
+        ensures always { Always self.new.network (world_of self.new) }
+        ensures never_gone { IfOk result (λ reply. AreOut (world_of self.old) → IsKept (world_of self.old) (action_of action.now) (reply_of reply)) }
+        ensures stays_out { OnOk result (AreOut (world_of self.old) → IsNoRecall (action_of action.now) → AreOut (world_of self.new)) }
+    {
+        let reply = self.act(action);
+        self.kept();
+        reply
+    }
+
+    /// Does actions one after another, and answers each. What they bring is of the world's network. After an `Err`, want of
+    /// memory, the world is that after the first `done` of them.
+    pub fn run(&mut self, actions: &[Action]) -> Result<Vec<Reply>, RunMemory>
+        requires { All (IsOf self.old.network) actions.now }
+        ensures network { self.new.network ≡ self.old.network }
+        ensures runs { IfOk result (λ replies. Runs self.old.network (world_of self.old) (map action_of actions.now) (map reply_of replies.items) (world_of self.new)) }
+        ensures of { IfOk result (λ replies. AllByRecursion (IsReplyOf self.old.network) replies.items) }
+        ensures memory { IfErr result (λ memory. (memory.done < length actions.now)
+            × ((replies : List Answer) × Runs self.old.network (world_of self.old) (map action_of (take memory.done actions.now)) replies (world_of self.new))) }
+        ensures always { Always self.new.network (world_of self.new) }
+        ensures never_gone { IfOk result (λ replies. AreOut (world_of self.old) → AllByRecursion IsNoRecall (map action_of actions.now)
+            → AreKept self.old.network (world_of self.old) (map action_of actions.now) (map reply_of replies.items)) }
+        ensures stays_out { OnOk result (AreOut (world_of self.old) → AllByRecursion IsNoRecall (map action_of actions.now) → AreOut (world_of self.new)) }
+    {
+        self.kept();
+        let mut replies = Vec::new(self.alloc());
+        if replies.reserve(actions.len()).is_err() {
+            return Err(RunMemory { done: 0 });
+        }
+        for (done, action) in actions.iter().enumerate() {
+            match self.step(action) {
+                Ok(reply) => replies.push_reserved(reply),
+                Err(_) => return Err(RunMemory { done: done as u64 }),
+            }
+        }
+        Ok(replies)
+    }
+
+    /// The allocator that the world was made with.
+    fn alloc(&self) -> Global {
+        *self.nodes.allocator()
+    }
+
+    /// Does one action, each by the call that is its own.
+    fn act(&mut self, action: &Action) -> Result<Reply, AllocError>
+        requires { IsOf self.old.network action.now }
+        ensures network { self.new.network ≡ self.old.network }
+        ensures acts { IfOk result (λ reply. Acts self.old.network (world_of self.old) (action_of action.now) (reply_of reply) (world_of self.new)) }
+        ensures of { IfOk result (IsReplyOf self.old.network) }
+        ensures err { OnErr result (self.new ≡ self.old) }
+    {
+        match action {
+            Action::Look { worker } => Ok(self.look(*worker)),
+            Action::Lower { worker, found } => Ok(self.lower(*worker, found)),
+            Action::Note { worker } => self.note(*worker),
+            Action::Meet { worker } => Ok(self.meet(*worker)),
+            Action::Take { worker, want } => self.take(*worker, *want),
+            Action::Give { piece, note } => self.give(piece, *note),
+            Action::Back { task } => Ok(self.back(task)),
+            Action::Recall => Ok(self.call_back()),
+            Action::Sweep => Ok(self.close_free()),
+        }
+    }
+}

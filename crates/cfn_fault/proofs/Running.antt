@@ -1,0 +1,318 @@
+-- The lines of a certificate run from its begin to its end; and lines that run so are those of a certificate.
+use Rattle.std.proofs.Common.{◌≡◌, ℕ, ◌≤◌, List, [], ◌∷◌, ◌++◌, map, refl, sym, ap, ◌∙◌, subst, append_assoc, lit<, lit≤}
+use Rattle.std.specs.Prelude.{Option, Some, None}
+use Rattle.std.specs.List.{AllByRecursion}
+use Rattle.cfn_model.specs.declared.step.Step.{Step}
+use Rattle.cfn_model.specs.declared.step.Event.{Event}
+use Rattle.cfn_model.specs.declared.step.Event.TheVariants.{Did, Is, IsNot}
+use Rattle.cfn_model.specs.Steps.{after}
+use Rattle.cfn_model.specs.Tree.{Tree, Open, Closed, Split}
+use Rattle.cfn_model.specs.Certificate.{Solution, Certificate}
+use Rattle.cfn_model.specs.Text.{IsSpelledStep, IsSpelledTree, IsSpelledBest, IsSpelled}
+use Rattle.cfn_fault.specs.Fault.{Item, Makes, LeavesOpen, Closes, Splits}
+use Rattle.cfn_fault.specs.Lines.{Line, Version, Numbers, Lower, NoBest, Best, Values, Root, Node, End, IsSpelledLine, lines_of_tree, lines_of_best, lines_of, State, AtVersion, AtNumbers, AtLower, AtBest, AtValues, AtRoot, AtNodes, AtOver, paths_after, Follows, VersionFollows, NumbersFollow, LowerFollows, NoBestFollows, BestFollows, ValuesFollow, RootFollows, NodeFollows, EndFollows, Runs}
+
+pub same_follow : (s : State) (l : Line) (t u : State) → Follows s l t → Follows s l u → t ≡ u
+same_follow s l t u VersionFollows VersionFollows = refl
+same_follow s l t u NumbersFollow NumbersFollow = refl
+same_follow s l t u LowerFollows LowerFollows = refl
+same_follow s l t u NoBestFollows NoBestFollows = refl
+same_follow s l t u BestFollows BestFollows = refl
+same_follow s l t u ValuesFollow ValuesFollow = refl
+same_follow s l t u RootFollows RootFollows = refl
+same_follow s l t u NodeFollows NodeFollows = refl
+same_follow s l t u EndFollows EndFollows = refl
+
+-- where a run ends is said by its lines
+pub same_end : (s t u : State) (ls : List Line) → Runs s ls t → Runs s ls u → t ≡ u
+same_end s t u [] a b = sym a ∙ b
+same_end s t u (l ∷ ls) a b =
+    let P : State → Type 0 = λ m. Runs m ls u in
+    same_end a.0 t u ls a.2 (subst P (same_follow s l b.0 a.0 b.1 a.1) b.2)
+
+pub run_append : (s t u : State) (a b : List Line) → Runs s a t → Runs t b u → Runs s (a ++ b) u
+run_append s t u [] b first second = let P : State → Type 0 = λ m. Runs m b u in subst P (sym first) second
+run_append s t u (l ∷ a) b first second = (first.0, first.1, run_append first.0 t u a b first.2 second)
+
+pub run_split : (s u : State) (a b : List Line) → Runs s (a ++ b) u → (t : State) × Runs s a t × Runs t b u
+run_split s u [] b run = (s, refl, run)
+run_split s u (l ∷ a) b run = let rest = run_split run.0 u a b run.2 in (rest.0, (run.0, run.1, rest.1), rest.2)
+
+pub run_one : (s t : State) (l : Line) → Follows s l t → Runs s (l ∷ []) t
+run_one s t l follows = (t, follows, refl)
+
+pub run_one_more : (s t u : State) (ls : List Line) (l : Line) → Runs s ls t → Follows t l u → Runs s (ls ++ l ∷ []) u
+run_one_more s t u ls l run follows = run_append s t u ls (l ∷ []) run (run_one t u l follows)
+
+-- the lines of a tree lead from its path to what is due behind it
+runs_block : (history : List Event) (paths : List (List Event)) (block : List Step) → Runs (AtNodes (history ∷ paths)) (map (λ step. Node (Makes step)) block) (AtNodes (after block history ∷ paths))
+runs_block history paths [] = refl
+runs_block history paths (step ∷ block) = (AtNodes ((Did step ∷ history) ∷ paths), NodeFollows, runs_block (Did step ∷ history) paths block)
+
+pub runs_tree : (history : List Event) (paths : List (List Event)) (tree : Tree) → Runs (AtNodes (history ∷ paths)) (lines_of_tree tree) (AtNodes paths)
+runs_tree history paths (Open block) = run_append _ _ _ _ _ (runs_block history paths block) (AtNodes paths, NodeFollows, refl)
+runs_tree history paths (Closed block) = run_append _ _ _ _ _ (runs_block history paths block) (AtNodes paths, NodeFollows, refl)
+runs_tree history paths (Split block x a first second) =
+    run_append (AtNodes (history ∷ paths)) (AtNodes (after block history ∷ paths)) (AtNodes paths) _ (Node (Splits x a) ∷ (lines_of_tree first ++ lines_of_tree second)) (runs_block history paths block) (
+      AtNodes ((Is x a ∷ after block history) ∷ (IsNot x a ∷ after block history) ∷ paths),
+      NodeFollows,
+      run_append _ _ _ _ _ (runs_tree (Is x a ∷ after block history) ((IsNot x a ∷ after block history) ∷ paths) first) (runs_tree (IsNot x a ∷ after block history) paths second),
+    )
+
+abbrev head_of : Certificate → List Line
+head_of c = Version ∷ Numbers c.variables c.functions c.upper ∷ Lower c.lower ∷ lines_of_best c.best
+
+runs_best : (best : Option Solution) → Runs AtBest (lines_of_best best) AtRoot
+runs_best None = (AtRoot, NoBestFollows, refl)
+runs_best (Some best) = (AtValues, BestFollows, (AtRoot, ValuesFollow, refl))
+
+runs_nodes : (tree : Tree) → Runs AtRoot (Root ∷ (lines_of_tree tree ++ End ∷ [])) AtOver
+runs_nodes tree = (AtNodes ([] ∷ []), RootFollows, run_append _ _ _ _ _ (runs_tree [] [] tree) (AtOver, EndFollows, refl))
+
+pub runs_certificate : (c : Certificate) → Runs AtVersion (lines_of c) AtOver
+runs_certificate c =
+    run_append _ _ _ (head_of c) (Root ∷ (lines_of_tree c.tree ++ End ∷ [])) (AtNumbers, VersionFollows, (AtLower, NumbersFollow, (AtBest, LowerFollows, runs_best c.best))) (runs_nodes c.tree)
+
+-- its lines are spelled where it is
+pub spelled_append : (a b : List Line) → AllByRecursion IsSpelledLine a → AllByRecursion IsSpelledLine b → AllByRecursion IsSpelledLine (a ++ b)
+spelled_append [] b first second = second
+spelled_append (l ∷ a) b first second = (first.0, spelled_append a b first.1 second)
+
+pub spelled_front : (a b : List Line) → AllByRecursion IsSpelledLine (a ++ b) → AllByRecursion IsSpelledLine a
+spelled_front [] b all = tt
+spelled_front (l ∷ a) b all = (all.0, spelled_front a b all.1)
+
+pub spelled_back : (a b : List Line) → AllByRecursion IsSpelledLine (a ++ b) → AllByRecursion IsSpelledLine b
+spelled_back [] b all = all
+spelled_back (l ∷ a) b all = spelled_back a b all.1
+
+spelled_block : (block : List Step) → AllByRecursion IsSpelledStep block → AllByRecursion IsSpelledLine (map (λ step. Node (Makes step)) block)
+spelled_block [] all = tt
+spelled_block (step ∷ block) all = (all.0, spelled_block block all.1)
+
+spelled_tree : (tree : Tree) → IsSpelledTree tree → AllByRecursion IsSpelledLine (lines_of_tree tree)
+spelled_tree (Open block) all = spelled_append _ (Node LeavesOpen ∷ []) (spelled_block block all) (tt, tt)
+spelled_tree (Closed block) all = spelled_append _ (Node Closes ∷ []) (spelled_block block all) (tt, tt)
+spelled_tree (Split block x a first second) all =
+    spelled_append _ (Node (Splits x a) ∷ (lines_of_tree first ++ lines_of_tree second)) (spelled_block block all.0) ((all.1, all.2), spelled_append _ _ (spelled_tree first all.3) (spelled_tree second all.4))
+
+spelled_best : (best : Option Solution) → IsSpelledBest best → AllByRecursion IsSpelledLine (lines_of_best best)
+spelled_best None all = (tt, tt)
+spelled_best (Some best) all = (all.0, ((all.1, all.2), tt))
+
+pub spelled_lines : (c : Certificate) → IsSpelled c → AllByRecursion IsSpelledLine (lines_of c)
+spelled_lines c all =
+    spelled_append (head_of c) (Root ∷ (lines_of_tree c.tree ++ End ∷ [])) (tt, ((all.variables, all.functions, all.upper), (all.lower, spelled_best c.best all.best)))
+    (tt, spelled_append _ (End ∷ []) (spelled_tree c.tree all.tree) (tt, tt))
+
+-- lines that end the text from any state
+leaves_open : List (List Event) → List Line
+leaves_open [] = End ∷ []
+leaves_open (path ∷ paths) = Node LeavesOpen ∷ leaves_open paths
+
+completes_nodes : (paths : List (List Event)) → Runs (AtNodes paths) (leaves_open paths) AtOver
+unfolding leaves_open
+completes_nodes [] = (AtOver, EndFollows, refl)
+completes_nodes (path ∷ paths) = (AtNodes paths, NodeFollows, completes_nodes paths)
+
+spelled_leaves : (paths : List (List Event)) → AllByRecursion IsSpelledLine (leaves_open paths)
+unfolding leaves_open
+spelled_leaves [] = (tt, tt)
+spelled_leaves (path ∷ paths) = (tt, spelled_leaves paths)
+
+record Completes (s : State) : Type 0 where
+  rest : List Line
+  run : Runs s rest AtOver
+  spelled : AllByRecursion IsSpelledLine rest
+
+before : (s t : State) (l : Line) → Follows s l t → IsSpelledLine l → Completes t → Completes s
+before s t l follows spelled completes = record { rest = l ∷ completes.rest; run = (t, follows, completes.run); spelled = (spelled, completes.spelled) }
+
+completes_paths : (paths : List (List Event)) → Completes (AtNodes paths)
+completes_paths paths = record { rest = leaves_open paths; run = completes_nodes paths; spelled = spelled_leaves paths }
+
+completes_root : Completes AtRoot
+completes_root = before AtRoot (AtNodes ([] ∷ [])) Root RootFollows tt (completes_paths ([] ∷ []))
+
+completes_best : Completes AtBest
+completes_best = before AtBest AtRoot NoBest NoBestFollows tt completes_root
+
+completes_lower : Completes AtLower
+completes_lower = before AtLower AtBest (Lower 0) LowerFollows (lit≤ tt) completes_best
+
+completes_numbers : Completes AtNumbers
+completes_numbers = before AtNumbers AtLower (Numbers 0 0 0) NumbersFollow (lit≤ tt, lit≤ tt, lit≤ tt) completes_lower
+
+completes : (s : State) → Completes s
+completes AtVersion = before AtVersion AtNumbers Version VersionFollows tt completes_numbers
+completes AtNumbers = completes_numbers
+completes AtLower = completes_lower
+completes AtBest = completes_best
+completes AtValues = before AtValues AtRoot (Values (0 ∷ [])) ValuesFollow (lit< tt, (lit≤ tt, tt)) completes_root
+completes AtRoot = completes_root
+completes (AtNodes paths) = completes_paths paths
+completes AtOver = record { rest = []; run = refl; spelled = tt }
+
+-- a tree with one more step before it
+with_step : Step → Tree → Tree
+with_step step (Open block) = Open (step ∷ block)
+with_step step (Closed block) = Closed (step ∷ block)
+with_step step (Split block x a first second) = Split (step ∷ block) x a first second
+
+lines_with_step : (step : Step) (tree : Tree) → lines_of_tree (with_step step tree) ≡ Node (Makes step) ∷ lines_of_tree tree
+unfolding with_step
+lines_with_step step (Open block) = refl
+lines_with_step step (Closed block) = refl
+lines_with_step step (Split block x a first second) = refl
+
+-- trees for the paths that are due, whose lines are these
+data Forest : List (List Event) → List Line → Type 0 where
+  NoTree : Forest [] (End ∷ [])
+  MoreTrees : {path : List Event} {paths : List (List Event)} {lines : List Line} (tree : Tree) (rest : List Line) → IsSpelledTree tree → lines ≡ lines_of_tree tree ++ rest → Forest paths rest → Forest (path ∷ paths) lines
+
+nothing_follows : (l : Line) (m : State) → Follows AtOver l m → ⊥
+nothing_follows l m follows = elim follows [ ]
+
+pub nothing_over : (ls : List Line) (s : State) → Runs AtOver ls s → ls ≡ []
+nothing_over [] s run = refl
+nothing_over (l ∷ ls) s run = absurd (nothing_follows l run.0 run.1)
+
+spelled_with_step : (step : Step) (tree : Tree) → IsSpelledStep step → IsSpelledTree tree → IsSpelledTree (with_step step tree)
+unfolding with_step
+spelled_with_step step (Open block) first all = (first, all)
+spelled_with_step step (Closed block) first all = (first, all)
+spelled_with_step step (Split block x a first second) one all = ((one, all.0), all.1, all.2, all.3, all.4)
+
+step_forest : (path : List Event) (history : List Event) (paths : List (List Event)) (step : Step) (ls : List Line) → IsSpelledStep step → Forest (path ∷ paths) ls → Forest (history ∷ paths) (Node (Makes step) ∷ ls)
+step_forest path history paths step ls one (MoreTrees tree rest all same forest) =
+    MoreTrees (with_step step tree) rest (spelled_with_step step tree one all) (ap (λ x. Node (Makes step) ∷ x) same ∙ ap (λ x. x ++ rest) (sym (lines_with_step step tree))) forest
+
+split_forest : (p q history : List Event) (paths : List (List Event)) (x a : ℕ) (ls : List Line) → IsSpelledLine (Node (Splits x a)) → Forest (p ∷ q ∷ paths) ls → Forest (history ∷ paths) (Node (Splits x a) ∷ ls)
+split_forest p q history paths x a ls one (MoreTrees first rest all same (MoreTrees second behind others its forest)) =
+    MoreTrees (Split [] x a first second) behind (tt, one.0, one.1, all, others) (ap (λ x'. Node (Splits x a) ∷ x') (same ∙ ap (λ r. lines_of_tree first ++ r) its ∙ sym (append_assoc (lines_of_tree first) (lines_of_tree second) behind))) forest
+
+node_forest : (history : List Event) (paths : List (List Event)) (item : Item) (ls : List Line) → IsSpelledLine (Node item) → Forest (paths_after history item ++ paths) ls → Forest (history ∷ paths) (Node item ∷ ls)
+node_forest history paths (Makes step) ls one forest = step_forest (Did step ∷ history) history paths step ls one forest
+node_forest history paths LeavesOpen ls one forest = MoreTrees (Open []) ls tt refl forest
+node_forest history paths Closes ls one forest = MoreTrees (Closed []) ls tt refl forest
+node_forest history paths (Splits x a) ls one forest = split_forest (Is x a ∷ history) (IsNot x a ∷ history) history paths x a ls one forest
+
+-- what a run leaves behind its first line, by the state that it comes from
+end_forest : (ls : List Line) → Runs AtOver ls AtOver → Forest [] (End ∷ ls)
+end_forest ls run = let P : List Line → Type 0 = λ x. Forest [] (End ∷ x) in subst P (sym (nothing_over ls AtOver run)) NoTree
+
+not_over : (paths : List (List Event)) → AtNodes paths ≡ AtOver → ⊥
+not_over paths e = absurd cc
+
+forest_by : (ls : List Line) (paths : List (List Event)) (l : Line) (m : State) → Follows (AtNodes paths) l m → Runs m ls AtOver → IsSpelledLine l
+    → ((more : List (List Event)) → Runs (AtNodes more) ls AtOver → Forest more ls) → Forest paths (l ∷ ls)
+forest_by ls queue l m (NodeFollows {history = history} {paths = paths} {item = item}) run one recur = node_forest history paths item ls one (recur (paths_after history item ++ paths) run)
+forest_by ls queue l m EndFollows run one recur = end_forest ls run
+
+forest : (ls : List Line) (paths : List (List Event)) → Runs (AtNodes paths) ls AtOver → AllByRecursion IsSpelledLine ls → Forest paths ls
+forest [] paths run spelled = absurd (not_over paths run)
+forest (l ∷ ls) paths run spelled = forest_by ls paths l run.0 run.1 run.2 spelled.0 (λ more rest. forest ls more rest spelled.1)
+
+one_tree : (path : List Event) (ls : List Line) → Forest (path ∷ []) ls → (tree : Tree) × IsSpelledTree tree × (ls ≡ lines_of_tree tree ++ End ∷ [])
+one_tree path ls (MoreTrees tree rest all same NoTree) = (tree, all, same)
+
+-- lines that run to the end are those of one certificate
+pub record Told (ls : List Line) : Type 0 where
+  pub certificate : Certificate
+  pub spelled : IsSpelled certificate
+  pub lines : ls ≡ lines_of certificate
+
+abbrev nodes_of : Tree → List Line
+nodes_of tree = Root ∷ (lines_of_tree tree ++ End ∷ [])
+
+FromRoot : List Line → Type 0
+FromRoot ls = (tree : Tree) × IsSpelledTree tree × (ls ≡ nodes_of tree)
+
+FromBest : List Line → Type 0
+FromBest ls = (best : Option Solution) × (tree : Tree) × IsSpelledBest best × IsSpelledTree tree × (ls ≡ lines_of_best best ++ nodes_of tree)
+
+root_by : (l : Line) (m : State) (ls : List Line) → Follows AtRoot l m → Runs m ls AtOver → AllByRecursion IsSpelledLine ls → FromRoot (l ∷ ls)
+unfolding FromRoot
+root_by l m ls RootFollows run spelled = let tree = one_tree [] ls (forest ls ([] ∷ []) run spelled) in (tree.0, tree.1, ap (λ x. Root ∷ x) tree.2)
+
+root_not_over : AtRoot ≡ AtOver → ⊥
+root_not_over e = absurd cc
+
+from_root : (ls : List Line) → Runs AtRoot ls AtOver → AllByRecursion IsSpelledLine ls → FromRoot ls
+from_root [] run spelled = absurd (root_not_over run)
+from_root (l ∷ ls) run spelled = root_by l run.0 ls run.1 run.2 spelled.1
+
+values_by : (cost : ℕ) (l : Line) (m : State) (ls : List Line) → cost ≤ 9223372036854775807 → Follows AtValues l m → Runs m ls AtOver → IsSpelledLine l → AllByRecursion IsSpelledLine ls → FromBest (Best cost ∷ l ∷ ls)
+unfolding FromBest FromRoot
+values_by cost l m ls one (ValuesFollow {values = values}) run two spelled =
+    let root = from_root ls run spelled in
+    (Some (record { cost = cost; values = values }), root.0, (one, two.0, two.1), root.1, ap (λ x. Best cost ∷ Values values ∷ x) root.2)
+
+values_not_over : AtValues ≡ AtOver → ⊥
+values_not_over e = absurd cc
+
+from_values : (cost : ℕ) (ls : List Line) → cost ≤ 9223372036854775807 → Runs AtValues ls AtOver → AllByRecursion IsSpelledLine ls → FromBest (Best cost ∷ ls)
+from_values cost [] one run spelled = absurd (values_not_over run)
+from_values cost (l ∷ ls) one run spelled = values_by cost l run.0 ls one run.1 run.2 spelled.0 spelled.1
+
+best_by : (l : Line) (m : State) (ls : List Line) → Follows AtBest l m → Runs m ls AtOver → IsSpelledLine l → AllByRecursion IsSpelledLine ls → FromBest (l ∷ ls)
+unfolding FromBest FromRoot
+best_by l m ls NoBestFollows run one spelled = let root = from_root ls run spelled in (None, root.0, tt, root.1, ap (λ x. NoBest ∷ x) root.2)
+best_by l m ls (BestFollows {cost = cost}) run one spelled = from_values cost ls one run spelled
+
+best_not_over : AtBest ≡ AtOver → ⊥
+best_not_over e = absurd cc
+
+from_best : (ls : List Line) → Runs AtBest ls AtOver → AllByRecursion IsSpelledLine ls → FromBest ls
+from_best [] run spelled = absurd (best_not_over run)
+from_best (l ∷ ls) run spelled = best_by l run.0 ls run.1 run.2 spelled.0 spelled.1
+
+lower_by : (n e upper : ℕ) (l : Line) (m : State) (ls : List Line) → IsSpelledLine (Numbers n e upper) → Follows AtLower l m → Runs m ls AtOver → IsSpelledLine l → AllByRecursion IsSpelledLine ls → Told (Version ∷ Numbers n e upper ∷ l ∷ ls)
+unfolding FromBest
+lower_by n e upper l m ls one (LowerFollows {lower = lower}) run two spelled =
+    let rest = from_best ls run spelled in
+    record {
+      certificate = record { variables = n; functions = e; upper = upper; best = rest.0; lower = lower; tree = rest.1 };
+      spelled = record { variables = one.0; functions = one.1; upper = one.2; best = rest.2; lower = two; tree = rest.3 };
+      lines = ap (λ x. Version ∷ Numbers n e upper ∷ Lower lower ∷ x) rest.4;
+    }
+
+lower_not_over : AtLower ≡ AtOver → ⊥
+lower_not_over e = absurd cc
+
+from_lower : (n e upper : ℕ) (ls : List Line) → IsSpelledLine (Numbers n e upper) → Runs AtLower ls AtOver → AllByRecursion IsSpelledLine ls → Told (Version ∷ Numbers n e upper ∷ ls)
+from_lower n e upper [] one run spelled = absurd (lower_not_over run)
+from_lower n e upper (l ∷ ls) one run spelled = lower_by n e upper l run.0 ls one run.1 run.2 spelled.0 spelled.1
+
+numbers_by : (l : Line) (m : State) (ls : List Line) → Follows AtNumbers l m → Runs m ls AtOver → IsSpelledLine l → AllByRecursion IsSpelledLine ls → Told (Version ∷ l ∷ ls)
+numbers_by l m ls (NumbersFollow {n = n} {e = e} {upper = upper}) run one spelled = from_lower n e upper ls one run spelled
+
+numbers_not_over : AtNumbers ≡ AtOver → ⊥
+numbers_not_over e = absurd cc
+
+from_numbers : (ls : List Line) → Runs AtNumbers ls AtOver → AllByRecursion IsSpelledLine ls → Told (Version ∷ ls)
+from_numbers [] run spelled = absurd (numbers_not_over run)
+from_numbers (l ∷ ls) run spelled = numbers_by l run.0 ls run.1 run.2 spelled.0 spelled.1
+
+version_by : (l : Line) (m : State) (ls : List Line) → Follows AtVersion l m → Runs m ls AtOver → AllByRecursion IsSpelledLine ls → Told (l ∷ ls)
+version_by l m ls VersionFollows run spelled = from_numbers ls run spelled
+
+version_not_over : AtVersion ≡ AtOver → ⊥
+version_not_over e = absurd cc
+
+pub told : (ls : List Line) → Runs AtVersion ls AtOver → AllByRecursion IsSpelledLine ls → Told ls
+told [] run spelled = absurd (version_not_over run)
+told (l ∷ ls) run spelled = version_by l run.0 ls run.1 run.2 spelled.1
+
+-- lines that run to any state begin those of a certificate
+pub record Begun (ls : List Line) : Type 0 where
+  pub certificate : Certificate
+  pub spelled : IsSpelled certificate
+  pub rest : List Line
+  pub lines : lines_of certificate ≡ ls ++ rest
+
+pub begun : (ls : List Line) (s : State) → Runs AtVersion ls s → AllByRecursion IsSpelledLine ls → Begun ls
+begun ls s run spelled =
+    let more : Completes s = completes s in
+    let whole = told (ls ++ more.rest) (run_append AtVersion s AtOver ls more.rest run more.run) (spelled_append ls more.rest spelled more.spelled) in
+    record { certificate = whole.certificate; spelled = whole.spelled; rest = more.rest; lines = sym whole.lines }

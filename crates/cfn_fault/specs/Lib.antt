@@ -1,0 +1,5 @@
+pub mod Fault
+pub mod Lines
+pub mod Decoding
+pub mod Judging
+pub mod Laws
