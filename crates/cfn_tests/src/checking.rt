@@ -21,28 +21,36 @@ const GOOD: [&str; 10] = [
     "closed",
 ];
 
-/// The status of `check in cert`, and what is said, where these are the bytes of the two files.
-fn judge(
+/// Whether `check in cert` ends with this status and says this, where these are the bytes of the two files.
+fn answers(
     rt: &HostRuntime,
     file: &[u8],
     certificate: &[u8],
-) -> Result<(u8, MemoryDesk), AllocError> {
+    status: u8,
+    said: &[u8],
+) -> Result<bool, AllocError> {
     let files: [(&str, &[u8]); 2] = [("in", file), ("cert", certificate)];
     let mut desk = MemoryDesk::make(rt.alloc(), &files, 0, 400, &[])?;
     let words = ["wcspsolve", "check", "in", "cert"];
-    let status = run(rt, rt.alloc(), &words, &mut desk, &OpenGate);
-    Ok((status, desk))
+    let ended = run(rt, rt.alloc(), &words, &mut desk, &OpenGate);
+    Ok(ended == status && desk.said_bytes() == said)
 }
 
 /// Lines, each with its end, and `end` behind them.
 fn text_of(alloc: Global, lines: &[&str]) -> Result<Vec<u8>, AllocError> {
     let mut text = Vec::new(alloc);
     for line in lines {
-        text.extend_from_slice(line.as_bytes())?;
-        text.push(b'\n')?;
+        add_line(&mut text, line)?;
     }
-    text.extend_from_slice(b"end\n")?;
+    add_line(&mut text, "end")?;
     Ok(text)
+}
+
+/// Adds a line with its end.
+fn add_line(text: &mut Vec<u8>, line: &str) -> Result<(), AllocError> {
+    text.extend_from_slice(line.as_bytes())?;
+    text.push(b'\n')?;
+    Ok(())
 }
 
 /// The good certificate with other lines in the place of those from `from` on, `taken` of them.
@@ -52,11 +60,19 @@ fn changed(
     taken: usize,
     lines: &[&str],
 ) -> Result<Vec<u8>, AllocError> {
-    let mut all: Vec<&str> = Vec::new(alloc);
-    all.extend_from_slice(&GOOD[..from - 1])?;
-    all.extend_from_slice(lines)?;
-    all.extend_from_slice(&GOOD[from - 1 + taken..])?;
-    text_of(alloc, all.as_slice())
+    let front = from.saturating_sub(1);
+    let mut text = Vec::new(alloc);
+    for line in GOOD.iter().take(front) {
+        add_line(&mut text, line)?;
+    }
+    for line in lines {
+        add_line(&mut text, line)?;
+    }
+    for line in GOOD.iter().skip(front.saturating_add(taken)) {
+        add_line(&mut text, line)?;
+    }
+    add_line(&mut text, "end")?;
+    Ok(text)
 }
 
 /// One line or some of a good certificate changed: the line from which on, how many lines are left out there, the lines
@@ -115,42 +131,60 @@ const CHANGES: [(usize, usize, &[&str], &[u8]); 31] = [
     (3, 1, &["lower 2"], b"refused lower at 3\n"),
 ];
 
+/// Whether a certificate of `TINY`, the good one changed at a line, is answered so.
+fn changed_answers(
+    rt: &HostRuntime,
+    from: usize,
+    taken: usize,
+    lines: &[&str],
+    said: &[u8],
+) -> Result<bool, AllocError> {
+    let certificate = changed(rt.alloc(), from, taken, lines)?;
+    let status = if said.starts_with(b"verified") { 0 } else { 7 };
+    answers(rt, TINY, certificate.as_slice(), status, said)
+}
+
 #[test]
 fn changed_lines_are_named(rt: HostRuntime) -> Result<(), Fail> {
     for (from, taken, lines, said) in CHANGES {
-        let certificate = changed(rt.alloc(), from, taken, lines)?;
-        let (status, desk) = judge(&rt, TINY, certificate.as_slice())?;
-        assert_eq!(rt; desk.said_bytes(), said, "at {from}");
-        let good = said.starts_with(b"verified");
-        assert_eq!(rt; status, if good { 0 } else { 7 });
+        assert!(rt;
+            changed_answers(&rt, from, taken, lines, said)?,
+            "at {from}"
+        );
     }
     Ok(())
 }
 
-/// A cut stands for the subtree below it alone, and an open leaf bounds the lower bound by its floor.
+/// An open leaf bounds the lower bound by its floor, and a cut or a lift stands for the subtree below it alone.
+const SUBTREES: [(&[&str], &[u8]); 4] = [
+    (&["open"], b"refused lower at 3\n"),
+    (
+        &["p 0 0 0 3", "p 0 0 1 1", "u 0 1", "open"],
+        b"verified lower 1 best 1\n",
+    ),
+    (
+        &["split 0 1", "p 0 0 1 1", "u 0 1", "closed", "closed"],
+        b"refused close at 11\n",
+    ),
+    (
+        &[
+            "split 0 1",
+            "p 0 0 1 1",
+            "u 0 1",
+            "closed",
+            "p 0 0 0 3",
+            "u 0 3",
+            "closed",
+        ],
+        b"verified lower 1 best 1\n",
+    ),
+];
+
 #[test]
 fn open_leaves_and_subtrees(rt: HostRuntime) -> Result<(), Fail> {
-    let alloc = rt.alloc();
-    let open = changed(alloc, 10, 1, &["open"])?;
-    assert_eq!(rt;
-        judge(&rt, TINY, open.as_slice())?.1.said_bytes(),
-        b"verified lower 1 best 1\n".as_slice()
-    );
-    let early = changed(alloc, 7, 4, &["open"])?;
-    assert_eq!(rt;
-        judge(&rt, TINY, early.as_slice())?.1.said_bytes(),
-        b"refused lower at 3\n".as_slice()
-    );
-    let leaking = changed(
-        alloc,
-        7,
-        4,
-        &["split 0 1", "p 0 0 1 1", "u 0 1", "closed", "closed"],
-    )?;
-    assert_eq!(rt;
-        judge(&rt, TINY, leaking.as_slice())?.1.said_bytes(),
-        b"refused close at 11\n".as_slice()
-    );
+    for (lines, said) in SUBTREES {
+        assert!(rt; changed_answers(&rt, 7, 4, lines, said)?);
+    }
     Ok(())
 }
 
@@ -178,108 +212,131 @@ const OF_TRI: [&str; 20] = [
     "u 1 1",
 ];
 
+/// Whether the first lines of the certificate of `TRI`, with one line more, are answered so.
+fn tri_answers(
+    rt: &HostRuntime,
+    length: usize,
+    more: &[&str],
+    status: u8,
+    said: &[u8],
+) -> Result<bool, AllocError> {
+    let mut text = Vec::new(rt.alloc());
+    for line in OF_TRI.iter().take(length) {
+        add_line(&mut text, line)?;
+    }
+    for line in more {
+        add_line(&mut text, line)?;
+    }
+    add_line(&mut text, "end")?;
+    answers(rt, TRI, text.as_slice(), status, said)
+}
+
 #[test]
 fn split_needs_both_sides(rt: HostRuntime) -> Result<(), Fail> {
-    let mut lines: Vec<&str> = Vec::new(rt.alloc());
-    lines.extend_from_slice(&OF_TRI)?;
-    lines.push("closed")?;
-    let whole = text_of(rt.alloc(), lines.as_slice())?;
-    let (status, desk) = judge(&rt, TRI, whole.as_slice())?;
-    assert_eq!(rt; desk.said_bytes(), b"verified lower 1 best 1\n".as_slice());
-    assert_eq!(rt; status, 0);
-    let half = text_of(rt.alloc(), &OF_TRI[..14])?;
-    let (status, desk) = judge(&rt, TRI, half.as_slice())?;
-    assert_eq!(rt; desk.said_bytes(), b"refused text at 15\n".as_slice());
-    assert_eq!(rt; status, 7);
+    assert!(rt; tri_answers(&rt, 20, &["closed"], 0, b"verified lower 1 best 1\n")?);
+    assert!(rt; tri_answers(&rt, 14, &[], 7, b"refused text at 15\n")?);
     Ok(())
 }
 
-/// Every front of a certificate that lacks a byte is refused in its grammar.
+/// Every front of a certificate that lacks a byte is refused in its grammar, at its last line or the missing one.
 #[test]
 fn fronts_of_a_certificate_are_refused(rt: HostRuntime) -> Result<(), Fail> {
     let whole = text_of(rt.alloc(), &GOOD)?;
-    let mut lines = 1;
+    let mut lines: u8 = 1;
     for (length, byte) in whole.as_slice().iter().enumerate() {
-        let (status, desk) = judge(&rt, TINY, &whole.as_slice()[..length])?;
-        assert_eq!(rt; status, 7, "at {length}");
-        let mut said: Vec<u8> = Vec::new(rt.alloc());
-        said.extend_from_slice(b"refused text at ")?;
-        if lines > 9 {
-            said.push(b'1')?;
-        }
-        said.push(b'0' + (lines % 10) as u8)?;
-        said.push(b'\n')?;
-        assert_eq!(rt; desk.said_bytes(), said.as_slice(), "at {length}");
+        let said = text_fault(rt.alloc(), lines)?;
+        let front = &whole.as_slice()[..length];
+        assert!(rt;
+            answers(&rt, TINY, front, 7, said.as_slice())?,
+            "at {length}"
+        );
         if *byte == b'\n' {
-            lines += 1;
+            lines = lines.saturating_add(1);
         }
     }
-    let mut more = text_of(rt.alloc(), &GOOD)?;
-    more.push(b'x')?;
-    let (_, desk) = judge(&rt, TINY, more.as_slice())?;
-    assert_eq!(rt; desk.said_bytes(), b"refused text at 12\n".as_slice());
     Ok(())
 }
 
-/// Depth and sums are bounded by the text alone.
 #[test]
-fn hostile_certificates(rt: HostRuntime) -> Result<(), Fail> {
-    let alloc = rt.alloc();
-    let rows: [(&[u8], usize, &[u8]); 2] = [
-        (TINY, 100_001, b"verified lower 0 best none\n"),
-        (TINY, 100_000, b"refused text at 200006\n"),
-    ];
-    for (file, leaves, said) in rows {
-        let deep = deep_certificate(alloc, 100_000, leaves)?;
-        let (_, desk) = judge(&rt, file, deep.as_slice())?;
-        assert_eq!(rt; desk.said_bytes(), said);
+fn bytes_behind_the_end_are_a_line(rt: HostRuntime) -> Result<(), Fail> {
+    let mut more = text_of(rt.alloc(), &GOOD)?;
+    more.push(b'x')?;
+    assert!(rt; answers(&rt, TINY, more.as_slice(), 7, b"refused text at 12\n")?);
+    Ok(())
+}
+
+/// What is said of a line that does not follow the grammar. Its number has one digit or two.
+fn text_fault(alloc: Global, line: u8) -> Result<Vec<u8>, AllocError> {
+    let mut said = Vec::new(alloc);
+    said.extend_from_slice(b"refused text at ")?;
+    if line > 9 {
+        said.push(b'1')?;
     }
-    let steps = [
-        "p 0 0 0 9223372036854775807",
-        "p 0 0 1 9223372036854775807",
-        "u 0 9223372036854775807",
-    ];
-    let mut lines: Vec<&str> = Vec::new(alloc);
-    lines.extend_from_slice(&[
-        "wcspcert 1",
-        "network 2 1 5",
-        "lower 5",
-        "best none",
-        "tree",
-    ])?;
-    for step in steps {
-        lines.extend_from_slice(&[step, step, step])?;
+    said.push(b'0' + line % 10)?;
+    said.push(b'\n')?;
+    Ok(said)
+}
+
+/// Depth is bounded by the text alone: 100,000 splits within each other, with all their leaves, and with one too few.
+#[test]
+fn deep_certificates(rt: HostRuntime) -> Result<(), Fail> {
+    let whole = b"verified lower 0 best none\n";
+    assert!(rt; deep_answers(&rt, 100_001, 0, whole)?);
+    assert!(rt; deep_answers(&rt, 100_000, 7, b"refused text at 200006\n")?);
+    Ok(())
+}
+
+/// Whether a certificate of 100,000 splits with so many leaves is answered so.
+fn deep_answers(
+    rt: &HostRuntime,
+    leaves: usize,
+    status: u8,
+    said: &[u8],
+) -> Result<bool, AllocError> {
+    let deep = deep_certificate(rt.alloc(), 100_000, leaves)?;
+    answers(rt, TINY, deep.as_slice(), status, said)
+}
+
+/// Sums go beyond 2^64, and below 0 where a value is not live.
+const SUMS: [(&[&str], &[u8]); 2] = [
+    (
+        &[
+            "p 0 0 0 3",
+            "v 0 0",
+            "e 0 0 0 9223372036854775807",
+            "p 0 0 1 1",
+            "u 0 1",
+            "closed",
+        ],
+        b"verified lower 1 best 1\n",
+    ),
+    (
+        &[
+            "p 0 0 0 3",
+            "v 0 0",
+            "e 0 0 0 9223372036854775807",
+            "v 0 0",
+            "p 0 0 1 1",
+            "u 0 1",
+            "closed",
+        ],
+        b"refused cut at 10\n",
+    ),
+];
+
+/// A good certificate of a network without a solution, whose sums go beyond 2^64.
+const LARGE: &[u8] = b"wcspcert 1\nnetwork 2 1 5\nlower 5\nbest none\ntree\n\
+    p 0 0 0 9223372036854775807\np 0 0 0 9223372036854775807\np 0 0 0 9223372036854775807\n\
+    p 0 0 1 9223372036854775807\np 0 0 1 9223372036854775807\np 0 0 1 9223372036854775807\n\
+    u 0 9223372036854775807\nu 0 9223372036854775807\nu 0 9223372036854775807\nclosed\nend\n";
+
+#[test]
+fn large_and_negative_sums(rt: HostRuntime) -> Result<(), Fail> {
+    for (lines, said) in SUMS {
+        assert!(rt; changed_answers(&rt, 7, 4, lines, said)?);
     }
-    lines.push("closed")?;
-    let sums = text_of(alloc, lines.as_slice())?;
-    let (_, desk) = judge(&rt, b"hard 2 2 1 5\n2 2\n2 0 1 5 0\n", sums.as_slice())?;
-    assert_eq!(rt;
-        desk.said_bytes(),
-        b"verified lower 5 best none\n".as_slice()
-    );
-    let dead = [
-        "p 0 0 0 3",
-        "v 0 0",
-        "e 0 0 0 9223372036854775807",
-        "p 0 0 1 1",
-        "u 0 1",
-        "closed",
-    ];
-    let below = changed(alloc, 7, 4, &dead)?;
-    let (_, desk) = judge(&rt, TINY, below.as_slice())?;
-    assert_eq!(rt; desk.said_bytes(), b"verified lower 1 best 1\n".as_slice());
-    let again = [
-        "p 0 0 0 3",
-        "v 0 0",
-        "e 0 0 0 9223372036854775807",
-        "v 0 0",
-        "p 0 0 1 1",
-        "u 0 1",
-        "closed",
-    ];
-    let cut = changed(alloc, 7, 4, &again)?;
-    let (_, desk) = judge(&rt, TINY, cut.as_slice())?;
-    assert_eq!(rt; desk.said_bytes(), b"refused cut at 10\n".as_slice());
+    let hard = b"hard 2 2 1 5\n2 2\n2 0 1 5 0\n";
+    assert!(rt; answers(&rt, hard, LARGE, 0, b"verified lower 5 best none\n")?);
     Ok(())
 }
 
@@ -306,25 +363,22 @@ fn written_certificates_are_verified(rt: HostRuntime) -> Result<(), Fail> {
             let network = draw(rt.alloc(), &mut dice, upper)?;
             let file = file_of(rt.alloc(), network.as_slice())?;
             for budget in ["0", "2", "1000000"] {
-                let files: [(&str, &[u8]); 1] = [("in", file.as_bytes())];
-                let mut desk = MemoryDesk::make(rt.alloc(), &files, 20_000, 2_000, &[])?;
-                let words = ["wcspsolve", "solve", "in", "out", "--budget", budget];
-                let status = run(&rt, rt.alloc(), &words, &mut desk, &OpenGate);
-                assert!(rt; status < 3, "of {file}");
-                let verified = verified_line(rt.alloc(), desk.said_bytes())?;
-                let before = desk.said_bytes().len();
-                let words = ["wcspsolve", "check", "in", "out"];
-                let status = run(&rt, rt.alloc(), &words, &mut desk, &OpenGate);
-                assert_eq!(rt; status, 0, "of {file}");
-                assert_eq!(rt;
-                    &desk.said_bytes()[before..],
-                    verified.as_slice(),
-                    "of {file}"
-                );
+                assert!(rt; is_verified(&rt, file.as_bytes(), budget)?, "of {file}");
             }
         }
     }
     Ok(())
+}
+
+/// Whether what `solve` writes of a file is verified, with the bounds of its report.
+fn is_verified(rt: &HostRuntime, file: &[u8], budget: &str) -> Result<bool, AllocError> {
+    let files: [(&str, &[u8]); 1] = [("in", file)];
+    let mut desk = MemoryDesk::make(rt.alloc(), &files, 20_000, 2_000, &[])?;
+    let words = ["wcspsolve", "solve", "in", "out", "--budget", budget];
+    let solved = run(rt, rt.alloc(), &words, &mut desk, &OpenGate);
+    let verified = verified_line(rt.alloc(), desk.said_bytes())?;
+    let certificate = desk.file("out").unwrap_or(b"");
+    Ok(solved < 3 && answers(rt, file, certificate, 0, verified.as_slice())?)
 }
 
 /// The line by which `check` says the bounds of a report.
@@ -351,19 +405,17 @@ fn behind<'a>(text: &'a [u8], front: &[u8]) -> &'a [u8] {
 /// Both files are loaded before the first is read, and the certificate is judged last.
 #[test]
 fn first_fault_of_two_files(rt: HostRuntime) -> Result<(), Fail> {
-    let words = ["wcspsolve", "check", "in", "nowhere"];
-    let run_of = Run::of(&rt, &words, b"", &[])?;
-    assert_eq!(rt; run_of.status, 5);
-    assert_eq!(rt; run_of.said(), b"error read\n".as_slice());
-    let words = ["wcspsolve", "check", "in", "in"];
-    let run_of = Run::of(&rt, &words, b"", &[])?;
-    assert_eq!(rt; run_of.status, 4);
-    assert_eq!(rt; run_of.said(), b"error short at 1\n".as_slice());
-    let run_of = Run::of(&rt, &words, TINY, &[])?;
-    assert_eq!(rt; run_of.status, 7);
-    assert_eq!(rt; run_of.said(), b"refused text at 1\n".as_slice());
-    let run_of = Run::of(&rt, &words, TINY, &[3])?;
-    assert_eq!(rt; run_of.status, 5);
-    assert_eq!(rt; run_of.said(), b"".as_slice());
+    let rows: [(&str, &[u8], &[u64], u8, &[u8]); 4] = [
+        ("nowhere", b"", &[], 5, b"error read\n"),
+        ("in", b"", &[], 4, b"error short at 1\n"),
+        ("in", TINY, &[], 7, b"refused text at 1\n"),
+        ("in", TINY, &[3], 5, b""),
+    ];
+    for (certificate, file, failing, status, said) in rows {
+        let words = ["wcspsolve", "check", "in", certificate];
+        let run_of = Run::of(&rt, &words, file, failing)?;
+        assert_eq!(rt; run_of.status, status);
+        assert_eq!(rt; run_of.said(), said);
+    }
     Ok(())
 }
