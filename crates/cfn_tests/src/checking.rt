@@ -1,9 +1,6 @@
 //! What runs of `check` say of certificates: good ones, ones that differ from a good one by a line, and hostile ones.
 
-use crate::drawing::{Dice, draw, file_of};
-use crate::running::{Run, TINY, TRI};
-use cfn_app::{OpenGate, run};
-use cfn_desk::MemoryDesk;
+use crate::running::{Run, TINY, TRI, check_answers};
 use std::alloc::{AllocError, Global};
 use std::test::Fail;
 
@@ -20,21 +17,6 @@ const GOOD: [&str; 10] = [
     "u 0 1",
     "closed",
 ];
-
-/// Whether `check in cert` ends with this status and says this, where these are the bytes of the two files.
-fn answers(
-    rt: &HostRuntime,
-    file: &[u8],
-    certificate: &[u8],
-    status: u8,
-    said: &[u8],
-) -> Result<bool, AllocError> {
-    let files: [(&str, &[u8]); 2] = [("in", file), ("cert", certificate)];
-    let mut desk = MemoryDesk::make(rt.alloc(), &files, 0, 400, &[])?;
-    let words = ["wcspsolve", "check", "in", "cert"];
-    let ended = run(rt, rt.alloc(), &words, &mut desk, &OpenGate);
-    Ok(ended == status && desk.said_bytes() == said)
-}
 
 /// Lines, each with its end, and `end` behind them.
 fn text_of(alloc: Global, lines: &[&str]) -> Result<Vec<u8>, AllocError> {
@@ -77,7 +59,7 @@ fn changed(
 
 /// One line or some of a good certificate changed: the line from which on, how many lines are left out there, the lines
 /// in their place, and what is said.
-const CHANGES: [(usize, usize, &[&str], &[u8]); 31] = [
+const CHANGES: [(usize, usize, &[&str], &[u8]); 36] = [
     (1, 0, &[], b"verified lower 1 best 1\n"),
     (3, 1, &["lower 0"], b"verified lower 0 best 1\n"),
     // a text is at fault where its first line that follows no certificate is
@@ -115,6 +97,8 @@ const CHANGES: [(usize, usize, &[&str], &[u8]); 31] = [
         b"refused range at 10\n",
     ),
     (7, 1, &["p 0 0 0 4"], b"refused project at 7\n"),
+    (8, 1, &["p 0 0 1 2"], b"refused project at 8\n"),
+    (7, 0, &["e 0 0 1 1"], b"refused extend at 7\n"),
     (8, 0, &["e 0 0 0 4"], b"refused extend at 8\n"),
     (
         8,
@@ -123,11 +107,14 @@ const CHANGES: [(usize, usize, &[&str], &[u8]); 31] = [
         b"verified lower 1 best 1\n",
     ),
     (9, 1, &["u 0 2"], b"refused lift at 9\n"),
+    (7, 0, &["u 0 1"], b"refused lift at 7\n"),
     (7, 0, &["v 0 0"], b"refused cut at 7\n"),
+    (9, 0, &["t 0 1"], b"refused cut at 9\n"),
     (7, 0, &["t 0 0"], b"verified lower 1 best 1\n"),
     (7, 0, &["t 0 2"], b"refused range at 7\n"),
     // the leaf and the lower bound
     (9, 1, &[], b"refused close at 9\n"),
+    (7, 0, &["closed"], b"refused close at 7\n"),
     (3, 1, &["lower 2"], b"refused lower at 3\n"),
 ];
 
@@ -141,7 +128,7 @@ fn changed_answers(
 ) -> Result<bool, AllocError> {
     let certificate = changed(rt.alloc(), from, taken, lines)?;
     let status = if said.starts_with(b"verified") { 0 } else { 7 };
-    answers(rt, TINY, certificate.as_slice(), status, said)
+    check_answers(rt, TINY, certificate.as_slice(), status, said)
 }
 
 #[test]
@@ -228,7 +215,7 @@ fn tri_answers(
         add_line(&mut text, line)?;
     }
     add_line(&mut text, "end")?;
-    answers(rt, TRI, text.as_slice(), status, said)
+    check_answers(rt, TRI, text.as_slice(), status, said)
 }
 
 #[test]
@@ -247,7 +234,7 @@ fn fronts_of_a_certificate_are_refused(rt: HostRuntime) -> Result<(), Fail> {
         let said = text_fault(rt.alloc(), lines)?;
         let front = &whole.as_slice()[..length];
         assert!(rt;
-            answers(&rt, TINY, front, 7, said.as_slice())?,
+            check_answers(&rt, TINY, front, 7, said.as_slice())?,
             "at {length}"
         );
         if *byte == b'\n' {
@@ -261,7 +248,7 @@ fn fronts_of_a_certificate_are_refused(rt: HostRuntime) -> Result<(), Fail> {
 fn bytes_behind_the_end_are_a_line(rt: HostRuntime) -> Result<(), Fail> {
     let mut more = text_of(rt.alloc(), &GOOD)?;
     more.push(b'x')?;
-    assert!(rt; answers(&rt, TINY, more.as_slice(), 7, b"refused text at 12\n")?);
+    assert!(rt; check_answers(&rt, TINY, more.as_slice(), 7, b"refused text at 12\n")?);
     Ok(())
 }
 
@@ -294,7 +281,7 @@ fn deep_answers(
     said: &[u8],
 ) -> Result<bool, AllocError> {
     let deep = deep_certificate(rt.alloc(), 100_000, leaves)?;
-    answers(rt, TINY, deep.as_slice(), status, said)
+    check_answers(rt, TINY, deep.as_slice(), status, said)
 }
 
 /// Sums go beyond 2^64, and below 0 where a value is not live.
@@ -336,7 +323,7 @@ fn large_and_negative_sums(rt: HostRuntime) -> Result<(), Fail> {
         assert!(rt; changed_answers(&rt, 7, 4, lines, said)?);
     }
     let hard = b"hard 2 2 1 5\n2 2\n2 0 1 5 0\n";
-    assert!(rt; answers(&rt, hard, LARGE, 0, b"verified lower 5 best none\n")?);
+    assert!(rt; check_answers(&rt, hard, LARGE, 0, b"verified lower 5 best none\n")?);
     Ok(())
 }
 
@@ -352,54 +339,6 @@ fn deep_certificate(alloc: Global, splits: usize, leaves: usize) -> Result<Vec<u
     }
     text.extend_from_slice(b"end\n")?;
     Ok(text)
-}
-
-/// What `solve` writes is verified, with the bounds that it says, whatever its budget.
-#[test]
-fn written_certificates_are_verified(rt: HostRuntime) -> Result<(), Fail> {
-    let mut dice = Dice { state: 7 };
-    for upper in [0, 1, 8, 40] {
-        for _drawn in 0..10 {
-            let network = draw(rt.alloc(), &mut dice, upper)?;
-            let file = file_of(rt.alloc(), network.as_slice())?;
-            for budget in ["0", "2", "1000000"] {
-                assert!(rt; is_verified(&rt, file.as_bytes(), budget)?, "of {file}");
-            }
-        }
-    }
-    Ok(())
-}
-
-/// Whether what `solve` writes of a file is verified, with the bounds of its report.
-fn is_verified(rt: &HostRuntime, file: &[u8], budget: &str) -> Result<bool, AllocError> {
-    let files: [(&str, &[u8]); 1] = [("in", file)];
-    let mut desk = MemoryDesk::make(rt.alloc(), &files, 20_000, 2_000, &[])?;
-    let words = ["wcspsolve", "solve", "in", "out", "--budget", budget];
-    let solved = run(rt, rt.alloc(), &words, &mut desk, &OpenGate);
-    let verified = verified_line(rt.alloc(), desk.said_bytes())?;
-    let certificate = desk.file("out").unwrap_or(b"");
-    Ok(solved < 3 && answers(rt, file, certificate, 0, verified.as_slice())?)
-}
-
-/// The line by which `check` says the bounds of a report.
-fn verified_line(alloc: Global, report: &[u8]) -> Result<Vec<u8>, AllocError> {
-    let mut line = Vec::new(alloc);
-    line.extend_from_slice(b"verified lower ")?;
-    line.extend_from_slice(behind(report, b"lower "))?;
-    line.extend_from_slice(b" best ")?;
-    line.extend_from_slice(behind(report, b"upper "))?;
-    line.push(b'\n')?;
-    Ok(line)
-}
-
-/// What stands behind a front, on the first line that begins with it.
-fn behind<'a>(text: &'a [u8], front: &[u8]) -> &'a [u8] {
-    for line in text.split(|byte| *byte == b'\n') {
-        if let Some(rest) = line.strip_prefix(front) {
-            return rest;
-        }
-    }
-    &[]
 }
 
 /// Both files are loaded before the first is read, and the certificate is judged last.

@@ -19,7 +19,7 @@ pub(crate) struct Dice {
 
 impl Dice {
     /// A number below `bound`, or 0 where that is 0.
-    fn below(&mut self, bound: u64) -> u64 {
+    pub(crate) fn below(&mut self, bound: u64) -> u64 {
         self.state = self
             .state
             .wrapping_mul(6364136223846793005)
@@ -28,7 +28,7 @@ impl Dice {
     }
 
     /// A number from 1 to `most`, or 1 where that is 0.
-    fn up_to(&mut self, most: u64) -> u64 {
+    pub(crate) fn up_to(&mut self, most: u64) -> u64 {
         self.below(most).saturating_add(1)
     }
 

@@ -1,6 +1,8 @@
-//! Searches of small networks, judged by the plain program and by costs that are known from elsewhere.
+//! Searches of small networks, judged by the plain program, by costs that are known from elsewhere, and by `check`.
 
 use crate::drawing::{Dice, MOST, draw, file_of, least_of};
+use crate::judging::Verdict;
+use crate::running::{certificate_of, check_answers};
 use cfn_net::Network;
 use cfn_search::{Outcome, Stop, solve};
 use std::alloc::{AllocError, Global};
@@ -74,6 +76,32 @@ fn price(outcome: &Outcome) -> Option<u64> {
     }
 }
 
+/// Budgets, as numbers and as words.
+const BUDGETS: [(u64, &str); 4] = [(0, "0"), (1, "1"), (2, "2"), (AMPLE, "1000000")];
+
+/// What `check` is to say of the certificate of a search.
+fn verdict_of(alloc: Global, file: &str, budget: u64) -> Result<Verdict, Fail> {
+    let network = cfn_wcsp::read(alloc, file.as_bytes())?;
+    let outcome = solve(alloc, &network, budget)?;
+    Ok(Verdict::Verified {
+        lower: outcome.certificate.lower,
+        best: price(&outcome),
+    })
+}
+
+/// Whether `check` verifies what `solve` writes of a file, with the bounds of the search, whatever the budget.
+fn is_verified(rt: &HostRuntime, file: &str) -> Result<bool, Fail> {
+    for (budget, word) in BUDGETS {
+        let said = verdict_of(rt.alloc(), file, budget)?.said(rt.alloc())?;
+        let certificate = certificate_of(rt, file.as_bytes(), word)?;
+        let certificate = certificate.as_slice();
+        if !check_answers(rt, file.as_bytes(), certificate, 0, said.as_bytes())? {
+            return Ok(false);
+        }
+    }
+    Ok(true)
+}
+
 #[test]
 fn drawn_networks(rt: HostRuntime) -> Result<(), Fail> {
     let mut dice = Dice { state: 2026 };
@@ -83,6 +111,7 @@ fn drawn_networks(rt: HostRuntime) -> Result<(), Fail> {
             let file = file_of(rt.alloc(), words.as_slice())?;
             let least = least_of(rt.alloc(), words.as_slice())?;
             judge(&rt, rt.alloc(), file.as_str(), least)?;
+            assert!(rt; is_verified(&rt, file.as_str())?, "of {file}");
         }
     }
     Ok(())
@@ -138,6 +167,7 @@ const BY_HAND: [(&str, Option<u64>); 16] = [
 fn networks_by_hand(rt: HostRuntime) -> Result<(), Fail> {
     for (file, least) in BY_HAND {
         judge(&rt, rt.alloc(), file, least)?;
+        assert!(rt; is_verified(&rt, file)?, "of {file}");
     }
     Ok(())
 }

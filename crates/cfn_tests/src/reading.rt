@@ -72,8 +72,8 @@ fn refused_files_name_the_word(rt: HostRuntime) -> Result<(), Fail> {
     Ok(())
 }
 
-/// A front of a file that lacks a word is refused in one line, and only the front that lacks the last line end alone
-/// is solved, as the whole file is.
+/// A front of a file that lacks a word is refused at the word that it would have, and only the front that lacks the last
+/// line end alone is solved, as the whole file is.
 #[test]
 fn fronts_of_a_file_are_refused(rt: HostRuntime) -> Result<(), Fail> {
     let whole = Run::solve(&rt, TRI)?;
@@ -85,21 +85,24 @@ fn fronts_of_a_file_are_refused(rt: HostRuntime) -> Result<(), Fail> {
             assert_eq!(rt; run.said(), whole.said());
             assert_eq!(rt; run.certificate(), whole.certificate());
         } else {
+            let said = short_behind(rt.alloc(), &TRI[..length])?;
             assert_eq!(rt; run.status, 4, "at {length}");
-            assert!(rt; is_one_line(run.said()), "at {length}");
-            assert!(rt; run.said().starts_with(b"error short at "), "at {length}");
+            assert_eq!(rt; run.said(), said.as_bytes(), "at {length}");
             assert_eq!(rt; run.certificate(), b"".as_slice());
         }
     }
     Ok(())
 }
 
-/// Whether a text is one line with its end.
-fn is_one_line(text: &[u8]) -> bool {
-    match text {
-        [front @ .., b'\n'] => !front.contains(&b'\n'),
-        _ => false,
-    }
+/// What is said of a file that lacks the word behind these.
+fn short_behind(alloc: Global, front: &[u8]) -> Result<String, AllocError> {
+    let words = front
+        .split(|byte| *byte == b' ' || *byte == b'\n')
+        .filter(|word| !word.is_empty())
+        .count();
+    let mut said = String::new(alloc);
+    write!(said, "error short at {}\n", words.saturating_add(1))?;
+    Ok(said)
 }
 
 #[test]

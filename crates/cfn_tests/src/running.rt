@@ -61,6 +61,33 @@ impl Run {
     }
 }
 
+/// The certificate that `solve` writes of a file with this budget, or nothing where there is none.
+pub(crate) fn certificate_of(
+    rt: &HostRuntime,
+    file: &[u8],
+    budget: &str,
+) -> Result<Vec<u8>, AllocError> {
+    let mut desk = MemoryDesk::make(rt.alloc(), &[("in", file)], 20_000, 2_000, &[])?;
+    let words = ["wcspsolve", "solve", "in", "out", "--budget", budget];
+    let _status = run(rt, rt.alloc(), &words, &mut desk, &OpenGate);
+    Vec::from_slice(rt.alloc(), desk.file("out").unwrap_or(b""))
+}
+
+/// Whether `check` ends with this status and says this, where these are the bytes of the two files.
+pub(crate) fn check_answers(
+    rt: &HostRuntime,
+    file: &[u8],
+    certificate: &[u8],
+    status: u8,
+    said: &[u8],
+) -> Result<bool, AllocError> {
+    let files = [("in", file), ("cert", certificate)];
+    let mut desk = MemoryDesk::make(rt.alloc(), &files, 0, 400, &[])?;
+    let words = ["wcspsolve", "check", "in", "cert"];
+    let ended = run(rt, rt.alloc(), &words, &mut desk, &OpenGate);
+    Ok(ended == status && desk.said_bytes() == said)
+}
+
 /// Whether a line of a text begins with these bytes.
 pub(crate) fn has_front(text: &[u8], front: &[u8]) -> bool {
     text.split(|byte| *byte == b'\n')

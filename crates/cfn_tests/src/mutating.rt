@@ -1,0 +1,190 @@
+//! Good certificates with one word or one line changed: what a run of `check` says of them is what the plain judge
+//! says.
+
+use crate::drawing::{Dice, MOST, draw, file_of};
+use crate::judging::{Kind, Verdict, number, verdict_of, words_of};
+use crate::running::{certificate_of, check_answers};
+use cfn_net::Network;
+use std::alloc::{AllocError, Global};
+use std::test::Fail;
+
+/// How many networks are drawn for each upper bound, and how many certificates of each are judged.
+const DRAWN: u64 = 6;
+
+const CHANGES: u64 = 60;
+
+/// Words in the place of others.
+const WORDS: [&str; 12] = [
+    "", "none", "best", "tree", "open", "closed", "split", "p", "e", "u", "v", "t",
+];
+
+/// A certificate with one word or one line changed, drawn by the dice.
+fn changed(alloc: Global, dice: &mut Dice, lines: &[&str]) -> Result<String, AllocError> {
+    let place = dice.below(lines.len() as u64);
+    let change = dice.below(9);
+    let mut text = String::new(alloc);
+    for (number, line) in lines.iter().enumerate() {
+        if number as u64 != place {
+            write!(text, "{line}\n")?;
+            continue;
+        }
+        match change {
+            0 => {}
+            1 => write!(text, "{line}\n{line}\n")?,
+            2 => draw_line(dice, &mut text)?,
+            3 | 4 => {
+                draw_line(dice, &mut text)?;
+                write!(text, "{line}\n")?;
+            }
+            _ => change_word(alloc, dice, line, &mut text)?,
+        }
+    }
+    Ok(text)
+}
+
+/// Adds a line of a tree.
+fn draw_line(dice: &mut Dice, text: &mut String) -> Result<(), AllocError> {
+    let (first, second, third) = (dice.below(4), dice.below(3), dice.below(3));
+    let amount = dice.up_to(4);
+    match dice.below(8) {
+        0 => write!(text, "open\n"),
+        1 => write!(text, "closed\n"),
+        2 => write!(text, "split {first} {second}\n"),
+        3 => write!(text, "p {first} {second} {third} {amount}\n"),
+        4 => write!(text, "e {first} {second} {third} {amount}\n"),
+        5 => write!(text, "u {first} {amount}\n"),
+        6 => write!(text, "v {first} {second}\n"),
+        _ => write!(text, "t {first} {second}\n"),
+    }
+}
+
+/// Adds a line with one word changed.
+fn change_word(
+    alloc: Global,
+    dice: &mut Dice,
+    line: &str,
+    text: &mut String,
+) -> Result<(), AllocError> {
+    let words = words_of(alloc, line)?;
+    let place = dice.below(words.len() as u64);
+    for (number, word) in words.as_slice().iter().enumerate() {
+        if number > 0 {
+            text.push(' ')?;
+        }
+        if number as u64 == place {
+            draw_word(dice, word, text)?;
+        } else {
+            text.push_str(word)?;
+        }
+    }
+    text.push('\n')
+}
+
+/// Adds a word in the place of this one: mostly a number near it, where it is one.
+fn draw_word(dice: &mut Dice, word: &str, text: &mut String) -> Result<(), AllocError> {
+    let change = dice.below(12);
+    match (number(word), change) {
+        (Some(number), 0) => write!(text, "0{number}"),
+        (Some(_), 1) => write!(text, "{}", MOST),
+        (Some(_), 2) => write!(text, "{}", MOST.saturating_add(1)),
+        (Some(_), 3) => write!(text, "4294967296"),
+        (Some(number), 4 | 5 | 6 | 7) => write!(text, "{}", number.saturating_add(1)),
+        (Some(number), _) => write!(text, "{}", number.saturating_sub(1)),
+        (None, _) => text.push_str(WORDS[change as usize]),
+    }
+}
+
+/// The lines of a text, of which each has its end.
+fn lines_of(alloc: Global, text: &str) -> Result<Vec<&str>, AllocError> {
+    let mut lines = Vec::new(alloc);
+    for line in text.split('\n') {
+        lines.push(line)?;
+    }
+    let _behind = lines.pop();
+    Ok(lines)
+}
+
+/// Whether a run of `check` gives this verdict.
+fn is_verdict(
+    rt: &HostRuntime,
+    file: &str,
+    certificate: &str,
+    verdict: Verdict,
+) -> Result<bool, AllocError> {
+    let said = verdict.said(rt.alloc())?;
+    let (file, certificate) = (file.as_bytes(), certificate.as_bytes());
+    check_answers(rt, file, certificate, verdict.status(), said.as_bytes())
+}
+
+/// The plain judge's verdict of a certificate.
+fn plain_verdict(
+    alloc: Global,
+    network: &Network,
+    certificate: &str,
+) -> Result<Verdict, AllocError> {
+    let lines = lines_of(alloc, certificate)?;
+    verdict_of(alloc, network, lines.as_slice())
+}
+
+/// Judges changes of what `solve` writes of a file with this budget, and adds their verdicts. The answer is the first
+/// of which `check` says something else than the plain judge.
+fn judge_changes(
+    rt: &HostRuntime,
+    dice: &mut Dice,
+    file: &str,
+    budget: &str,
+    seen: &mut Vec<Verdict>,
+) -> Result<Option<String>, Fail> {
+    let network = cfn_wcsp::read(rt.alloc(), file.as_bytes())?;
+    let certificate = certificate_of(rt, file.as_bytes(), budget)?;
+    let certificate = std::str::from_utf8(certificate.as_slice()).unwrap_or("");
+    let lines = lines_of(rt.alloc(), certificate)?;
+    for _ in 0..CHANGES {
+        let other = changed(rt.alloc(), dice, lines.as_slice())?;
+        let verdict = plain_verdict(rt.alloc(), &network, other.as_str())?;
+        if !is_verdict(rt, file, other.as_str(), verdict)? {
+            return Ok(Some(other));
+        }
+        seen.push(verdict)?;
+    }
+    Ok(None)
+}
+
+/// Whether a certificate was refused so.
+fn has_kind(seen: &[Verdict], kind: Kind) -> bool {
+    seen.iter().any(|verdict| match verdict {
+        Verdict::Refused { kind: other, .. } => *other == kind,
+        Verdict::Verified { .. } => false,
+    })
+}
+
+/// How many certificates were verified.
+fn verified(seen: &[Verdict]) -> usize {
+    seen.iter()
+        .filter(|verdict| match verdict {
+            Verdict::Verified { .. } => true,
+            Verdict::Refused { .. } => false,
+        })
+        .count()
+}
+
+#[test]
+fn changed_certificates_are_judged_plainly(rt: HostRuntime) -> Result<(), Fail> {
+    let mut dice = Dice { state: 11 };
+    let mut seen = Vec::new(rt.alloc());
+    for upper in [1, 8, 15, 40] {
+        for _ in 0..DRAWN {
+            let words = draw(rt.alloc(), &mut dice, upper)?;
+            let file = file_of(rt.alloc(), words.as_slice())?;
+            for budget in ["1", "3", "1000000"] {
+                let wrong = judge_changes(&rt, &mut dice, file.as_str(), budget, &mut seen)?;
+                assert_eq!(rt; wrong, None, "of {file}");
+            }
+        }
+    }
+    for kind in Kind::ALL {
+        assert!(rt; has_kind(seen.as_slice(), kind), "none for {}", kind.word());
+    }
+    assert!(rt; verified(seen.as_slice()) > 100);
+    Ok(())
+}
