@@ -1,7 +1,7 @@
 //! What the program says: the report of a search, and the lines on faults and costs.
 //!
 //! - `write` says a report, and the other functions say a text each. The texts are defined in cfn_model's
-//!   specs/Text.antt, and that of a wrong call in specs/Texts.antt.
+//!   specs/Text.antt, and what `check` says and how the program is called in specs/Texts.antt.
 //! - `line` keeps the words of a line until the line is whole, and then says it in one call.
 //! - `word` has the words that lines are made of.
 //!
