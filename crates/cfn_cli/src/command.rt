@@ -18,7 +18,7 @@ pub struct SolveArguments {
     pub file: String,
     /// The name of the file that the certificate is written to.
     pub certificate: String,
-    /// How many workers search side by side: 1 to 64, and 1 where the words give no number.
+    /// How many workers are asked for: 1 to 64, and 1 where the words give no number.
     pub workers: u8,
     /// How many nodes the search may expand: 0 to 2^63 - 1, and the greatest where the words give
     /// no number.

@@ -4,6 +4,11 @@
 //! bytes said, the file being written, whether one is being written, and a count of faults. So a
 //! caller's theorem speaks of bytes in and bytes out, and a caller is tried against a desk in
 //! memory whose calls fail where a test says so.
+//!
+//! - `interface` has the contract, `Desk`, and how its calls fail.
+//! - `HostDesk` is real files and standard output, `MemoryDesk` a desk in memory, and `SureDesk` one that never fails and
+//!   keeps no text.
+//! - `named` keeps files by their names, and `room` bytes in room that is taken once.
 #![tactic(auto)]
 
 mod host;

@@ -16,7 +16,7 @@ use cfn_proof::Certificate;
 /// What is reported of a search.
 #[derive(Clone, Copy)]
 pub struct Report<'a> {
-    /// How many workers searched.
+    /// How many workers were asked for.
     pub workers: u32,
     /// The certificate that was written.
     pub certificate: &'a Certificate,
@@ -28,7 +28,7 @@ pub struct Report<'a> {
     pub word: ResultWord,
 }
 
-/// Says a report, a line at a time. It takes no memory.
+/// Says a report, a line of at most 4,096 bytes at a time. It takes no memory.
 ///
 /// An `Err` is a call of the desk that failed: some front of the text was said, and the rest was not tried.
 pub fn write<D: Desk>(report: &Report, desk: &mut D) -> Result<(), Failed>

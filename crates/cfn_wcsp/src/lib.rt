@@ -2,6 +2,10 @@
 //!
 //! The words of the file are read from left to right, and the first that fails a check of its place
 //! decides how the file is refused.
+//!
+//! - `read` answers the network, or a `ReadFault`: the file is refused, or memory is. `reading` goes over the file as a
+//!   whole, `sizes` over the domain sizes, and `tables` over one cost function, with its `scope`.
+//! - `numerals` takes the next word and the next number, and `field` has what each number is checked for.
 #![tactic(auto)]
 
 mod fault;
