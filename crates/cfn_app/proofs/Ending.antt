@@ -1,12 +1,12 @@
 -- What each status of a run says, from how the run may end.
 use Rattle.std.proofs.Common.{◌≡◌, ◌≢◌, ℕ, zero, suc, ◌<◌, ◌≤◌, ◌⊎◌, inl, inr, List, [], ◌∷◌, refl, sym, ap, ◌∙◌, subst, arith}
-use Rattle.std.specs.Prelude.{Option, Some, None, IfSome, IsSomeAnd, Result, Ok, Err, length, slice_index}
+use Rattle.std.specs.Prelude.{false, Option, Some, None, IfSome, IsSomeAnd, Result, Ok, Err, length, slice_index}
 use Rattle.cfn_model.specs.declared.report.ResultWord.{ResultWord}
 use Rattle.cfn_model.specs.declared.report.ResultWord.TheVariants.{Optimum, Nothing, Budget, Memory}
 use Rattle.cfn_model.specs.declared.reading.Refusal.{Refusal}
 use Rattle.cfn_model.specs.Network.{Network, Fits}
 use Rattle.cfn_model.specs.Reading.{Reads, Refuses, reading}
-use Rattle.cfn_model.specs.Text.{memory_fault_text}
+use Rattle.cfn_model.specs.Text.{memory_fault_text, read_fault_text}
 use Rattle.cfn_desk.specs.Desk.{Files, Rose}
 use Rattle.cfn_net.specs.Fitting.{IsFirstMisfit}
 use Rattle.cfn_model.specs.Certificate.{Certificate, Good}
@@ -16,7 +16,7 @@ use Rattle.cfn_fault.specs.Fault.{Fault}
 use Rattle.cfn_fault.proofs.Faults.{no_fault_where_good}
 use Rattle.cfn_report.specs.Texts.{usage_text}
 use Rattle.cfn_cli.specs.Request.{Request, solve, check, cost, SolveRequest, CheckRequest, CostRequest}
-use Rattle.cfn_app.specs.Outside.{Outside, HasFile, ReadsFile, RefusesFile, Says, EndsSaying}
+use Rattle.cfn_app.specs.Outside.{Outside, HasFile, ReadsFile, RefusesFile, Says, AfterFault, EndsSaying}
 use Rattle.cfn_app.specs.Headline.{status_of, Reports}
 use Rattle.cfn_app.specs.Runs.{Runs, no_memory, usage, unread, refused, written, unwritten, verified, disproved, costs, wrong_number, wrong_value, file_of}
 use Rattle.cfn_app.specs.Statuses.{Solved, Costed, Verified, Disproved, FileRefused, ValuesRefused, IsRefused, Tells, TellsBytes, IsHindered, Statuses}
@@ -122,6 +122,13 @@ fits_at (s ∷ ss) (v ∷ vs) (suc i) h l = fits_at ss vs i h.1 (omega (arith, l
 misfit_fits : (sizes values : List ℕ) (x : ℕ) → IsFirstMisfit sizes values x → Fits sizes values → ⊥
 misfit_fits sizes values x misfit fits = let below = fits_at sizes values x fits misfit.variable in omega (arith, below, misfit.out)
 
+-- a count that rose twice rose
+pub rose_twice : (before middle now : ℕ) → Rose before middle → Rose middle now → Rose before now
+rose_twice before middle now (inl a) (inl b) = inl (omega (arith, a, b))
+rose_twice before middle now (inl a) (inr (at, last)) = inl (omega (arith, a, at, last))
+rose_twice before middle now (inr (at, last)) (inl b) = inl (omega (arith, at, last, b))
+rose_twice before middle now (inr (at, last)) (inr (too, end)) = inr (at, end)
+
 module _ (request : Option Request) (old new : Outside) (status : ℕ) where
   ends : (text : List ℕ) (due : ℕ) → EndsSaying old new text due status → (status ≡ due) ⊎ (status ≡ 5)
   ends text due (inl (is, says)) = inl is
@@ -130,6 +137,12 @@ module _ (request : Option Request) (old new : Outside) (status : ℕ) where
   says : (text : List ℕ) (due : ℕ) → EndsSaying old new text due status → status ≢ 5 → Says old new text
   says text due (inl (is, said)) other = said
   says text due (inr (is, cut)) other = absurd (other is)
+
+  rose_after : (text : List ℕ) → AfterFault old new text → Rose old.faults new.faults
+  rose_after text after = elim after.said [
+    | inl whole ↦ subst (λ n. Rose old.faults n) (sym whole.0) after.fault
+    | inr cut ↦ rose_twice old.faults after.middle new.faults after.fault cut.0
+  ]
 
   rose : (text : List ℕ) (due : ℕ) → due ≢ 5 → EndsSaying old new text due status → status ≡ 5 → Rose old.faults new.faults
   rose text due other (inl (is, said)) five = absurd (omega (arith, other, is, five))
@@ -142,8 +155,8 @@ module _ (request : Option Request) (old new : Outside) (status : ℕ) where
   done : Runs request old new status → status ≡ 0 → Solved request old new Optimum ⊎ (Verified request old new ⊎ Costed request old new)
   done (no_memory e) is = absurd (let o = ends _ 6 e in omega (arith, o, is))
   done (usage n e) is = absurd (let o = ends _ 3 e in omega (arith, o, is))
-  done (unread five cut) is = absurd (omega (arith, five, is))
-  done (refused ask r q file e) is = absurd (let o = ends _ 4 e in omega (arith, o, is))
+  done (unread asked q five cut) is = absurd (omega (arith, five, is))
+  done (refused ask r q file has e) is = absurd (let o = ends _ 4 e in omega (arith, o, is))
   done (written ask word q reports due) is = inl (solved ask word Optimum q reports due is)
   done (unwritten ask P nodes c rows word q file promise five out) is = absurd (omega (arith, five, is))
   done (verified ask P bytes c q file has verifies e) is = inr (inl (ask, P, bytes, c, q, file, has, verifies, says _ 0 e (omega (arith, is))))
@@ -155,8 +168,8 @@ module _ (request : Option Request) (old new : Outside) (status : ℕ) where
   none : Runs request old new status → status ≡ 1 → Solved request old new Nothing
   none (no_memory e) is = absurd (let o = ends _ 6 e in omega (arith, o, is))
   none (usage n e) is = absurd (let o = ends _ 3 e in omega (arith, o, is))
-  none (unread five cut) is = absurd (omega (arith, five, is))
-  none (refused ask r q file e) is = absurd (let o = ends _ 4 e in omega (arith, o, is))
+  none (unread asked q five cut) is = absurd (omega (arith, five, is))
+  none (refused ask r q file has e) is = absurd (let o = ends _ 4 e in omega (arith, o, is))
   none (written ask word q reports due) is = solved ask word Nothing q reports due is
   none (unwritten ask P nodes c rows word q file promise five out) is = absurd (omega (arith, five, is))
   none (verified ask P bytes c q file has verifies e) is = absurd (let o = ends _ 0 e in omega (arith, o, is))
@@ -168,8 +181,8 @@ module _ (request : Option Request) (old new : Outside) (status : ℕ) where
   spent : Runs request old new status → status ≡ 2 → Solved request old new Budget
   spent (no_memory e) is = absurd (let o = ends _ 6 e in omega (arith, o, is))
   spent (usage n e) is = absurd (let o = ends _ 3 e in omega (arith, o, is))
-  spent (unread five cut) is = absurd (omega (arith, five, is))
-  spent (refused ask r q file e) is = absurd (let o = ends _ 4 e in omega (arith, o, is))
+  spent (unread asked q five cut) is = absurd (omega (arith, five, is))
+  spent (refused ask r q file has e) is = absurd (let o = ends _ 4 e in omega (arith, o, is))
   spent (written ask word q reports due) is = solved ask word Budget q reports due is
   spent (unwritten ask P nodes c rows word q file promise five out) is = absurd (omega (arith, five, is))
   spent (verified ask P bytes c q file has verifies e) is = absurd (let o = ends _ 0 e in omega (arith, o, is))
@@ -181,8 +194,8 @@ module _ (request : Option Request) (old new : Outside) (status : ℕ) where
   called : Runs request old new status → status ≡ 3 → (request ≡ None) × Says old new usage_text
   called (no_memory e) is = absurd (let o = ends _ 6 e in omega (arith, o, is))
   called (usage n e) is = (n, says _ 3 e (omega (arith, is)))
-  called (unread five cut) is = absurd (omega (arith, five, is))
-  called (refused ask r q file e) is = absurd (let o = ends _ 4 e in omega (arith, o, is))
+  called (unread asked q five cut) is = absurd (omega (arith, five, is))
+  called (refused ask r q file has e) is = absurd (let o = ends _ 4 e in omega (arith, o, is))
   called (written ask word q reports due) is = absurd (let s = word_status word in omega (arith, s, due, is))
   called (unwritten ask P nodes c rows word q file promise five out) is = absurd (omega (arith, five, is))
   called (verified ask P bytes c q file has verifies e) is = absurd (let o = ends _ 0 e in omega (arith, o, is))
@@ -194,8 +207,8 @@ module _ (request : Option Request) (old new : Outside) (status : ℕ) where
   refusal : Runs request old new status → status ≡ 4 → FileRefused request old new ⊎ ValuesRefused request old new
   refusal (no_memory e) is = absurd (let o = ends _ 6 e in omega (arith, o, is))
   refusal (usage n e) is = absurd (let o = ends _ 3 e in omega (arith, o, is))
-  refusal (unread five cut) is = absurd (omega (arith, five, is))
-  refusal (refused ask r q file e) is = inl (ask, r, q, file, says _ 4 e (omega (arith, is)))
+  refusal (unread asked q five cut) is = absurd (omega (arith, five, is))
+  refusal (refused ask r q file has e) is = inl (ask, r, q, file, has, says _ 4 e (omega (arith, is)))
   refusal (written ask word q reports due) is = absurd (let s = word_status word in omega (arith, s, due, is))
   refusal (unwritten ask P nodes c rows word q file promise five out) is = absurd (omega (arith, five, is))
   refusal (verified ask P bytes c q file has verifies e) is = absurd (let o = ends _ 0 e in omega (arith, o, is))
@@ -207,8 +220,8 @@ module _ (request : Option Request) (old new : Outside) (status : ℕ) where
   fault : Runs request old new status → status ≡ 5 → Rose old.faults new.faults
   fault (no_memory e) is = rose _ 6 (omega arith) e is
   fault (usage n e) is = rose _ 3 (omega arith) e is
-  fault (unread five cut) is = cut.faults
-  fault (refused ask r q file e) is = rose _ 4 (omega arith) e is
+  fault (unread asked q five cut) is = rose_after read_fault_text cut.after
+  fault (refused ask r q file has e) is = rose _ 4 (omega arith) e is
   fault (written ask word q reports due) is = absurd (let s = word_status word in omega (arith, s, due, is))
   fault (unwritten ask P nodes c rows word q file promise five out) is = out.faults
   fault (verified ask P bytes c q file has verifies e) is = rose _ 0 (omega arith) e is
@@ -220,8 +233,8 @@ module _ (request : Option Request) (old new : Outside) (status : ℕ) where
   memory : Runs request old new status → status ≡ 6 → Says old new memory_fault_text ⊎ Solved request old new Memory
   memory (no_memory e) is = inl (says _ 6 e (omega (arith, is)))
   memory (usage n e) is = absurd (let o = ends _ 3 e in omega (arith, o, is))
-  memory (unread five cut) is = absurd (omega (arith, five, is))
-  memory (refused ask r q file e) is = absurd (let o = ends _ 4 e in omega (arith, o, is))
+  memory (unread asked q five cut) is = absurd (omega (arith, five, is))
+  memory (refused ask r q file has e) is = absurd (let o = ends _ 4 e in omega (arith, o, is))
   memory (written ask word q reports due) is = inr (solved ask word Memory q reports due is)
   memory (unwritten ask P nodes c rows word q file promise five out) is = absurd (omega (arith, five, is))
   memory (verified ask P bytes c q file has verifies e) is = absurd (let o = ends _ 0 e in omega (arith, o, is))
@@ -233,8 +246,8 @@ module _ (request : Option Request) (old new : Outside) (status : ℕ) where
   disproof : Runs request old new status → status ≡ 7 → Disproved request old new
   disproof (no_memory e) is = absurd (let o = ends _ 6 e in omega (arith, o, is))
   disproof (usage n e) is = absurd (let o = ends _ 3 e in omega (arith, o, is))
-  disproof (unread five cut) is = absurd (omega (arith, five, is))
-  disproof (refused ask r q file e) is = absurd (let o = ends _ 4 e in omega (arith, o, is))
+  disproof (unread asked q five cut) is = absurd (omega (arith, five, is))
+  disproof (refused ask r q file has e) is = absurd (let o = ends _ 4 e in omega (arith, o, is))
   disproof (written ask word q reports due) is = absurd (let s = word_status word in omega (arith, s, due, is))
   disproof (unwritten ask P nodes c rows word q file promise five out) is = absurd (omega (arith, five, is))
   disproof (verified ask P bytes c q file has verifies e) is = absurd (let o = ends _ 0 e in omega (arith, o, is))
@@ -246,8 +259,8 @@ module _ (request : Option Request) (old new : Outside) (status : ℕ) where
   range : Runs request old new status → status ≤ 7
   range (no_memory e) = let o = ends _ 6 e in omega (arith, o)
   range (usage n e) = let o = ends _ 3 e in omega (arith, o)
-  range (unread five cut) = omega (arith, five)
-  range (refused ask r q file e) = let o = ends _ 4 e in omega (arith, o)
+  range (unread asked q five cut) = omega (arith, five)
+  range (refused ask r q file has e) = let o = ends _ 4 e in omega (arith, o)
   range (written ask word q reports due) = let s = word_status word in omega (arith, s, due)
   range (unwritten ask P nodes c rows word q file promise five out) = omega (arith, five)
   range (verified ask P bytes c q file has verifies e) = let o = ends _ 0 e in omega (arith, o)
@@ -259,8 +272,8 @@ module _ (request : Option Request) (old new : Outside) (status : ℕ) where
   faultless : Runs request old new status → status ≢ 5 → new.faults ≡ old.faults
   faultless (no_memory e) other = (says _ 6 e other).faults
   faultless (usage n e) other = (says _ 3 e other).faults
-  faultless (unread five cut) other = absurd (other five)
-  faultless (refused ask r q file e) other = (says _ 4 e other).faults
+  faultless (unread asked q five cut) other = absurd (other five)
+  faultless (refused ask r q file has e) other = (says _ 4 e other).faults
   faultless (written ask word q reports due) other = reports.written.faults
   faultless (unwritten ask P nodes c rows word q file promise five out) other = absurd (other five)
   faultless (verified ask P bytes c q file has verifies e) other = (says _ 0 e other).faults
@@ -284,8 +297,8 @@ module _ (request : Option Request) (old new : Outside) (status : ℕ) where
   no_command : Runs request old new status → request ≡ None → (status ≡ 3) ⊎ IsHindered status
   no_command (no_memory e) is = inr (hindered _ e)
   no_command (usage n e) is = due_or _ 3 e
-  no_command (unread five cut) is = inr (inl five)
-  no_command (refused ask r q file e) is = absurd (none_some request ask is q)
+  no_command (unread asked q five cut) is = absurd (none_some request asked is q)
+  no_command (refused ask r q file has e) is = absurd (none_some request ask is q)
   no_command (written ask word q reports due) is = absurd (none_some request (solve ask) is q)
   no_command (unwritten ask P nodes c rows word q file promise five out) is = inr (inl five)
   no_command (verified ask P bytes c q file has verifies e) is = absurd (none_some request (check ask) is q)
@@ -297,8 +310,8 @@ module _ (request : Option Request) (old new : Outside) (status : ℕ) where
   file_refused : Runs request old new status → IsRefused request old → (status ≡ 4) ⊎ IsHindered status
   file_refused (no_memory e) refuses = inr (hindered _ e)
   file_refused (usage n e) refuses = absurd (subst (λ asked. IsRefused asked old) n refuses)
-  file_refused (unread five cut) refuses = inr (inl five)
-  file_refused (refused ask r q file e) refuses = due_or _ 4 e
+  file_refused (unread asked q five cut) refuses = inr (inl five)
+  file_refused (refused ask r q file has e) refuses = due_or _ 4 e
   file_refused (written ask word q reports due) refuses = absurd (not_read old request (solve ask) reports.network q refuses reports.reads)
   file_refused (unwritten ask P nodes c rows word q file promise five out) refuses = inr (inl five)
   file_refused (verified ask P bytes c q file has verifies e) refuses = absurd (not_read old request (check ask) P q refuses file)
@@ -310,8 +323,8 @@ module _ (request : Option Request) (old new : Outside) (status : ℕ) where
   solves : Runs request old new status → (ask : SolveRequest) (P : Network) → request ≡ Some (solve ask) → Tells old ask.file P → (status ≡ 0) ⊎ ((status ≡ 1) ⊎ ((status ≡ 2) ⊎ IsHindered status))
   solves (no_memory e) ask P is told = inr (inr (inr (hindered _ e)))
   solves (usage n e) ask P is told = absurd (none_some request (solve ask) n is)
-  solves (unread five cut) ask P is told = inr (inr (inr (inl five)))
-  solves (refused other r q file e) ask P is told =
+  solves (unread asked q five cut) ask P is told = inr (inr (inr (inl five)))
+  solves (refused other r q file has e) ask P is told =
       absurd (not_refused old ask.file P r told (subst (λ asked. RefusesFile old (file_of asked) r) (same_ask request other (solve ask) q is) file))
   solves (written other word q reports due) ask P is told = word_or_fault (word_status word)
     where
@@ -343,8 +356,8 @@ module _ (request : Option Request) (old new : Outside) (status : ℕ) where
   costed : Runs request old new status → (ask : CostRequest) (P : Network) → request ≡ Some (cost ask) → Tells old ask.file P → Fits P.sizes ask.values → (status ≡ 0) ⊎ IsHindered status
   costed (no_memory e) ask P is told fits = inr (hindered _ e)
   costed (usage n e) ask P is told fits = absurd (none_some request (cost ask) n is)
-  costed (unread five cut) ask P is told fits = inr (inl five)
-  costed (refused other r q file e) ask P is told fits =
+  costed (unread asked q five cut) ask P is told fits = inr (inl five)
+  costed (refused other r q file has e) ask P is told fits =
       absurd (not_refused old ask.file P r told (subst (λ asked. RefusesFile old (file_of asked) r) (same_ask request other (cost ask) q is) file))
   costed (written other word q reports due) ask P is told fits = absurd (solve_cost request other ask q is)
   costed (unwritten other Q nodes c rows word q file promise five out) ask P is told fits = inr (inl five)
@@ -359,8 +372,8 @@ module _ (request : Option Request) (old new : Outside) (status : ℕ) where
   misfits : Runs request old new status → (ask : CostRequest) (P : Network) → request ≡ Some (cost ask) → Tells old ask.file P → (Fits P.sizes ask.values → ⊥) → (status ≡ 4) ⊎ IsHindered status
   misfits (no_memory e) ask P is told unfit = inr (hindered _ e)
   misfits (usage n e) ask P is told unfit = absurd (none_some request (cost ask) n is)
-  misfits (unread five cut) ask P is told unfit = inr (inl five)
-  misfits (refused other r q file e) ask P is told unfit =
+  misfits (unread asked q five cut) ask P is told unfit = inr (inl five)
+  misfits (refused other r q file has e) ask P is told unfit =
       absurd (not_refused old ask.file P r told (subst (λ asked. RefusesFile old (file_of asked) r) (same_ask request other (cost ask) q is) file))
   misfits (written other word q reports due) ask P is told unfit = absurd (solve_cost request other ask q is)
   misfits (unwritten other Q nodes c rows word q file promise five out) ask P is told unfit = inr (inl five)
@@ -378,8 +391,8 @@ module _ (request : Option Request) (old new : Outside) (status : ℕ) where
   checks : Runs request old new status → (ask : CheckRequest) (P : Network) (bytes : List ℕ) (c : Certificate) → request ≡ Some (check ask) → Tells old ask.file P → TellsBytes old ask.certificate bytes → Spells c bytes → Good P c → (status ≡ 0) ⊎ IsHindered status
   checks (no_memory e) ask P bytes c is told tells spells good = inr (hindered _ e)
   checks (usage n e) ask P bytes c is told tells spells good = absurd (none_some request (check ask) n is)
-  checks (unread five cut) ask P bytes c is told tells spells good = inr (inl five)
-  checks (refused other r q file e) ask P bytes c is told tells spells good =
+  checks (unread asked q five cut) ask P bytes c is told tells spells good = inr (inl five)
+  checks (refused other r q file has e) ask P bytes c is told tells spells good =
       absurd (not_refused old ask.file P r told (subst (λ asked. RefusesFile old (file_of asked) r) (same_ask request other (check ask) q is) file))
   checks (written other word q reports due) ask P bytes c is told tells spells good = absurd (solve_check request other ask q is)
   checks (unwritten other Q nodes d rows word q file promise five out) ask P bytes c is told tells spells good = inr (inl five)
@@ -394,8 +407,8 @@ module _ (request : Option Request) (old new : Outside) (status : ℕ) where
   refutes : Runs request old new status → (ask : CheckRequest) (P : Network) (bytes : List ℕ) (l : ℕ) (kind : FaultKind) → request ≡ Some (check ask) → Tells old ask.file P → TellsBytes old ask.certificate bytes → Fault P bytes l kind → (status ≡ 7) ⊎ IsHindered status
   refutes (no_memory e) ask P bytes l kind is told tells fails = inr (hindered _ e)
   refutes (usage n e) ask P bytes l kind is told tells fails = absurd (none_some request (check ask) n is)
-  refutes (unread five cut) ask P bytes l kind is told tells fails = inr (inl five)
-  refutes (refused other r q file e) ask P bytes l kind is told tells fails =
+  refutes (unread asked q five cut) ask P bytes l kind is told tells fails = inr (inl five)
+  refutes (refused other r q file has e) ask P bytes l kind is told tells fails =
       absurd (not_refused old ask.file P r told (subst (λ asked. RefusesFile old (file_of asked) r) (same_ask request other (check ask) q is) file))
   refutes (written other word q reports due) ask P bytes l kind is told tells fails = absurd (solve_check request other ask q is)
   refutes (unwritten other Q nodes d rows word q file promise five out) ask P bytes l kind is told tells fails = inr (inl five)
@@ -406,6 +419,25 @@ module _ (request : Option Request) (old new : Outside) (status : ℕ) where
   refutes (costs other Q q file fits e) ask P bytes l kind is told tells fails = absurd (check_cost request ask other is q)
   refutes (wrong_number other Q q file differs e) ask P bytes l kind is told tells fails = absurd (check_cost request ask other is q)
   refutes (wrong_value other Q x q file misfit e) ask P bytes l kind is told tells fails = absurd (check_cost request ask other is q)
+
+  -- no file is being written at the end
+
+  still : (text : List ℕ) (due : ℕ) → EndsSaying old new text due status → old.writing ≡ false → new.writing ≡ false
+  still text due (inl (is, said)) before = said.writing ∙ before
+  still text due (inr (is, cut)) before = cut.writing ∙ before
+
+  pub idle : Runs request old new status → old.writing ≡ false → status ≢ 5 → new.writing ≡ false
+  idle (no_memory e) before other = still _ 6 e before
+  idle (usage n e) before other = still _ 3 e before
+  idle (unread asked q five cut) before other = cut.writing ∙ before
+  idle (refused ask r q file has e) before other = still _ 4 e before
+  idle (written ask word q reports due) before other = reports.written.writing
+  idle (unwritten ask P nodes c rows word q file promise five out) before other = absurd (other five)
+  idle (verified ask P bytes c q file has verifies e) before other = still _ 0 e before
+  idle (disproved ask P bytes l kind q file has fails e) before other = still _ 7 e before
+  idle (costs ask P q file fits e) before other = still _ 0 e before
+  idle (wrong_number ask P q file differs e) before other = still _ 4 e before
+  idle (wrong_value ask P x q file misfit e) before other = still _ 4 e before
 
   pub statuses : Runs request old new status → Statuses request old new status
   statuses run = record {

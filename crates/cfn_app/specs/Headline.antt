@@ -1,5 +1,5 @@
 -- What a run of `solve` promises.
-use Rattle.std.specs.Prelude.{◌≡◌, ◌⊎◌, ◌↔◌, ℕ, ◌<◌, ◌≤◌, List, [], None, IfSome, IsSomeAnd}
+use Rattle.std.specs.Prelude.{◌≡◌, ◌⊎◌, ◌↔◌, ℕ, ◌<◌, ◌≤◌, false, List, [], None, IfSome, IsSomeAnd}
 use Rattle.cfn_model.specs.declared.report.Row.{Row}
 use Rattle.cfn_model.specs.declared.report.ResultWord.{ResultWord}
 use Rattle.cfn_model.specs.declared.report.ResultWord.TheVariants.{Optimum, Nothing, Budget, Memory}
@@ -10,7 +10,7 @@ use Rattle.cfn_model.specs.Text.{IsSpelled, Spells, spelling, report, write_faul
 use Rattle.cfn_desk.specs.Desk.{Rose, SaysPiece, SaysFront, Stores}
 use Rattle.cfn_search.specs.Outcome.{RowsHold}
 use Rattle.cfn_cli.specs.Request.{SolveRequest}
-use Rattle.cfn_app.specs.Outside.{Outside, ReadsFile, IsFront, AtMostAt}
+use Rattle.cfn_app.specs.Outside.{Outside, ReadsFile, AfterFault, IsFront, AtMostAt}
 
 -- The status by the result: 0 an optimum, 1 none below the upper bound, 2 the budget is spent, 6 memory was refused.
 abbrev pub status_of : ResultWord → ℕ
@@ -55,18 +55,28 @@ pub record Promise (P : Network) (budget nodes : ℕ) (c : Certificate) (rows : 
   pub none_below : word ≡ Nothing → (values : List ℕ) → Fits P.sizes values → cost P values ≡ P.upper
 
 -- The certificate was written and the report said: the files changed at one name alone, whose bytes are the
--- certificate's spelling, and the count of faults is as it was.
+-- certificate's spelling; no file is being written any more; and the count of faults is as it was.
 pub record Written (workers : ℕ) (name : List ℕ) (old new : Outside) (nodes : ℕ) (c : Certificate) (rows : List Row) (word : ResultWord) : Type 0 where
   pub file : IfSome old.files (λ before. IsSomeAnd new.files (Stores before name (spelling c)))
+  pub out : new.out ≡ None
+  pub writing : new.writing ≡ false
   pub said : SaysPiece old.said (report workers c rows nodes word) new.said
   pub faults : new.faults ≡ old.faults
 
+-- The certificate was written, and what was said begins its report.
+pub record Unsaid (workers : ℕ) (name : List ℕ) (old new : Outside) (nodes : ℕ) (c : Certificate) (rows : List Row) (word : ResultWord) : Type 0 where
+  pub file : IfSome old.files (λ before. IsSomeAnd new.files (Stores before name (spelling c)))
+  pub out : new.out ≡ None
+  pub writing : new.writing ≡ false
+  pub said : SaysFront old.said (report workers c rows nodes word) new.said
+
 -- Writing or saying failed: a fault was counted; the files changed at no other name; the bytes put begin the
--- certificate's spelling; what was said begins its report, or `error write`.
+-- certificate's spelling. Either the certificate is written, and what was said begins its report, or nothing of the
+-- report was said, and `error write` was, as far as it could be.
 pub record Unwritten (workers : ℕ) (name : List ℕ) (old new : Outside) (nodes : ℕ) (c : Certificate) (rows : List Row) (word : ResultWord) : Type 0 where
   pub files : IfSome old.files (λ before. IsSomeAnd new.files (AtMostAt before name (spelling c)))
   pub put : IfSome old.files (λ _. IfSome new.out (λ out. (out.0 ≡ name) × IsFront out.1 (spelling c)))
-  pub said : SaysFront old.said (report workers c rows nodes word) new.said ⊎ SaysFront old.said write_fault_text new.said
+  pub said : Unsaid workers name old new nodes c rows word ⊎ AfterFault old new write_fault_text
   pub faults : Rose old.faults new.faults
 
 -- A network was read from the file that is asked for and searched, and its certificate and report written: what every

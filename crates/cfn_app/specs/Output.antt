@@ -15,7 +15,7 @@ use Rattle.cfn_report.specs.Texts.{verified_text, refused_text}
 use Rattle.cfn_wcsp.specs.declared.fault.ReadFault.{ReadFault}
 use Rattle.cfn_wcsp.specs.declared.fault.ReadFault.TheVariants.{Refused, Memory}
 use Rattle.cfn_cli.specs.Request.{SolveRequest}
-use Rattle.cfn_app.specs.Outside.{Outside, ReadsFile, RefusesFile, SaysCut, EndsSaying}
+use Rattle.cfn_app.specs.Outside.{Outside, HasFile, ReadsFile, RefusesFile, SaysFault, EndsSaying}
 use Rattle.cfn_app.specs.Headline.{status_of, Promise, Written, Unwritten, Verifies}
 
 -- Written and said with the result's status, or a fault with status 5.
@@ -36,7 +36,7 @@ EndsAt Memory old new status = EndsSaying old new memory_fault_text 6 status
 
 -- How a run ends whose file gives no bytes.
 abbrev pub Unloaded : Outside → Outside → ℕ → Type 0
-Unloaded old new status = ((status ≡ 5) × SaysCut old new read_fault_text) ⊎ EndsSaying old new memory_fault_text 6 status
+Unloaded old new status = ((status ≡ 5) × SaysFault old new read_fault_text) ⊎ EndsSaying old new memory_fault_text 6 status
 
 -- How a run ends whose bytes give no network.
 abbrev pub Unread : List ℕ → Outside → Outside → ℕ → Type 0
@@ -52,6 +52,13 @@ ReadsBytes bytes old new (Err status) = Unread bytes old new status
 abbrev pub NotLoaded : List ℕ → Outside → Outside → ℕ → Type 0
 NotLoaded file old new status =
     Unloaded old new status ⊎ ((refusal : Refusal) × RefusesFile old file refusal × EndsSaying old new (refusal_text refusal) 4 status)
+
+-- How a run ends whose file gives no network, or whose certificate gives no bytes. Only where both were loaded the file
+-- is refused.
+abbrev pub NotBothLoaded : List ℕ → List ℕ → Outside → Outside → ℕ → Type 0
+NotBothLoaded file certificate old new status =
+    Unloaded old new status
+    ⊎ ((refusal : Refusal) × RefusesFile old file refusal × ((bytes : List ℕ) × HasFile old certificate bytes) × EndsSaying old new (refusal_text refusal) 4 status)
 
 -- The network of a file, the outside being as it was; or the status that the run ends with.
 abbrev pub Loads : List ℕ → Outside → Outside → Result Network ℕ → Type 0

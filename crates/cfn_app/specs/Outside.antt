@@ -32,21 +32,39 @@ pub record RefusesFile (old : Outside) (name : List ℕ) (refusal : Refusal) : T
   pub file : HasFile old name bytes
   pub refuses : Refuses bytes refusal
 
--- A text was said, the files are as they were, and no fault was counted.
+-- A text was said, nothing was opened or written, and no fault was counted.
 pub record Says (old new : Outside) (text : List ℕ) : Type 0 where
   pub files : new.files ≡ old.files
+  pub out : new.out ≡ old.out
+  pub writing : new.writing ≡ old.writing
   pub said : SaysPiece old.said text new.said
   pub faults : new.faults ≡ old.faults
 
--- A fault was counted, a front of a text was said, and the files are as they were.
+-- A fault was counted, a front of a text was said, and nothing was opened or written.
 pub record SaysCut (old new : Outside) (text : List ℕ) : Type 0 where
   pub files : new.files ≡ old.files
+  pub out : new.out ≡ old.out
+  pub writing : new.writing ≡ old.writing
   pub said : SaysFront old.said text new.said
   pub faults : Rose old.faults new.faults
 
 -- A run ends with a text and a status, or with 5 where saying the text failed.
 abbrev pub EndsSaying : Outside → Outside → List ℕ → ℕ → ℕ → Type 0
 EndsSaying old new text due status = ((status ≡ due) × Says old new text) ⊎ ((status ≡ 5) × SaysCut old new text)
+
+-- A fault was counted, and the count is `middle` then. Behind it a whole text was said and no more faults were
+-- counted, or a further one was counted and a front of the text was said.
+pub record AfterFault (old new : Outside) (text : List ℕ) : Type 0 where
+  pub middle : ℕ
+  pub fault : Rose old.faults middle
+  pub said : ((new.faults ≡ middle) × SaysPiece old.said text new.said) ⊎ (Rose middle new.faults × SaysFront old.said text new.said)
+
+-- A fault was counted, a text was said of it as far as it could be, and nothing was opened or written.
+pub record SaysFault (old new : Outside) (text : List ℕ) : Type 0 where
+  pub files : new.files ≡ old.files
+  pub out : new.out ≡ old.out
+  pub writing : new.writing ≡ old.writing
+  pub after : AfterFault old new text
 
 -- The first list begins the second.
 abbrev pub IsFront : List ℕ → List ℕ → Type 0

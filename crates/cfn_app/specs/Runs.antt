@@ -12,7 +12,7 @@ use Rattle.cfn_fault.specs.Fault.{Fault}
 use Rattle.cfn_check.specs.Checking.{cost_of}
 use Rattle.cfn_report.specs.Texts.{usage_text, verified_text, refused_text}
 use Rattle.cfn_cli.specs.Request.{Request, solve, check, cost, SolveRequest, CheckRequest, CostRequest}
-use Rattle.cfn_app.specs.Outside.{Outside, HasFile, ReadsFile, RefusesFile, SaysCut, EndsSaying}
+use Rattle.cfn_app.specs.Outside.{Outside, HasFile, ReadsFile, RefusesFile, SaysFault, EndsSaying}
 use Rattle.cfn_app.specs.Headline.{status_of, Promise, Reports, Unwritten, Verifies}
 
 -- The file that a request reads.
@@ -21,16 +21,22 @@ file_of (solve ask) = ask.file
 file_of (check ask) = ask.file
 file_of (cost ask) = ask.file
 
+-- The file that a request loads besides is there: the certificate that is to be judged.
+abbrev pub HasOthers : Outside → Request → Type 0
+HasOthers old (solve ask) = Unit {0}
+HasOthers old (check ask) = (bytes : List ℕ) × HasFile old ask.certificate bytes
+HasOthers old (cost ask) = Unit {0}
+
 -- How a run may end, by what its words ask for.
 pub data Runs (request : Option Request) (old new : Outside) (status : ℕ) : Type 0 where
   -- memory was refused before there was anything to report
   no_memory : EndsSaying old new memory_fault_text 6 status → Runs request old new status
   -- the words are no command
   usage : request ≡ None → EndsSaying old new usage_text 3 status → Runs request old new status
-  -- the file could not be read
-  unread : status ≡ 5 → SaysCut old new read_fault_text → Runs request old new status
-  -- the file is refused
-  refused : (ask : Request) (refusal : Refusal) → request ≡ Some ask → RefusesFile old (file_of ask) refusal → EndsSaying old new (refusal_text refusal) 4 status → Runs request old new status
+  -- a file that is asked for could not be read
+  unread : (ask : Request) → request ≡ Some ask → status ≡ 5 → SaysFault old new read_fault_text → Runs request old new status
+  -- the file is refused, after all that is asked for was loaded
+  refused : (ask : Request) (refusal : Refusal) → request ≡ Some ask → RefusesFile old (file_of ask) refusal → HasOthers old ask → EndsSaying old new (refusal_text refusal) 4 status → Runs request old new status
   -- solved: the certificate is written and the report said
   written : (ask : SolveRequest) (word : ResultWord) → request ≡ Some (solve ask) → Reports ask old new word → status ≡ status_of word → Runs request old new status
   -- solved, and the output failed

@@ -16,7 +16,7 @@ use Rattle.cfn_report.specs.Texts.{usage_text, verified_text, refused_text}
 use Rattle.cfn_cli.specs.Request.{Request, solve, check, cost, SolveRequest, CheckRequest, CostRequest}
 use Rattle.cfn_app.specs.Outside.{Outside, HasFile, ReadsFile, RefusesFile, Says}
 use Rattle.cfn_app.specs.Headline.{Reports, Verifies}
-use Rattle.cfn_app.specs.Runs.{file_of}
+use Rattle.cfn_app.specs.Runs.{file_of, HasOthers}
 
 -- The words ask for `solve`, and a report with this result stands.
 abbrev pub Solved : Option Request → Outside → Outside → ResultWord → Type 0
@@ -39,10 +39,11 @@ abbrev pub Costed : Option Request → Outside → Outside → Type 0
 Costed request old new =
     (ask : CostRequest) × (P : Network) × (request ≡ Some (cost ask)) × ReadsFile old ask.file P × Fits P.sizes ask.values × Says old new (cost_text P.upper (cost_at P ask.values))
 
--- The file was refused, and what is wrong with its first word that fails was said.
+-- The file was refused, after all that is asked for was loaded, and what is wrong with its first word that fails was
+-- said.
 abbrev pub FileRefused : Option Request → Outside → Outside → Type 0
 FileRefused request old new =
-    (ask : Request) × (refusal : Refusal) × (request ≡ Some ask) × RefusesFile old (file_of ask) refusal × Says old new (refusal_text refusal)
+    (ask : Request) × (refusal : Refusal) × (request ≡ Some ask) × RefusesFile old (file_of ask) refusal × HasOthers old ask × Says old new (refusal_text refusal)
 
 -- What is wrong with an assignment, and what is said of it: the number of its values, or the first value out of range.
 abbrev pub Misfits : Network → List ℕ → Outside → Outside → Type 0

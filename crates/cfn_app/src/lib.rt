@@ -1,8 +1,9 @@
 //! The one call that does all that the program does.
 //!
 //! `run` reads the words of the command line, loads and reads the file, and then solves it, writes the certificate and
-//! says the report, or says the cost of an assignment. How it may end is defined in specs/Runs.antt, what each status
-//! says in specs/Statuses.antt, and what a report promises in specs/Headline.antt.
+//! says the report; or judges the certificate that it loaded, and says its bounds or its first line that fails; or says
+//! the cost of an assignment. How it may end is defined in specs/Runs.antt, what each status says in
+//! specs/Statuses.antt, and what a report promises in specs/Headline.antt.
 #![tactic(auto)]
 
 mod checking;

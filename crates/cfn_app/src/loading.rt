@@ -2,7 +2,7 @@
 
 ghost use Rattle.std.specs.Prelude.{◌≡◌, IfErr, IfOk};
 ghost use Rattle.cfn_app.specs.Outside.{HasFile, ReadsFile, outside_of};
-ghost use Rattle.cfn_app.specs.Output.{EndsAt, Loads, NotLoaded, ReadsBytes, Unloaded};
+ghost use Rattle.cfn_app.specs.Output.{EndsAt, Loads, NotBothLoaded, ReadsBytes, Unloaded};
 
 use crate::status::{FAULT, MEMORY, REFUSED, ending};
 use cfn_desk::{Desk, LoadFault};
@@ -32,7 +32,7 @@ pub fn load_both<D: Desk>(
     ensures ok { IfOk result (λ both. ReadsFile (outside_of D.files D.said D.out D.writing D.faults desk.old) name.now both.0
         × HasFile (outside_of D.files D.said D.out D.writing D.faults desk.old) certificate.now both.1.items
         × ((outside_of D.files D.said D.out D.writing D.faults desk.new) ≡ (outside_of D.files D.said D.out D.writing D.faults desk.old))) }
-    ensures err { IfErr result (λ status. NotLoaded name.now (outside_of D.files D.said D.out D.writing D.faults desk.old) (outside_of D.files D.said D.out D.writing D.faults desk.new) status) }
+    ensures err { IfErr result (λ status. NotBothLoaded name.now certificate.now (outside_of D.files D.said D.out D.writing D.faults desk.old) (outside_of D.files D.said D.out D.writing D.faults desk.new) status) }
 {
     let bytes = load_bytes(alloc, name, desk)?;
     let judged = load_bytes(alloc, certificate, desk)?;

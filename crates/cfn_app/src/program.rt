@@ -1,6 +1,6 @@
 //! A whole run, from the words of the command line to the status.
 
-ghost use Rattle.std.specs.Prelude.{◌≡◌, map, false};
+ghost use Rattle.std.specs.Prelude.{◌≡◌, ◌≢◌, map, false};
 ghost use Rattle.cfn_cli.specs.Request.{request_of};
 ghost use Rattle.cfn_app.specs.Outside.{outside_of};
 ghost use Rattle.cfn_app.specs.Runs.{Runs};
@@ -38,6 +38,8 @@ pub fn run<R, D: Desk, G: Gate + Sync>(
     ensures statuses { Statuses (request_of (map (λ w. w.now) words.now))
         (outside_of D.files D.said D.out D.writing D.faults desk.old)
         (outside_of D.files D.said D.out D.writing D.faults desk.new) result }
+    // No file is being written at the end, unless a call of the desk failed.
+    ensures idle { result ≢ 5 → D.writing desk.new ≡ false }
 {
     let _ = rt;
     let _ = gate;

@@ -1,8 +1,8 @@
 use Rattle.std.proofs.Common.{subst}
-use Rattle.cfn_cli.specs.Request.{spoken_check, check}
+use Rattle.cfn_cli.specs.Request.{spoken_check}
 use Rattle.cfn_app.specs.Outside.{outside_of, HasFile, ReadsFile}
-use Rattle.cfn_app.specs.Output.{NotLoaded, SaysCheck}
-use Rattle.cfn_app.proofs.Ends.{runs_checked, runs_unread}
+use Rattle.cfn_app.specs.Output.{NotBothLoaded, SaysCheck}
+use Rattle.cfn_app.proofs.Ends.{runs_checked, runs_unchecked}
 use Rattle.cfn_app.proofs.checking.check_file.Goals as goal
 
 -- src/checking.rt:20:1
@@ -26,5 +26,7 @@ returns-in-Err g c =
     let d = g.D.Desk in
     let old = outside_of d.files d.said d.out d.writing d.faults c.args.desk.now in
     let new = outside_of d.files d.said d.out d.writing d.faults c.load_both.new.desk in
-    runs_unread old new c.in-Err.status (check (spoken_check c.args.ask.now))
-    (subst (λ name. NotLoaded name old new c.in-Err.status) c.as_str.ensures.value c.in-Err.ensures.err)
+    let ask = spoken_check c.args.ask.now in
+    runs_unchecked old new c.in-Err.status ask
+    (subst (λ name. NotBothLoaded name ask.certificate old new c.in-Err.status) c.as_str.ensures.value
+    (subst (λ name. NotBothLoaded c.as_str.result.now name old new c.in-Err.status) c.as_str-2.ensures.value c.in-Err.ensures.err))

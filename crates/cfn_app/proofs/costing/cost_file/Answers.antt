@@ -24,5 +24,5 @@ returns-in-Err g c =
     let d = g.D.Desk in
     let old = outside_of d.files d.said d.out d.writing d.faults c.args.desk.now in
     let new = outside_of d.files d.said d.out d.writing d.faults c.load.new.desk in
-    runs_unread old new c.in-Err.status (cost (spoken_cost c.args.ask.now))
+    runs_unread old new c.in-Err.status (cost (spoken_cost c.args.ask.now)) tt
     (subst (λ name. NotLoaded name old new c.in-Err.status) c.as_str.ensures.value c.in-Err.ensures.network)

@@ -2,7 +2,7 @@ use Rattle.std.proofs.Common.{sym, ap, ◌∙◌, subst, map, Some}
 use Rattle.cfn_cli.specs.Request.{request, request_of}
 use Rattle.cfn_app.specs.Outside.{outside_of}
 use Rattle.cfn_app.specs.Runs.{Runs}
-use Rattle.cfn_app.proofs.Ending.{statuses}
+use Rattle.cfn_app.proofs.Ending.{idle, statuses}
 use Rattle.cfn_app.proofs.program.run.Goals as goal
 
 -- src/program.rt:24:1
@@ -40,3 +40,21 @@ pub returns-in-Ok-Check-clause-statuses : goal.returns-in-Ok-Check-clause-status
 returns-in-Ok-Check-clause-statuses g c =
     let d = g.D.Desk in
     statuses (request_of (map (λ w. w.now) c.args.words.now)) (outside_of d.files d.said d.out d.writing d.faults c.args.desk.now) (outside_of d.files d.said d.out d.writing d.faults c.check_file.new.desk) c.check_file.result (returns-in-Ok-Check-clause-runs g c)
+
+-- src/program.rt:24:1
+pub returns-in-Ok-Solve-clause-idle : goal.returns-in-Ok-Solve-clause-idle
+returns-in-Ok-Solve-clause-idle g c =
+    let d = g.D.Desk in
+    λ other. idle (request_of (map (λ w. w.now) c.args.words.now)) (outside_of d.files d.said d.out d.writing d.faults c.args.desk.now) (outside_of d.files d.said d.out d.writing d.faults c.solve_file.new.desk) c.solve_file.result (returns-in-Ok-Solve-clause-runs g c) c.requires other
+
+-- src/program.rt:24:1
+pub returns-in-Ok-Cost-clause-idle : goal.returns-in-Ok-Cost-clause-idle
+returns-in-Ok-Cost-clause-idle g c =
+    let d = g.D.Desk in
+    λ other. idle (request_of (map (λ w. w.now) c.args.words.now)) (outside_of d.files d.said d.out d.writing d.faults c.args.desk.now) (outside_of d.files d.said d.out d.writing d.faults c.cost_file.new.desk) c.cost_file.result (returns-in-Ok-Cost-clause-runs g c) c.requires other
+
+-- src/program.rt:24:1
+pub returns-in-Ok-Check-clause-idle : goal.returns-in-Ok-Check-clause-idle
+returns-in-Ok-Check-clause-idle g c =
+    let d = g.D.Desk in
+    λ other. idle (request_of (map (λ w. w.now) c.args.words.now)) (outside_of d.files d.said d.out d.writing d.faults c.args.desk.now) (outside_of d.files d.said d.out d.writing d.faults c.check_file.new.desk) c.check_file.result (returns-in-Ok-Check-clause-runs g c) c.requires other
