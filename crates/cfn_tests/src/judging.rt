@@ -403,10 +403,11 @@ fn shifted(network: &Network, words: &[&str]) -> Result<(u32, u32, u32, u64), Ki
     let (f, place, value) = (read(f)?, read(place)?, read(value)?);
     let amount = read_amount(amount)?;
     let function = below(f, network.functions())?;
-    let scope = scope(network, function);
-    let place = below(place, scope.len() as u32)?;
-    let x = scope.get(place as usize).copied().unwrap_or(0);
-    let value = below(value, size(network, x))?;
+    let place = below(place, u32::MAX)?;
+    let Some(x) = scope(network, function).get(place as usize) else {
+        return Err(Kind::Range);
+    };
+    let value = below(value, size(network, *x))?;
     Ok((function, place, value, amount))
 }
 
