@@ -90,7 +90,7 @@ fn draw_word(dice: &mut Dice, word: &str, text: &mut String) -> Result<(), Alloc
         (Some(_), 3) => write!(text, "4294967296"),
         (Some(number), 4 | 5 | 6 | 7) => write!(text, "{}", number.saturating_add(1)),
         (Some(number), _) => write!(text, "{}", number.saturating_sub(1)),
-        (None, _) => text.push_str(WORDS[change as usize]),
+        (None, _) => text.push_str(WORDS.get(change as usize).copied().unwrap_or("")),
     }
 }
 
