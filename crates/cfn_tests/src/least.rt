@@ -77,12 +77,12 @@ fn price(outcome: &Outcome) -> Option<u64> {
 }
 
 /// Budgets, as numbers and as words.
-const BUDGETS: [(u64, &str); 4] = [(0, "0"), (1, "1"), (2, "2"), (AMPLE, "1000000")];
+const BUDGETS: [(u32, &str); 4] = [(0, "0"), (1, "1"), (2, "2"), (1_000_000, "1000000")];
 
 /// What `check` is to say of the certificate of a search.
-fn verdict_of(alloc: Global, file: &str, budget: u64) -> Result<Verdict, Fail> {
+fn verdict_of(alloc: Global, file: &str, budget: u32) -> Result<Verdict, Fail> {
     let network = cfn_wcsp::read(alloc, file.as_bytes())?;
-    let outcome = solve(alloc, &network, budget)?;
+    let outcome = solve(alloc, &network, budget as u64)?;
     Ok(Verdict::Verified {
         lower: outcome.certificate.lower,
         best: price(&outcome),
