@@ -1,5 +1,5 @@
 -- Each action has an answer in every world, and one alone where leaves have numbers of their own.
-use Rattle.std.proofs.Common.{◌≡◌, ℕ, ◌+◌, ◌<◌, ◌≤◌, ◌⊎◌, inl, inr, List, [], ◌∷◌, length, refl, sym, ap, ap₂, ◌∙◌, subst, arith, Option, Some, None, MatchOption}
+use Rattle.std.proofs.Common.{◌≡◌, ℕ, zero, suc, ◌+◌, ◌<◌, ◌≤◌, ◌⊎◌, inl, inr, List, [], ◌∷◌, length, refl, sym, ap, ap₂, ◌∙◌, subst, arith, Option, Some, None, MatchOption, slice_index_or}
 use Rattle.std.proofs.lemmas.Bool.{cases_lt, cases_eq}
 use Rattle.cfn_model.specs.declared.step.Event.{Event}
 use Rattle.cfn_model.specs.declared.step.Event.TheVariants.{Is, IsNot}
@@ -8,8 +8,8 @@ use Rattle.cfn_model.specs.Steps.{after}
 use Rattle.cfn_model.specs.Tree.{open_leaves}
 use Rattle.cfn_core.specs.Pool.{Mark, Free, Out, PoolTree, Leaf, Shut, Fork, tree_of, IsLeaf, Replaced, granted, numbered, Task, Piece}
 use Rattle.cfn_core.specs.World.{World, view_at, note_at, opening}
-use Rattle.cfn_core.specs.Actions.{Action, Runs, Look, Lower, Note, Meet, Take, Give, Back, Recall, Sweep, Reply, Idle, Given, Empty, Spent, Again, Gone, NotOut, Done, Answers, CanTake, task_for, taken, Takes, take_idle, take_empty, take_spent, take_again, take_task, given, Gives, give_idle, give_gone, give_done, returned, Returns, back_not, back_done}
-use Rattle.cfn_core.specs.Laws.{leaves_with, IsHanded, AnswersAll, AnswersOnce, RunsAll, RunsOnce}
+use Rattle.cfn_core.specs.Actions.{Action, Runs, Look, Lower, Note, Meet, Take, Give, Back, Recall, Sweep, Reply, Idle, Given, Empty, Spent, Again, Gone, NotOut, Done, Answers, IsThere, CanTake, CanGive, task_for, taken, Takes, take_idle, take_empty, take_spent, take_again, take_task, given, Gives, give_idle, give_gone, give_done, returned, Returns, back_idle, back_not, back_done}
+use Rattle.cfn_core.specs.Laws.{leaves_with, IsHanded, AnswersAll, AnswersOnce, AnswersNobody, RunsAll, RunsOnce}
 use Rattle.cfn_core.proofs.Deciding.{Precedes, find_some, find_this, can_replace, find_first}
 use Rattle.cfn_core.proofs.Handing.{leaf_counts, replaced_leaf, keeps_handed, opens_handed}
 
@@ -50,8 +50,17 @@ note_there : (o : Option ℕ) (threshold : ℕ) → MatchOption o ⊥ (λ seen. 
 note_there None threshold = inr (λ h. h)
 note_there (Some seen) threshold = elim (cases_lt threshold seen) [ inl above ↦ inr (λ h. omega arith) | inr upto ↦ inl upto ]
 
+can_or_not : (w : World) (piece : Piece) (note : ℕ) → CanGive w piece note ⊎ (CanGive w piece note → ⊥)
+can_or_not w piece note = elim (cases_lt piece.task.worker (length w.views)) [
+  | inr nobody ↦ inr (λ can. omega (arith, can.0, nobody))
+  | inl there ↦ elim (note_there (note_at w.notes note) piece.threshold) [
+    | inr cannot ↦ inr (λ can. cannot can.1)
+    | inl may ↦ inl (there, may)
+  ]
+]
+
 give_answer : (w : World) (piece : Piece) (note : ℕ) → (r : Reply) × (new : World) × Gives w piece note r new
-give_answer w piece note = elim (note_there (note_at w.notes note) piece.threshold) [
+give_answer w piece note = elim (can_or_not w piece note) [
   | inr cannot ↦ (Idle, w, give_idle cannot just)
   | inl can ↦ elim (find_this w.pool.tree [] piece.task.leaf (Out piece.task.worker piece.task.grant) piece.task.path) [
     | inr gone ↦ (Gone, w, give_gone can gone just)
@@ -62,11 +71,14 @@ give_answer w piece note = elim (note_there (note_at w.notes note) piece.thresho
 ]
 
 back_answer : (w : World) (task : Task) → (r : Reply) × (new : World) × Returns w task r new
-back_answer w task = elim (find_some w.pool.tree [] task.leaf (Out task.worker task.grant)) [
-  | inr never ↦ (NotOut, w, back_not never just)
-  | inl out ↦
-      (let r = can_replace (Leaf task.leaf Free) w.pool.tree [] task.leaf (Out task.worker task.grant) out.0 out.1 in
-      (Done, returned w task r.0, back_done out.0 r.0 r.1 just))
+back_answer w task = elim (cases_lt task.worker (length w.views)) [
+  | inr nobody ↦ (Idle, w, back_idle (λ there. omega (arith, there, nobody)) just)
+  | inl there ↦ elim (find_some w.pool.tree [] task.leaf (Out task.worker task.grant)) [
+    | inr never ↦ (NotOut, w, back_not there never just)
+    | inl out ↦
+        (let r = can_replace (Leaf task.leaf Free) w.pool.tree [] task.leaf (Out task.worker task.grant) out.0 out.1 in
+        (Done, returned w task r.0, back_done out.0 r.0 there r.1 just))
+  ]
 ]
 
 pub answers_all : AnswersAll
@@ -188,12 +200,17 @@ gives_once P w piece note r other new another handed (give_done tree c at a) (gi
     (a.reply ∙ sym b.reply, a.world ∙ ap (given w piece note) trees ∙ sym b.world)
 
 returns_once : (P : Network) (w : World) (task : Task) (r other : Reply) (new another : World) → IsHanded P w → Returns w task r new → Returns w task other another → Same r other new another
-returns_once P w task r other new another handed (back_not h a) (back_not k b) = same a b
-returns_once P w task r other new another handed (back_not h a) (back_done path tree at b) =
+returns_once P w task r other new another handed (back_idle h a) (back_idle k b) = same a b
+returns_once P w task r other new another handed (back_idle h a) (back_not c k b) = absurd (h c)
+returns_once P w task r other new another handed (back_idle h a) (back_done path tree c at b) = absurd (h c)
+returns_once P w task r other new another handed (back_not c h a) (back_idle k b) = absurd (k c)
+returns_once P w task r other new another handed (back_done path tree c at a) (back_idle k b) = absurd (k c)
+returns_once P w task r other new another handed (back_not c h a) (back_not d k b) = same a b
+returns_once P w task r other new another handed (back_not c h a) (back_done path tree d at b) =
     absurd (h path (replaced_leaf task.leaf (Out task.worker task.grant) path (Leaf task.leaf Free) w.pool.tree [] tree at))
-returns_once P w task r other new another handed (back_done path tree at a) (back_not k b) =
+returns_once P w task r other new another handed (back_done path tree c at a) (back_not d k b) =
     absurd (k path (replaced_leaf task.leaf (Out task.worker task.grant) path (Leaf task.leaf Free) w.pool.tree [] tree at))
-returns_once P w task r other new another handed (back_done path tree at a) (back_done path' tree' at' b) =
+returns_once P w task r other new another handed (back_done path tree c at a) (back_done path' tree' d at' b) =
     let mark = Out task.worker task.grant in
     let paths : path' ≡ path = (one_path task.leaf mark mark path' path w.pool.tree [] (handed.different task.leaf)
     (replaced_leaf task.leaf mark path' (Leaf task.leaf Free) w.pool.tree [] tree' at') (replaced_leaf task.leaf mark path (Leaf task.leaf Free) w.pool.tree [] tree at)).1 in
@@ -211,6 +228,45 @@ answers_once P w (Give piece note) r other new another handed a b = gives_once P
 answers_once P w (Back task) r other new another handed a b = returns_once P w task r other new another handed a b
 answers_once P w Recall r other new another handed a b = same a b
 answers_once P w Sweep r other new another handed a b = same a b
+
+-- an action that names a worker that is not there
+none_there : {X : Type 0} (items : List (Option X)) (i : ℕ) → (i < length items → ⊥) → slice_index_or items i None ≡ None
+none_there [] i nobody = refl
+none_there (item ∷ items) zero nobody = absurd (nobody (omega arith))
+none_there (item ∷ items) (suc i) nobody = none_there items i (λ low. nobody (omega (arith, low)))
+
+idle_by_option : {X : Type 0} (o : Option X) (due : X → Reply) (left : X → World) {w new : World} {r : Reply} → o ≡ None →
+    MatchOption o (Answers Idle w r new) (λ x. Answers (due x) (left x) r new) → (r ≡ Idle) × (new ≡ w)
+idle_by_option None due left none a = (a.reply, a.world)
+idle_by_option (Some x) due left none a = absurd (cc)
+
+takes_nobody : (P : Network) (w : World) (worker want : ℕ) (r : Reply) (new : World) → (IsThere w worker → ⊥) → Takes P w worker want r new → (r ≡ Idle) × (new ≡ w)
+takes_nobody P w worker want r new nobody (take_idle h a) = (a.reply, a.world)
+takes_nobody P w worker want r new nobody (take_empty c h a) = absurd (nobody c.0)
+takes_nobody P w worker want r new nobody (take_spent c h i a) = absurd (nobody c.0)
+takes_nobody P w worker want r new nobody (take_again c h i j a) = absurd (nobody c.0)
+takes_nobody P w worker want r new nobody (take_task n path task tree c h i j is at a) = absurd (nobody c.0)
+
+gives_nobody : (w : World) (piece : Piece) (note : ℕ) (r : Reply) (new : World) → (IsThere w piece.task.worker → ⊥) → Gives w piece note r new → (r ≡ Idle) × (new ≡ w)
+gives_nobody w piece note r new nobody (give_idle h a) = (a.reply, a.world)
+gives_nobody w piece note r new nobody (give_gone c h a) = absurd (nobody c.0)
+gives_nobody w piece note r new nobody (give_done tree c at a) = absurd (nobody c.0)
+
+returns_nobody : (w : World) (task : Task) (r : Reply) (new : World) → (IsThere w task.worker → ⊥) → Returns w task r new → (r ≡ Idle) × (new ≡ w)
+returns_nobody w task r new nobody (back_idle h a) = (a.reply, a.world)
+returns_nobody w task r new nobody (back_not c h a) = absurd (nobody c)
+returns_nobody w task r new nobody (back_done path tree c at a) = absurd (nobody c)
+
+pub answers_nobody : AnswersNobody
+answers_nobody P w new (Look i) r nobody a = idle_by_option (view_at w.views i) _ _ (none_there w.views i nobody) a
+answers_nobody P w new (Lower i found) r nobody a = idle_by_option (view_at w.views i) _ _ (none_there w.views i nobody) a
+answers_nobody P w new (Note i) r nobody a = idle_by_option (view_at w.views i) _ _ (none_there w.views i nobody) a
+answers_nobody P w new (Meet i) r nobody a = idle_by_option (view_at w.views i) _ _ (none_there w.views i nobody) a
+answers_nobody P w new (Take i want) r nobody a = takes_nobody P w i want r new nobody a
+answers_nobody P w new (Give piece note) r nobody a = gives_nobody w piece note r new nobody a
+answers_nobody P w new (Back task) r nobody a = returns_nobody w task r new nobody a
+answers_nobody P w new Recall r nobody a = absurd nobody
+answers_nobody P w new Sweep r nobody a = absurd nobody
 
 -- lists of actions
 runs_all_from : (P : Network) (w : World) (actions : List Action) → (replies : List Reply) × (new : World) × Runs P w actions replies new

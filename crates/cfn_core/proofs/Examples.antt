@@ -31,7 +31,7 @@ split_spends P low =
           just,
           (
             w3,
-            give_done (Fork [] 0 0 (Leaf 1 Free) (Leaf 2 Free)) low (refl, refl, refl, refl) just,
+            give_done (Fork [] 0 0 (Leaf 1 Free) (Leaf 2 Free)) (omega arith, low) (refl, refl, refl, refl) just,
             (w3, take_spent (omega arith, omega arith) (omega arith) refl just, refl),
           ),
         ),
@@ -56,7 +56,7 @@ recall_refuses P low =
           (
             w3,
             just,
-            (w3, give_gone low (λ at. (let e = at.1 in cc)) just, refl),
+            (w3, give_gone (omega arith, low) (λ at. (let e = at.1 in cc)) just, refl),
           ),
         ),
       ),

@@ -1,6 +1,7 @@
 -- Numbers of open leaves stay different, and the tasks of the leaves that are out stay in hand.
-use Rattle.std.proofs.Common.{◌≡◌, ◌≢◌, ℕ, ◌+◌, ◌<◌, ◌≤◌, ◌⊎◌, inl, inr, List, [], ◌∷◌, refl, sym, ap, ap₂, ◌∙◌, subst, arith, true, false, Bool, not, nat_le, if◌then◌else◌, ◌==◌, eq-eqb}
+use Rattle.std.proofs.Common.{◌≡◌, ◌≢◌, ℕ, ◌+◌, ◌<◌, ◌≤◌, ◌⊎◌, inl, inr, List, [], ◌∷◌, refl, length, sym, ap, ap₂, ◌∙◌, subst, arith, true, false, Bool, not, nat_le, if◌then◌else◌, ◌==◌, eq-eqb}
 use Rattle.std.proofs.lemmas.Bool.{cases_lt}
+use Rattle.std.proofs.lemmas.List.{length-set}
 use Rattle.cfn_model.specs.declared.step.Event.{Event}
 use Rattle.cfn_model.specs.declared.step.Event.TheVariants.{Is, IsNot}
 use Rattle.cfn_model.specs.Network.{Network}
@@ -9,7 +10,7 @@ use Rattle.cfn_model.specs.Steps.{after}
 use Rattle.cfn_model.specs.Tree.{Tree, Open, Closed, Split, open_leaves}
 use Rattle.cfn_core.specs.Pool.{Mark, Free, Out, PoolTree, Leaf, Shut, Fork, IsLeaf, Replaced, numbered, recalled, swept, Task, Piece}
 use Rattle.cfn_core.specs.World.{World, view_at}
-use Rattle.cfn_core.specs.Actions.{Action, Look, Lower, Note, Meet, Take, Give, Back, Recall, Sweep, Reply, Answers, without, task_for, taken, Takes, take_idle, take_empty, take_spent, take_again, take_task, given, Gives, give_idle, give_gone, give_done, returned, Returns, back_not, back_done, all_back, cleared, Runs}
+use Rattle.cfn_core.specs.Actions.{Action, Look, Lower, Note, Meet, Take, Give, Back, Recall, Sweep, Reply, Answers, CanTake, without, task_for, taken, Takes, take_idle, take_empty, take_spent, take_again, take_task, given, Gives, give_idle, give_gone, give_done, returned, Returns, back_idle, back_not, back_done, all_back, cleared, Runs}
 use Rattle.cfn_core.specs.Laws.{leaves_with, IsInHand, IsHanded, OpensHanded, KeepsHanded}
 use Rattle.cfn_core.proofs.Views.{by_option}
 
@@ -207,9 +208,9 @@ module _ (n : ℕ) where
 
 -- what an action that changes neither tree nor hands keeps
 module _ (P : Network) (w : World) (handed : IsHanded P w) where
-  take_handed : (worker want n : ℕ) (path : List Event) (task : Task) (tree : PoolTree) → task ≡ task_for P w worker want n path →
+  take_handed : (worker want n : ℕ) (path : List Event) (task : Task) (tree : PoolTree) → CanTake w worker want → task ≡ task_for P w worker want n path →
       Replaced w.pool.tree [] n Free path (Leaf n (Out worker task.grant)) tree → IsHanded P (taken w task tree)
-  take_handed worker want n path task tree is at =
+  take_handed worker want n path task tree can is at =
       let place = Leaf n (Out worker task.grant) in
       let numbers : (m : ℕ) → leaves_with m tree ≡ leaves_with m w.pool.tree = λ m. (let e = replaced_numbers n Free path place m w.pool.tree [] tree at in omega (arith, e)) in
       record {
@@ -218,6 +219,10 @@ module _ (P : Network) (w : World) (handed : IsHanded P w) where
         in_hand = λ m k g p leaf. elim (replaced_back n Free path place m (Out k g) p w.pool.tree [] tree at (handed.different n) leaf) [
           | inl here ↦ inl (new_task m k g p here)
           | inr old ↦ inr (handed.in_hand m k g p old.0)
+        ];
+        there = λ other hand. elim hand [
+          | inl same ↦ omega (arith, ap (λ (t : Task). t.worker) same, ap (λ (t : Task). t.worker) is, can.0)
+          | inr old ↦ handed.there other old
         ];
       }
     where
@@ -249,6 +254,7 @@ module _ (P : Network) (w : World) (handed : IsHanded P w) where
           | inl here ↦ absurd (numbered_free piece.tree w.pool.next m piece.task.path k g p here)
           | inr old ↦ without_stays n (record { leaf = m; worker = k; grant = g; floor = floor P p; path = p }) w.hands old.1 (handed.in_hand m k g p old.0)
         ];
+        there = λ other hand. handed.there other (without_back n other w.hands hand).0;
       }
 
   back_handed : (task : Task) (path : List Event) (tree : PoolTree) → Replaced w.pool.tree [] task.leaf (Out task.worker task.grant) path (Leaf task.leaf Free) tree → IsHanded P (returned w task tree)
@@ -263,6 +269,7 @@ module _ (P : Network) (w : World) (handed : IsHanded P w) where
           | inl here ↦ free_not_out here.1
           | inr old ↦ without_stays n (record { leaf = m; worker = k; grant = g; floor = floor P p; path = p }) w.hands old.1 (handed.in_hand m k g p old.0)
         ];
+        there = λ other hand. handed.there other (without_back n other w.hands hand).0;
       }
 
   recall_handed : IsHanded P (all_back w)
@@ -270,6 +277,7 @@ module _ (P : Network) (w : World) (handed : IsHanded P w) where
     different = λ m. omega (arith, recalled_numbers w.pool.tree m, handed.different m);
     fresh = λ m h. omega (arith, recalled_numbers w.pool.tree m, handed.fresh m h);
     in_hand = λ m k g p leaf. absurd (recalled_free w.pool.tree m [] k g p leaf);
+    there = λ other hand. handed.there other hand;
   }
 
   sweep_handed : IsHanded P (cleared P w)
@@ -277,14 +285,16 @@ module _ (P : Network) (w : World) (handed : IsHanded P w) where
     different = λ m. omega (arith, swept_numbers P w.word w.pool.tree m [], handed.different m);
     fresh = λ m h. omega (arith, swept_numbers P w.word w.pool.tree m [], handed.fresh m h);
     in_hand = λ m k g p leaf. handed.in_hand m k g p (swept_back P w.word w.pool.tree m [] k g p leaf);
+    there = λ other hand. handed.there other hand;
   }
 
   -- an action that changes neither the tree nor the hands
-  other_handed : (new : World) → new.pool.tree ≡ w.pool.tree → new.pool.next ≡ w.pool.next → new.hands ≡ w.hands → IsHanded P new
-  other_handed new tree next hands = record {
+  other_handed : (new : World) → new.pool.tree ≡ w.pool.tree → new.pool.next ≡ w.pool.next → new.hands ≡ w.hands → length new.views ≡ length w.views → IsHanded P new
+  other_handed new tree next hands views = record {
     different = λ m. subst (λ t. leaves_with m t ≤ 1) (sym tree) (handed.different m);
     fresh = λ m h. subst (λ t. leaves_with m t ≡ 0) (sym tree) (handed.fresh m (omega (arith, next, h)));
     in_hand = λ m k g p leaf. subst (IsInHand _) (sym hands) (handed.in_hand m k g p (subst (λ t. IsLeaf t [] m (Out k g) p) tree leaf));
+    there = λ other hand. omega (arith, handed.there other (subst (IsInHand other) hands hand), views);
   }
 
 left_as : {P : Network} {due : Reply} {left : World} {r : Reply} {new : World} → IsHanded P left → Answers due left r new → IsHanded P new
@@ -295,7 +305,7 @@ takes_keeps P w new worker want r handed (take_idle h answers) = left_as handed 
 takes_keeps P w new worker want r handed (take_empty c h answers) = left_as handed answers
 takes_keeps P w new worker want r handed (take_spent c h k answers) = left_as handed answers
 takes_keeps P w new worker want r handed (take_again c h k l answers) = left_as handed answers
-takes_keeps P w new worker want r handed (take_task n path task tree c h k l is at answers) = left_as (take_handed P w handed worker want n path task tree is at) answers
+takes_keeps P w new worker want r handed (take_task n path task tree c h k l is at answers) = left_as (take_handed P w handed worker want n path task tree c is at) answers
 
 gives_keeps : (P : Network) (w new : World) (piece : Piece) (note : ℕ) (r : Reply) → IsHanded P w → Gives w piece note r new → IsHanded P new
 gives_keeps P w new piece note r handed (give_idle h answers) = left_as handed answers
@@ -303,14 +313,15 @@ gives_keeps P w new piece note r handed (give_gone h k answers) = left_as handed
 gives_keeps P w new piece note r handed (give_done tree can at answers) = left_as (give_handed P w handed piece note tree at) answers
 
 returns_keeps : (P : Network) (w new : World) (task : Task) (r : Reply) → IsHanded P w → Returns w task r new → IsHanded P new
-returns_keeps P w new task r handed (back_not h answers) = left_as handed answers
-returns_keeps P w new task r handed (back_done path tree at answers) = left_as (back_handed P w handed task path tree at) answers
+returns_keeps P w new task r handed (back_idle h answers) = left_as handed answers
+returns_keeps P w new task r handed (back_not c h answers) = left_as handed answers
+returns_keeps P w new task r handed (back_done path tree c at answers) = left_as (back_handed P w handed task path tree at) answers
 
 pub keeps_handed : KeepsHanded
-keeps_handed P w new (Look i) r handed acts = by_option (view_at w.views i) acts (λ idle. left_as handed idle) (λ view is answers. left_as (other_handed P w handed _ refl refl refl) answers)
-keeps_handed P w new (Lower i found) r handed acts = by_option (view_at w.views i) acts (λ idle. left_as handed idle) (λ view is answers. left_as (other_handed P w handed _ refl refl refl) answers)
-keeps_handed P w new (Note i) r handed acts = by_option (view_at w.views i) acts (λ idle. left_as handed idle) (λ view is answers. left_as (other_handed P w handed _ refl refl refl) answers)
-keeps_handed P w new (Meet i) r handed acts = by_option (view_at w.views i) acts (λ idle. left_as handed idle) (λ view is answers. left_as (other_handed P w handed _ refl refl refl) answers)
+keeps_handed P w new (Look i) r handed acts = by_option (view_at w.views i) acts (λ idle. left_as handed idle) (λ view is answers. left_as (other_handed P w handed _ refl refl refl (length-set w.views i _)) answers)
+keeps_handed P w new (Lower i found) r handed acts = by_option (view_at w.views i) acts (λ idle. left_as handed idle) (λ view is answers. left_as (other_handed P w handed _ refl refl refl (length-set w.views i _)) answers)
+keeps_handed P w new (Note i) r handed acts = by_option (view_at w.views i) acts (λ idle. left_as handed idle) (λ view is answers. left_as (other_handed P w handed _ refl refl refl refl) answers)
+keeps_handed P w new (Meet i) r handed acts = by_option (view_at w.views i) acts (λ idle. left_as handed idle) (λ view is answers. left_as (other_handed P w handed _ refl refl refl (length-set w.views i _)) answers)
 keeps_handed P w new (Take i want) r handed acts = takes_keeps P w new i want r handed acts
 keeps_handed P w new (Give piece note) r handed acts = gives_keeps P w new piece note r handed acts
 keeps_handed P w new (Back task) r handed acts = returns_keeps P w new task r handed acts
@@ -322,6 +333,7 @@ opens_handed P workers budget = record {
   different = λ m. few_by (0 == m);
   fresh = λ m h. none_at 0 m (λ e. omega (arith, e, h));
   in_hand = λ m k g p leaf. free_not_out leaf.1;
+  there = λ task hand. absurd hand;
 }
 
 pub runs_keep : (P : Network) (actions : List Action) (replies : List Reply) (w new : World) → IsHanded P w → Runs P w actions replies new → IsHanded P new

@@ -1,13 +1,11 @@
 -- What a world keeps after an action, in the words of its fields.
-use Rattle.std.proofs.Common.{◌≡◌, ℕ, ◌+◌, ◌*◌, ◌<◌, ◌≤◌, List, [], length, map, inl, inr, sym, ap, ◌∙◌, subst, Option, arith}
+use Rattle.std.proofs.Common.{◌≡◌, ℕ, ◌+◌, ◌*◌, ◌≤◌, List, [], map, inl, inr, sym, ap, ◌∙◌, subst, arith}
 use Rattle.std.proofs.lemmas.Bool.{cases_lt}
-use Rattle.std.proofs.lemmas.List.{length-map}
 use Rattle.std.specs.List.{AllByRecursion}
 use Rattle.cfn_net.specs.Scoring.{Scoring}
 use Rattle.cfn_core.specs.declared.seat.Seat.{Seat}
 use Rattle.cfn_core.specs.declared.world.World.TheInside.{Inside}
-use Rattle.cfn_core.specs.Actions.{Action, Reply, IsAction, Acts, CanTake}
-use Rattle.cfn_core.specs.Pool.{View}
+use Rattle.cfn_core.specs.Actions.{Action, Reply, IsAction, Acts}
 use Rattle.cfn_core.specs.Nodes.{IsListed, pool_tree}
 use Rattle.cfn_core.specs.Finding.{granted_in}
 use Rattle.cfn_core.specs.Machine.{Machine, world_of, found_of, seat_of, IsMachine, IsInside, IsSeatOf}
@@ -43,9 +41,9 @@ viewed m new best best' seats seats' a r is brings acts network budget nodes nex
 pub within : (m : Machine) → IsMachine m → m.spent + granted_in m.nodes ≤ m.budget
 within m is = (let e = granted_is m.network [] (pool_tree m.nodes) in let l = ap granted_in is.listed in omega (arith, is.world.sound.within, e, l))
 
--- a worker that is there and wants something
-pub can_take : (m : Machine) (seats : List Seat) (worker want len : ℕ) → m.views ≡ map seat_of seats → worker < len → len ≡ length seats → (want ≡ 0 → ⊥) → CanTake (world_of m) worker want
-can_take m seats worker want len views there all some = (omega (arith, ap length views, length-map {A = Seat} {B = Option View}, there, all), elim (cases_lt 0 want) [ inl more ↦ omega (arith, more) | inr none ↦ absurd (some (omega (arith, none))) ])
+-- what is not none is some
+pub some : (want : ℕ) → (want ≡ 0 → ⊥) → 1 ≤ want
+some want is = elim (cases_lt 0 want) [ inl more ↦ omega (arith, more) | inr none ↦ absurd (is (omega (arith, none))) ]
 
 -- an action that changes the tree, and not the numbers of its leaves
 pub changed : (m new : Machine) (best : Scoring) (seats : List Seat) (a : Action) (r : Reply) → IsInside m best seats → IsAction m.network a → Left m new a r →

@@ -11,7 +11,7 @@ use Rattle.cfn_model.specs.Tree.{count, Valid, Strict}
 use Rattle.cfn_model.proofs.Lowering.{valid_lower}
 use Rattle.cfn_core.specs.Pool.{Mark, Free, Out, PoolTree, Leaf, Shut, Fork, tree_of, Replaced, grant_of, granted, numbered, recalled, HasSmallCosts, Tame, Task, Piece, IsPiece, View, Pool, IsSound}
 use Rattle.cfn_core.specs.World.{World, price, cheaper, view_at, note_at, least_price, shares_of, KeepsFitting, IsView, HasWordRule, new_view}
-use Rattle.cfn_core.specs.Actions.{Action, Look, Lower, Note, Meet, Take, Give, Back, Recall, Sweep, Reply, Answers, looked, lowered, noted, joined, met, task_for, taken, Takes, take_idle, take_empty, take_spent, take_again, take_task, CanGive, given, Gives, give_idle, give_gone, give_done, returned, Returns, back_not, back_done, all_back, cleared, Runs, AreActions}
+use Rattle.cfn_core.specs.Actions.{Action, Look, Lower, Note, Meet, Take, Give, Back, Recall, Sweep, Reply, Answers, looked, lowered, noted, joined, met, task_for, taken, Takes, take_idle, take_empty, take_spent, take_again, take_task, CanGive, given, Gives, give_idle, give_gone, give_done, returned, Returns, back_idle, back_not, back_done, all_back, cleared, Runs, AreActions}
 use Rattle.cfn_core.specs.Laws.{IsWorld, Opens, Keeps}
 use Rattle.cfn_core.proofs.Placing.{replaced_valid, replaced_strict, replaced_tame, replaced_count, replaced_granted, numbered_is, numbered_granted, recalled_is, recalled_granted, swept_valid, swept_strict, swept_tame, swept_granted, swept_count}
 use Rattle.cfn_core.proofs.Views.{by_option, set_at, behind_at, nothing, same_some, price_low, cheaper_price, cheaper_keeps, least_lowered, least_same, least_met, shares_set, opening_least, opening_shares, opening_view}
@@ -183,7 +183,7 @@ module _ (P : Network) (w : World) (holds : IsWorld P w) where
       let path = piece.task.path in
       let place = numbered w.pool.next piece.tree in
       let same : tree_of place ≡ piece.tree = numbered_is piece.tree w.pool.next is.empty in
-      let low : w.word ≤ piece.threshold = by_option (note_at w.notes note) can (λ n. absurd n) (λ seen there upto. omega (arith, upto, (rule.notes note seen there).0)) in
+      let low : w.word ≤ piece.threshold = by_option (note_at w.notes note) can.1 (λ n. absurd n) (λ seen there upto. omega (arith, upto, (rule.notes note seen there).0)) in
       let piece_valid : Valid P path (tree_of place) w.word = subst (λ t. Valid P path t w.word) (sym same) (valid_lower P path piece.tree piece.threshold w.word low is.valid) in
       record {
         sound = record {
@@ -240,8 +240,9 @@ gives_keeps P w new piece note r is holds (give_gone h k answers) = left_as hold
 gives_keeps P w new piece note r is holds (give_done tree can at answers) = left_as (give_kept P w holds piece note tree is can at) answers
 
 returns_keeps : (P : Network) (w new : World) (task : Task) (r : Reply) → IsWorld P w → Returns w task r new → IsWorld P new
-returns_keeps P w new task r holds (back_not h answers) = left_as holds answers
-returns_keeps P w new task r holds (back_done path tree at answers) = left_as (back_kept P w holds task path tree at) answers
+returns_keeps P w new task r holds (back_idle h answers) = left_as holds answers
+returns_keeps P w new task r holds (back_not c h answers) = left_as holds answers
+returns_keeps P w new task r holds (back_done path tree c at answers) = left_as (back_kept P w holds task path tree at) answers
 
 pub keeps : Keeps
 keeps P w new (Look i) r brings holds acts = by_option (view_at w.views i) acts (λ idle. left_as holds idle) (λ view is answers. left_as (look_kept P w holds i view is) answers)

@@ -10,7 +10,7 @@ use Rattle.cfn_core.specs.declared.node.End.TheVariants.{FreeLeaf, OutLeaf}
 use Rattle.cfn_core.specs.declared.node.Node.{Node}
 use Rattle.cfn_core.specs.declared.finding.First.{First}
 use Rattle.cfn_core.specs.Pool.{Mark, Free, Out, PoolTree, Leaf, IsLeaf, Replaced, tree_of, granted, recalled, swept, Task, IsTask}
-use Rattle.cfn_core.specs.Actions.{Action, Reply, Acts, Take, Back, Recall, Sweep, Given, Empty, Spent, Again, NotOut, Done, CanTake, IsFirst, take_empty, take_spent, take_again, take_task, task_for, back_not, back_done, without}
+use Rattle.cfn_core.specs.Actions.{Action, Reply, Acts, Take, Back, Recall, Sweep, Given, Empty, Spent, Again, NotOut, Done, IsThere, CanTake, IsFirst, take_empty, take_spent, take_again, take_task, task_for, back_not, back_done, without}
 use Rattle.cfn_core.specs.Laws.{IsWorld}
 use Rattle.cfn_core.specs.Nodes.{node, leaf_end, nodes_of, pool_tree, IsListed, recalled_node, swept_node}
 use Rattle.cfn_core.specs.Finding.{no_node, node_at, open_in, granted_in, IsFirstFree, NoneFree, IsAt}
@@ -129,8 +129,8 @@ module _ (m : Machine) (listed : IsListed m.network m.nodes) (worker want : ℕ)
       none p.0 n (omega (arith, ap length listed, p.1)) (ap (λ (e : Node). e.end) here)))) (record { reply = refl; world = refl })
 
 -- a task that is given back
-pub not_out : (m : Machine) (task : Task) → IsListed m.network m.nodes → ((j : ℕ) → IsAt m.nodes j (OutLeaf task.leaf task.worker task.grant) → ⊥) → Acts m.network (world_of m) (Back task) NotOut (world_of m)
-not_out m task listed none = back_not (λ path at.
+pub not_out : (m : Machine) (task : Task) → IsListed m.network m.nodes → IsThere (world_of m) task.worker → ((j : ℕ) → IsAt m.nodes j (OutLeaf task.leaf task.worker task.grant) → ⊥) → Acts m.network (world_of m) (Back task) NotOut (world_of m)
+not_out m task listed there none = back_not there (λ path at.
     (let e = node m.network path [] (OutLeaf task.leaf task.worker task.grant) in
     let p = placed (nodes_of m.network [] (pool_tree m.nodes)) e (has_leaf m.network task.leaf (Out task.worker task.grant) path (pool_tree m.nodes) [] at) in
     let here : node_at m.nodes p.0 ≡ e = ap (λ l. node_at l p.0) listed ∙ p.2 in
@@ -140,14 +140,14 @@ pub record Left (m new : Machine) (a : Action) (r : Reply) : Type 0 where
   pub listed : IsListed m.network new.nodes
   pub acts : Acts m.network (world_of m) a r (world_of new)
 
-pub given_back : (m : Machine) (task : Task) (i : ℕ) (nodes : List Node) (hands : List Task) → IsListed m.network m.nodes → IsAt m.nodes i (OutLeaf task.leaf task.worker task.grant) →
+pub given_back : (m : Machine) (task : Task) (i : ℕ) (nodes : List Node) (hands : List Task) → IsListed m.network m.nodes → IsThere (world_of m) task.worker → IsAt m.nodes i (OutLeaf task.leaf task.worker task.grant) →
     nodes ≡ slice_set m.nodes i (record (node_at m.nodes i) { end = FreeLeaf task.leaf }) → hands ≡ without task.leaf m.hands → Left m (record m { nodes = nodes; hands = hands }) (Back task) Done
-given_back m task i nodes hands listed at set kept =
+given_back m task i nodes hands listed there at set kept =
     let made = marked m.network m.nodes listed i task.leaf (Out task.worker task.grant) at.0 at.1 Free in
     let all : nodes ≡ nodes_of m.network [] made.new = set ∙ made.all in
     record {
       listed = is_listed m.network made.new nodes all;
-      acts = back_done (node_at m.nodes i).path made.new made.replaced (record {
+      acts = back_done (node_at m.nodes i).path made.new there made.replaced (record {
         reply = refl;
         world = ap₂ (λ t h. record (world_of m) { pool = record (world_of m).pool { tree = t }; hands = h }) (tree_read m.network made.new nodes all) kept;
       });

@@ -5,7 +5,7 @@ use Rattle.cfn_model.specs.declared.step.Event.{Event}
 use Rattle.cfn_model.specs.Network.{Network}
 use Rattle.cfn_core.specs.Pool.{Mark, Free, Out, PoolTree, Leaf, IsLeaf, Replaced, numbered, Task, Piece}
 use Rattle.cfn_core.specs.World.{World, view_at, opening}
-use Rattle.cfn_core.specs.Actions.{Action, Look, Lower, Note, Meet, Take, Give, Back, Recall, Sweep, Reply, Idle, Done, Gone, Answers, task_for, taken, Takes, take_idle, take_empty, take_spent, take_again, take_task, given, Gives, give_idle, give_gone, give_done, returned, Returns, back_not, back_done, cleared, IsOut, Acts, Runs}
+use Rattle.cfn_core.specs.Actions.{Action, Look, Lower, Note, Meet, Take, Give, Back, Recall, Sweep, Reply, Idle, Done, Gone, Answers, task_for, taken, Takes, take_idle, take_empty, take_spent, take_again, take_task, given, Gives, give_idle, give_gone, give_done, returned, Returns, back_idle, back_not, back_done, cleared, IsOut, Acts, Runs}
 use Rattle.cfn_core.specs.Laws.{IsInHand, IsNoRecall, NeverGone, AreOut, IsKept, AreKept}
 use Rattle.cfn_core.proofs.Views.{by_option}
 use Rattle.cfn_core.proofs.Handing.{replaced_in, replaced_stays, without_back, swept_stays, free_not_out}
@@ -75,8 +75,9 @@ gives_keeps P w new piece note r out (give_gone h k answers) = left_as out answe
 gives_keeps P w new piece note r out (give_done tree can at answers) = left_as (give_out P w out piece note tree at) answers
 
 returns_keeps : (P : Network) (w new : World) (task : Task) (r : Reply) → AllOut w → Returns w task r new → AllOut new
-returns_keeps P w new task r out (back_not h answers) = left_as out answers
-returns_keeps P w new task r out (back_done path tree at answers) = left_as (back_out P w out task path tree at) answers
+returns_keeps P w new task r out (back_idle h answers) = left_as out answers
+returns_keeps P w new task r out (back_not c h answers) = left_as out answers
+returns_keeps P w new task r out (back_done path tree c at answers) = left_as (back_out P w out task path tree at) answers
 
 keeps_out : (P : Network) (w new : World) (action : Action) (r : Reply) → IsNoRecall action → AllOut w → Acts P w action r new → AllOut new
 keeps_out P w new (Look i) r never out acts = by_option (view_at w.views i) acts (λ idle. left_as out idle) (λ view is answers. left_as (other_out P w out _ refl refl) answers)

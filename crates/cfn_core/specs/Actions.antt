@@ -1,5 +1,5 @@
 -- What the workers do: each action is one atomic step of one of them. An action that may not be done, or that names a
--- worker that is not there, is answered Idle and changes nothing.
+-- worker that is not there, by itself or by its task or piece, is answered Idle and changes nothing.
 use Rattle.std.specs.Prelude.{◌≡◌, ◌≢◌, ℕ, ◌+◌, ◌-◌, ◌<◌, ◌≤◌, ◌⊎◌, min, List, [], ◌∷◌, ◌++◌, length, slice_set, Option, Some, None, MatchOption, filter, not, ◌==◌}
 use Rattle.cfn_model.specs.declared.step.Event.{Event}
 use Rattle.cfn_model.specs.Network.{Network}
@@ -48,6 +48,10 @@ pub record Answers (due : Reply) (left : World) (r : Reply) (new : World) : Type
   pub reply : r ≡ due
   pub world : new ≡ left
 
+-- A worker is there where its number is below that of the views. One whose view was met is there too.
+abbrev pub IsThere : World → ℕ → Type 0
+IsThere w worker = worker < length w.views
+
 -- A worker looks at the word.
 abbrev pub looked : World → ℕ → View → World
 looked w i view = record w { views = slice_set w.views i (Some (record view { seen = w.word })) }
@@ -80,7 +84,7 @@ pub record IsFirst (P : Network) (tree : PoolTree) (n : ℕ) (path : List Event)
   pub first : (m : ℕ) (other : List Event) → IsLeaf tree [] m Free other → (floor P path < floor P other) ⊎ ((floor P path ≡ floor P other) × (n ≤ m))
 
 abbrev pub CanTake : World → ℕ → ℕ → Type 0
-CanTake w worker want = (worker < length w.views) × (1 ≤ want)
+CanTake w worker want = IsThere w worker × (1 ≤ want)
 
 -- The task's grant is what it wants, or what the budget has left.
 abbrev pub task_for : Network → World → ℕ → ℕ → ℕ → List Event → Task
@@ -107,10 +111,10 @@ pub data Takes (P : Network) (w : World) (worker want : ℕ) (r : Reply) (new : 
       Replaced w.pool.tree [] n Free path (Leaf n (Out worker task.grant)) tree →
       Answers (Given task) (taken w task tree) r new → Takes P w worker want r new
 
--- A piece is given: its note is there and has seen at most its threshold. Its leaf has to be out to its worker with its
--- grant, and have its path. The note is heeded, and the pool sees the word.
+-- A piece is given: its worker is there, and its note, which has seen at most its threshold. Its leaf has to be out to
+-- its worker with its grant, and have its path. The note is heeded, and the pool sees the word.
 abbrev pub CanGive : World → Piece → ℕ → Type 0
-CanGive w piece note = MatchOption (note_at w.notes note) ⊥ (λ seen. seen ≤ piece.threshold)
+CanGive w piece note = IsThere w piece.task.worker × MatchOption (note_at w.notes note) ⊥ (λ seen. seen ≤ piece.threshold)
 
 abbrev pub IsOut : World → Task → Type 0
 IsOut w task = IsLeaf w.pool.tree [] task.leaf (Out task.worker task.grant) task.path
@@ -134,13 +138,14 @@ pub data Gives (w : World) (piece : Piece) (note : ℕ) (r : Reply) (new : World
       Replaced w.pool.tree [] piece.task.leaf (Out piece.task.worker piece.task.grant) piece.task.path (numbered w.pool.next piece.tree) tree →
       Answers Done (given w piece note tree) r new → Gives w piece note r new
 
--- A task is given back: its leaf is free again, where it is out to that worker with that grant.
+-- A task is given back: its worker is there, and its leaf is free again, where it is out to that worker with that grant.
 abbrev pub returned : World → Task → PoolTree → World
 returned w task tree = record w { pool = record w.pool { tree = tree }; hands = without task.leaf w.hands }
 
 pub data Returns (w : World) (task : Task) (r : Reply) (new : World) : Type 0 where
-  back_not : ((path : List Event) → IsLeaf w.pool.tree [] task.leaf (Out task.worker task.grant) path → ⊥) → Answers NotOut w r new → Returns w task r new
-  back_done : (path : List Event) (tree : PoolTree) →
+  back_idle : (IsThere w task.worker → ⊥) → Answers Idle w r new → Returns w task r new
+  back_not : IsThere w task.worker → ((path : List Event) → IsLeaf w.pool.tree [] task.leaf (Out task.worker task.grant) path → ⊥) → Answers NotOut w r new → Returns w task r new
+  back_done : (path : List Event) (tree : PoolTree) → IsThere w task.worker →
       Replaced w.pool.tree [] task.leaf (Out task.worker task.grant) path (Leaf task.leaf Free) tree →
       Answers Done (returned w task tree) r new → Returns w task r new
 

@@ -7,7 +7,7 @@ use Rattle.cfn_model.specs.Network.{Network, IsNetwork, Fits, Least, cost}
 use Rattle.cfn_model.specs.Tree.{Valid, bound, open_leaves}
 use Rattle.cfn_core.specs.Pool.{Mark, Free, Out, PoolTree, Leaf, Shut, Fork, tree_of, IsLeaf, leaf_of, Task, IsTask, Piece, IsSound}
 use Rattle.cfn_core.specs.World.{World, HasWordRule, opening}
-use Rattle.cfn_core.specs.Actions.{Action, Look, Lower, Note, Meet, Take, Give, Back, Recall, Sweep, Reply, Given, Gone, IsAction, IsOut, Acts, Runs, AreActions}
+use Rattle.cfn_core.specs.Actions.{Action, Look, Lower, Note, Meet, Take, Give, Back, Recall, Sweep, Reply, Idle, Given, Gone, IsAction, IsThere, IsOut, Acts, Runs, AreActions}
 
 -- The pool is sound, and the word keeps its rule.
 pub record IsWorld (P : Network) (w : World) : Type 0 where
@@ -36,12 +36,14 @@ abbrev pub IsInHand : Task → List Task → Type 0
 IsInHand task [] = ⊥
 IsInHand task (other ∷ hands) = (task ≡ other) ⊎ IsInHand task hands
 
--- Each open leaf has a number of its own, and the task of each leaf that is out is in hand.
+-- Each open leaf has a number of its own, the task of each leaf that is out is in hand, and the worker of each task in
+-- hand is there.
 pub record IsHanded (P : Network) (w : World) : Type 0 where
   pub different : (n : ℕ) → leaves_with n w.pool.tree ≤ 1
   pub fresh : (n : ℕ) → w.pool.next ≤ n → leaves_with n w.pool.tree ≡ 0
   pub in_hand : (n worker grant : ℕ) (path : List Event) → IsLeaf w.pool.tree [] n (Out worker grant) path →
       IsInHand (record { leaf = n; worker = worker; grant = grant; floor = floor P path; path = path }) w.hands
+  pub there : (task : Task) → IsInHand task w.hands → IsThere w task.worker
 
 -- An assignment is covered by its leaf: the leaf is free, or out with its task in hand, or closed and the assignment
 -- costs at least the threshold that the pool has seen.
@@ -61,7 +63,7 @@ KeepsHanded = (P : Network) (w new : World) (action : Action) (r : Reply) → Is
 -- What holds of the world that is left after any list of actions. The pool is sound and the word keeps its rule. Every
 -- assignment is covered by its leaf. The tree is valid at the word, which may be less than what the pool has seen, so its bound
 -- there is at most every cost. The opening's lower bound is at most every cost, and at most the floor of each open leaf.
--- Leaves have numbers of their own, and the task of each leaf that is out is in hand.
+-- Leaves have numbers of their own, the task of each leaf that is out is in hand, and the workers of tasks are there.
 pub record Always (P : Network) (w : World) : Type 0 where
   pub world : IsWorld P w
   pub covered : (values : List ℕ) → Fits P.sizes values → IsCovered P w values (leaf_of values w.pool.tree)
@@ -129,6 +131,21 @@ AnswersAll = (P : Network) (w : World) (action : Action) → (r : Reply) × (new
 
 abbrev pub AnswersOnce : Type 0
 AnswersOnce = (P : Network) (w : World) (action : Action) (r other : Reply) (new another : World) → IsHanded P w → Acts P w action r new → Acts P w action other another → (r ≡ other) × (new ≡ another)
+
+-- An action names a worker that is not there. Then it is answered Idle and changes nothing, whatever else it brings.
+abbrev pub NamesNobody : World → Action → Type 0
+NamesNobody w (Look worker) = IsThere w worker → ⊥
+NamesNobody w (Lower worker found) = IsThere w worker → ⊥
+NamesNobody w (Note worker) = IsThere w worker → ⊥
+NamesNobody w (Meet worker) = IsThere w worker → ⊥
+NamesNobody w (Take worker want) = IsThere w worker → ⊥
+NamesNobody w (Give piece note) = IsThere w piece.task.worker → ⊥
+NamesNobody w (Back task) = IsThere w task.worker → ⊥
+NamesNobody w Recall = ⊥
+NamesNobody w Sweep = ⊥
+
+abbrev pub AnswersNobody : Type 0
+AnswersNobody = (P : Network) (w new : World) (action : Action) (r : Reply) → NamesNobody w action → Acts P w action r new → (r ≡ Idle) × (new ≡ w)
 
 -- So every list of actions from the opening leaves one world, with one list of answers.
 abbrev pub RunsAll : Type 0

@@ -31,7 +31,8 @@ pub enum Action {
 /// The answer to an action.
 #[derive(Drop)]
 pub enum Reply {
-    /// The action may not be done, or names a worker that is not there. Nothing has changed.
+    /// The action may not be done, or names a worker that is not there: its own, or that of its task or piece. Nothing has
+    /// changed.
     Idle,
     /// To a look or a lowering: the word.
     Seen { threshold: u64 },

@@ -25,6 +25,9 @@ impl World<'_> {
         ensures of { IfOk result (IsReplyOf self.old.network) }
         ensures err { OnErr result (self.new ≡ self.old) }
     {
+        if !self.has_worker(piece.task().worker()) {
+            return Ok(Reply::Idle);
+        }
         if !can_heed(self.notes.as_slice(), note, piece.threshold()) {
             return Ok(Reply::Idle);
         }

@@ -1,7 +1,7 @@
 //! What holds of the pool machine, each the contract of a function with nothing to do.
 
 ghost use Rattle.cfn_core.specs.Examples.{SplitSpends, RecallRefuses};
-ghost use Rattle.cfn_core.specs.Laws.{Opens, Keeps, OpensHanded, KeepsHanded, Holds, IsFound, Solves, HandsOutTasks, NeverGone, AnswersAll, AnswersOnce, RunsAll, RunsOnce};
+ghost use Rattle.cfn_core.specs.Laws.{Opens, Keeps, OpensHanded, KeepsHanded, Holds, IsFound, Solves, HandsOutTasks, NeverGone, AnswersAll, AnswersOnce, AnswersNobody, RunsAll, RunsOnce};
 
 /// At the opening the pool is sound and the word keeps its rule, and each action of a worker keeps both.
 pub fn each_action()
@@ -9,8 +9,8 @@ pub fn each_action()
     ensures keeps { Keeps }
 {}
 
-/// Open leaves have numbers of their own, and the task of each leaf that is out is in some worker's hand: at the
-/// opening, and after each action.
+/// Open leaves have numbers of their own, the task of each leaf that is out is in some worker's hand, and the worker of
+/// each task in hand is there: at the opening, and after each action.
 pub fn in_hand()
     ensures opens { OpensHanded }
     ensures keeps { KeepsHanded }
@@ -41,11 +41,13 @@ pub fn never_gone()
     ensures { NeverGone }
 {}
 
-/// Every action has an answer in every world, and where leaves have numbers of their own it has one alone. So each list
-/// of actions from the opening has one list of answers and leaves one world.
+/// Every action has an answer in every world, and where leaves have numbers of their own it has one alone. Where it names
+/// a worker that is not there, that is `Idle`, and nothing changes. So each list of actions from the opening has one list
+/// of answers and leaves one world.
 pub fn one_answer()
     ensures all { AnswersAll }
     ensures once { AnswersOnce }
+    ensures nobody { AnswersNobody }
     ensures runs { RunsAll }
     ensures one_run { RunsOnce }
 {}

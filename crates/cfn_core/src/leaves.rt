@@ -1,8 +1,8 @@
 //! What the workers do with the pool's leaves: they take one, give back what they made of it or the leaf itself, and the
 //! pool calls leaves back and closes them.
 
-ghost use Rattle.std.specs.Prelude.{◌≡◌, ◌≢◌, ◌+◌, ◌-◌, ◌<◌, ◌≤◌, length, map, min, IfOk, OnErr};
-ghost use Rattle.cfn_core.specs.Actions.{Acts, CanTake, Take, Give, Back, Recall, Sweep, without};
+ghost use Rattle.std.specs.Prelude.{◌≡◌, ◌≢◌, ◌↔◌, ◌+◌, ◌-◌, ◌<◌, ◌≤◌, length, map, min, IfOk, OnErr, IsTrue};
+ghost use Rattle.cfn_core.specs.Actions.{Acts, IsThere, CanTake, Take, Give, Back, Recall, Sweep, without};
 ghost use Rattle.cfn_core.specs.Finding.{IsFirstFree, granted_in};
 ghost use Rattle.cfn_core.specs.Machine.{IsReplyOf, reply_of, world_of};
 ghost use Rattle.cfn_core.specs.Values.{piece_of};
@@ -24,7 +24,7 @@ impl World<'_> {
         ensures of { IfOk result (IsReplyOf self.old.network) }
         ensures err { OnErr result (self.new ≡ self.old) }
     {
-        if worker as usize >= self.seats.len() || want == 0 {
+        if !self.has_worker(worker) || want == 0 {
             return Ok(Reply::Idle);
         }
         if !has_open(self.nodes.as_slice()) {
@@ -41,6 +41,13 @@ impl World<'_> {
             Some(first) => self.hand_out(first, worker, want, left),
             None => Ok(Reply::Again),
         }
+    }
+
+    /// Whether a worker is there. One whose view was met is there too.
+    pub(crate) fn has_worker(&self, worker: u32) -> bool
+        ensures { IsTrue result ↔ IsThere (world_of self.now) worker }
+    {
+        (worker as usize) < self.seats.len()
     }
 
     /// How many nodes the budget has left beside those that are made and those that are granted.
@@ -93,6 +100,9 @@ impl World<'_> {
         ensures acts { Acts self.old.network (world_of self.old) (Back task.now.task) (reply_of result) (world_of self.new) }
         ensures of { IsReplyOf self.old.network result }
     {
+        if !self.has_worker(task.worker()) {
+            return Reply::Idle;
+        }
         let number = task.leaf();
         let out = out_end(task);
         let Some(place) = place_of(self.nodes.as_slice(), out) else {

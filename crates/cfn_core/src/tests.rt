@@ -3,6 +3,7 @@
 ghost use Rattle.std.specs.Prelude.{◌≡◌, ◌<◌, ◌^◌, IsTrue, IfOk, IfSome};
 ghost use Rattle.std.specs.List.{AllByRecursion};
 ghost use Rattle.cfn_model.specs.Sums.{is_live, removes};
+ghost use Rattle.cfn_core.specs.Machine.{IsOf};
 ghost use Rattle.cfn_core.specs.Values.{IsTaskOf};
 
 use super::*;
@@ -173,6 +174,46 @@ fn called_back_leaf_is_handed_out_again(rt: HostRuntime) -> Result<(), Fail> {
     assert!(rt; is_free_root(&world));
     let again = task_for(&mut world, 0)?;
     assert!(rt; again.is_some());
+    Ok(())
+}
+
+/// The root's task that the worker 5 takes in a world for 64 workers, if it gets it.
+fn task_elsewhere(alloc: Global, network: &Network) -> Result<Option<Task>, AllocError>
+    ensures { IfOk result (λ taken. IfSome taken (λ task. task.network ≡ network.now)) }
+{
+    let mut many = World::start(alloc, network, 64, 2)?;
+    task_for(&mut many, 5)
+}
+
+/// Whether an action is answered `Idle`.
+fn is_idle(world: &mut World<'_>, action: &Action) -> Result<bool, AllocError>
+    requires { IsOf world.old.network action.now }
+    ensures { world.new.network ≡ world.old.network }
+{
+    Ok(matches!(world.step(action)?, Reply::Idle))
+}
+
+#[test]
+fn task_of_a_worker_that_is_not_there_is_not_given_back(rt: HostRuntime) -> Result<(), Fail> {
+    let alloc = rt.alloc();
+    let network = tri(alloc)?;
+    let mut world = opened(alloc, &network, 2)?;
+    let task = task_elsewhere(alloc, &network)?.ok_or("a task")?;
+    assert!(rt; is_idle(&mut world, &Action::Back { task })?);
+    assert!(rt; is_free_root(&world));
+    Ok(())
+}
+
+#[test]
+fn piece_of_a_worker_that_is_not_there_is_not_given(rt: HostRuntime) -> Result<(), Fail> {
+    let alloc = rt.alloc();
+    let network = tri(alloc)?;
+    let mut world = opened(alloc, &network, 2)?;
+    let task = task_elsewhere(alloc, &network)?.ok_or("a task")?;
+    let piece = halved(alloc, &network, task, 0)?.ok_or("a piece")?;
+    assert!(rt; is_noted(&mut world, 0)?);
+    assert!(rt; is_idle(&mut world, &Action::Give { piece, note: 0 })?);
+    assert!(rt; is_free_root(&world));
     Ok(())
 }
 
