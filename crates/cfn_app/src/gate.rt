@@ -15,6 +15,7 @@ pub enum Point {
 
 /// What a worker calls at each point. It promises nothing.
 pub trait Gate {
+    /// The worker with this number, from 0, passes this point. It may wait there.
     fn pass(&self, worker: u32, point: Point);
 }
 

@@ -4,6 +4,11 @@
 //! says the report; or judges the certificate that it loaded, and says its bounds or its first line that fails; or says
 //! the cost of an assignment. How it may end is defined in specs/Runs.antt, what each status says in
 //! specs/Statuses.antt, and what a report promises in specs/Headline.antt.
+//!
+//! - `program` has `run`, and `solving`, `checking` and `costing` have a command each.
+//! - `loading` goes from the names of files to bytes and a network, `saving` writes a certificate, and `output` writes
+//!   one and says its report. `status` names the statuses.
+//! - A `Gate` is what the workers of a search pass; one works, and passes none.
 #![tactic(auto)]
 
 mod checking;

@@ -8,7 +8,7 @@ ghost use Rattle.cfn_app.specs.Headline.{status_of};
 ghost use Rattle.cfn_app.specs.Output.{PutsOut};
 
 use crate::saving::save;
-use crate::status::{FAULT, ending};
+use crate::status::{BUDGET, DONE, FAULT, MEMORY, NOTHING, ending};
 use cfn_desk::Desk;
 use cfn_model::ResultWord;
 use cfn_report::Report;
@@ -57,9 +57,9 @@ fn status(word: ResultWord) -> u8
     ensures { result ≡ status_of word }
 {
     match word {
-        ResultWord::Optimum => 0,
-        ResultWord::Nothing => 1,
-        ResultWord::Budget => 2,
-        ResultWord::Memory => 6,
+        ResultWord::Optimum => DONE,
+        ResultWord::Nothing => NOTHING,
+        ResultWord::Budget => BUDGET,
+        ResultWord::Memory => MEMORY,
     }
 }

@@ -6,6 +6,10 @@ use cfn_desk::Failed;
 
 /// What was asked for is done.
 pub const DONE: u8 = 0;
+/// No assignment is below the file's upper bound.
+pub const NOTHING: u8 = 1;
+/// The budget of nodes is spent.
+pub const BUDGET: u8 = 2;
 /// The words are no command.
 pub const USAGE: u8 = 3;
 /// The file or an assignment is refused.

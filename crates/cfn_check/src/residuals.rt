@@ -11,6 +11,7 @@ use cfn_net::Network;
 use std::alloc::{AllocError, Global};
 use std::marker::Model;
 
+/// A residual cost and a flag for each tuple of a function, by its cell. It takes 17 bytes a cell.
 #[derive(Drop)]
 pub(crate) struct Residuals {
     costs: Vec<i128>,

@@ -7,7 +7,9 @@
 //! - `laws` says what holds after every list of actions, so whatever the order in which the workers act.
 //!
 //! The tree is a list of its nodes in the order of its text. `finding` reads it, `editing` changes it, and `walk` makes
-//! the nodes of a piece. `word` has the actions on the word, `leaves` and `giving` those on the tree.
+//! the nodes of a piece, with a `trail` of the paths that it has still to go on from. `node` is a node of the list, and
+//! `floor` the floor at the end of a path. `word` has the actions on the word, `leaves` and `giving` those on the tree;
+//! `seat` is what a worker has seen and keeps, and `hands` has the tasks in hand.
 #![tactic(auto)]
 
 mod action;
