@@ -29,6 +29,12 @@ count (Open block) = 0
 count (Closed block) = 1
 count (Split block x a first second) = 1 + (count first + count second)
 
+-- The number of splits.
+abbrev pub splits : Tree → ℕ
+splits (Open block) = 0
+splits (Closed block) = 0
+splits (Split block x a first second) = 1 + (splits first + splits second)
+
 -- The number of open leaves.
 abbrev pub open_leaves : Tree → ℕ
 open_leaves (Open block) = 1
