@@ -1,129 +1,71 @@
-//! The contract of a desk: five calls over five meanings.
+//! The contract of a desk: six calls, and what they leave of the outside.
 
 /// Why a file was not loaded.
 #[derive(Clone, Copy, Debug, PartialEq, Eq)]
 pub enum LoadFault {
-    /// The file could not be read to its end, or is not there. The count of faults rose.
+    /// The file could not be read to its end, or is not there. 
     Failed,
-    /// Memory ran out. That is no fault of the outside, and the count is as it was.
+    /// Memory ran out. That is no fault of the outside.
     Memory,
 }
 
-/// A call on the outside failed, and the count of faults rose.
+/// A call on the outside failed, and stands in the list of calls as one that did.
 #[derive(Clone, Copy, Debug, PartialEq, Eq)]
 pub struct Failed;
 
 /// Named files, one file that is being written, and a place to say text.
 ///
-/// Names and files are bytes. Only `load` takes memory. What a desk tells it goes on telling.
+/// Names and files are bytes. Only `load` takes memory. Every desk tells the calls that were made, with their bytes and
+/// answers; one that tells its files goes on telling them.
 pub trait Desk {
-    ghost use Rattle.std.specs.Prelude.{◌≡◌, ◌≤◌, ℕ, Bool, false, List, [], Option, Some, None, IfSome, IsSome, IsTrue, OnOk, OnErr, is_ok};
-    ghost use Rattle.cfn_desk.specs.Desk.{Files, FailsByFault, LoadFailsByFault, SaysPiece, SaysFront, PutsPiece, PutsFront, StoresOut, StoresOutOrNothing};
+    ghost use Rattle.std.specs.Prelude.{◌≡◌, [], ◌∷◌, OnOk, OnErr, is_ok};
+    ghost use Rattle.cfn_desk.specs.Outside.{Outside, Load, Open, Close, Discard, Idle, HasFile, IsIdle, IsWriting, Stored, StoredOrSame, after, after_put, after_say, answer_of, written};
 
-    /// The named files, where the desk tells them.
-    ghost files: { Self → Option Files };
-
-    /// The bytes said so far, where the desk tells them.
-    ghost said: { Self → Option (List ℕ) };
-
-    /// The name and the bytes of the file being written, where the desk tells them. None where no
-    /// file is being written.
-    ghost out: { Self → Option (List ℕ × List ℕ) };
-
-    /// Whether a file is being written.
-    ghost writing: { Self → Bool };
-
-    /// How many calls failed, up to the last value of a u64.
-    ghost faults: { Self → ℕ };
+    /// The outside as this desk tells it.
+    ghost outside: { Self → Outside };
 
     /// Reads the file of that name into `into`, in place of what it holds. An `Err` empties it.
     fn load(&mut self, name: &str, into: &mut Vec<u8>) -> Result<(), LoadFault>
+        // One call more, with its answer, and nothing else is changed.
+        ensures called { outside self.new
+            ≡ after (Load name.now (answer_of result into.new.items)) (outside self.old) }
         // What was read is the file. A name that is not there gives no Ok.
-        ensures read { OnOk result
-            (IfSome (files self.old) (λ told. told name.now ≡ Some into.new.items)) }
+        ensures read { OnOk result (HasFile (outside self.old) name.now into.new.items) }
         // An error leaves no bytes.
-        ensures emptied { OnErr result (into.new.items ≡ []) }
-        // Failed comes only where the count of faults rose, and any other answer leaves it.
-        ensures cause { LoadFailsByFault result (faults self.old) (faults self.new) }
-        // The count of faults never falls.
-        ensures never_falls { faults self.old ≤ faults self.new }
-        // Nothing else is changed.
-        ensures same_files { files self.new ≡ files self.old }
-        ensures same_said { said self.new ≡ said self.old }
-        ensures same_out { out self.new ≡ out self.old }
-        ensures same_writing { writing self.new ≡ writing self.old };
+        ensures emptied { OnErr result (into.new.items ≡ []) };
 
-    /// Begins a file of that name, with no bytes. An `Err` leaves nothing being written.
+    /// Begins a file of that name, with no bytes: what the name has stays until `close_out`. An `Err` leaves nothing
+    /// being written.
     fn open_out(&mut self, name: &str) -> Result<(), Failed>
-        requires { writing self.old ≡ false }
-        // A file is being written exactly after Ok.
-        ensures opened { writing self.new ≡ is_ok result }
-        // A desk that tells its files tells the file being written.
-        ensures told { OnOk result
-            (IfSome (files self.old) (λ _. out self.new ≡ Some (name.now, []))) }
-        // An error leaves no file to tell.
-        ensures none { OnErr result (out self.new ≡ None) }
-        // Failed comes only where the count of faults rose, and Ok leaves it.
-        ensures cause { FailsByFault result (faults self.old) (faults self.new) }
-        // The count of faults never falls.
-        ensures never_falls { faults self.old ≤ faults self.new }
-        // Nothing else is changed.
-        ensures same_files { files self.new ≡ files self.old }
-        ensures same_said { said self.new ≡ said self.old };
+        requires { IsIdle (outside self.old).calls }
+        ensures called { outside self.new ≡ after (Open name.now (is_ok result)) (outside self.old) };
 
-    /// Puts a piece behind the bytes of the file being written. An `Err` puts some front of it.
+    /// Puts a piece behind the bytes of the file being written. After an `Err` some front of it came there, and the
+    /// file can only be discarded.
     fn put(&mut self, bytes: &[u8]) -> Result<(), Failed>
-        requires { IsTrue (writing self.old) }
-        // Ok puts the whole piece.
-        ensures put { OnOk result (PutsPiece (out self.old) bytes.now (out self.new)) }
-        // An error puts some front of it.
-        ensures cut { OnErr result (PutsFront (out self.old) bytes.now (out self.new)) }
-        // The file is still being written.
-        ensures still_writing { IsTrue (writing self.new) }
-        // Failed comes only where the count of faults rose, and Ok leaves it.
-        ensures cause { FailsByFault result (faults self.old) (faults self.new) }
-        // The count of faults never falls.
-        ensures never_falls { faults self.old ≤ faults self.new }
-        // Nothing else is changed.
-        ensures same_files { files self.new ≡ files self.old }
-        ensures same_said { said self.new ≡ said self.old };
+        requires { IsWriting (outside self.old).calls }
+        ensures called { outside self.new ≡ record (outside self.old) {
+            calls = after_put bytes.now result (outside self.old).calls } };
 
-    /// Ends the file being written: its name has its bytes from then on. An `Err` ends it too, and
-    /// stores it or leaves the files as they were.
+    /// Ends the file being written: its name has its bytes from then on. An `Err` ends it too, and stores it or leaves
+    /// the files as they were.
     fn close_out(&mut self) -> Result<(), Failed>
-        requires { IsTrue (writing self.old) }
+        requires { IsWriting (outside self.old).calls }
+        ensures called { (outside self.new).calls ≡ Close (is_ok result) ∷ (outside self.old).calls }
         // Ok stores the file.
-        ensures stored { OnOk result (StoresOut (files self.old) (out self.old) (files self.new)) }
+        ensures stored { OnOk result (Stored (outside self.old).files
+            (written (outside self.old).calls) (outside self.new).files) }
         // An error stores it or changes nothing.
-        ensures stored_or_same { OnErr result
-            (StoresOutOrNothing (files self.old) (out self.old) (files self.new)) }
-        // A desk that told its files tells them still.
-        ensures still_told { IsSome (files self.old) → IsSome (files self.new) }
-        // Whatever the answer, nothing is being written.
-        ensures ended { writing self.new ≡ false }
-        ensures none { out self.new ≡ None }
-        // Failed comes only where the count of faults rose, and Ok leaves it.
-        ensures cause { FailsByFault result (faults self.old) (faults self.new) }
-        // The count of faults never falls.
-        ensures never_falls { faults self.old ≤ faults self.new }
-        // Nothing else is changed.
-        ensures same_said { said self.new ≡ said self.old };
+        ensures stored_or_same { OnErr result (StoredOrSame (outside self.old).files
+            (written (outside self.old).calls) (outside self.new).files) };
+
+    /// Drops the file being written. The files are as they were.
+    fn discard_out(&mut self)
+        requires { written (outside self.old).calls ≡ Idle → ⊥ }
+        ensures called { outside self.new ≡ after Discard (outside self.old) };
 
     /// Says a piece of text. An `Err` says some front of it.
     fn say(&mut self, bytes: &[u8]) -> Result<(), Failed>
-        // Ok says the whole piece.
-        ensures said { OnOk result (SaysPiece (said self.old) bytes.now (said self.new)) }
-        // An error says some front of it.
-        ensures cut { OnErr result (SaysFront (said self.old) bytes.now (said self.new)) }
-        // Failed comes only where the count of faults rose, and Ok leaves it.
-        ensures cause { FailsByFault result (faults self.old) (faults self.new) }
-        // The count of faults never falls.
-        ensures never_falls { faults self.old ≤ faults self.new }
-        // Nothing else is changed.
-        ensures same_files { files self.new ≡ files self.old }
-        ensures same_out { out self.new ≡ out self.old }
-        ensures same_writing { writing self.new ≡ writing self.old };
-
-    // Where no file is being written, none is told.
-    ghost idle: { (desk : Self) → writing desk ≡ false → out desk ≡ None };
+        ensures called { outside self.new ≡ record (outside self.old) {
+            calls = after_say bytes.now result (outside self.old).calls } };
 }
