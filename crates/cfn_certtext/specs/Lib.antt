@@ -1,7 +1,0 @@
-pub mod Giving
-pub mod Parsed
-pub mod Reading
-pub mod Stages
-pub mod Steps
-pub mod Walk
-pub mod Writing

@@ -1,16 +1,10 @@
--- Words, the parts of a report, and the text that tells how the program is called.
+-- The parts of a report, and the text that tells how the program is called.
 use Rattle.std.specs.Prelude.{ℕ, List, [], ◌∷◌, Option, codes, decimal}
 use Rattle.cfn_model.specs.declared.report.ResultWord.{ResultWord}
 use Rattle.cfn_model.specs.Certificate.{Solution}
 use Rattle.cfn_model.specs.Text.{line, number_or_none, result_word, text, upper_lines}
 use Rattle.cfn_fault.specs.declared.kind.FaultKind.{FaultKind}
 use Rattle.cfn_fault.specs.declared.kind.FaultKind.TheVariants as kinds
-use Rattle.cfn_report.specs.declared.word.Word.{Word}
-use Rattle.cfn_report.specs.declared.word.Word.TheVariants.{Name, Number}
-
-abbrev pub word_text : Word → List ℕ
-word_text (Name name) = name.now
-word_text (Number n) = decimal n
 
 -- What is said of words that are no command: how the program is called.
 abbrev pub usage_text : List ℕ

@@ -2,13 +2,11 @@
 //!
 //! - `write` says a report, and the other functions say a text each. The texts are defined in cfn_model's
 //!   specs/Text.antt, and what `check` says and how the program is called in specs/Texts.antt.
-//! - `line` keeps the words of a line until the line is whole, and then says it in one call.
-//! - `word` has the words that lines are made of.
+//! - `word` is a number that may be missing. Lines of words are written by `cfn_line`.
 //!
-//! No call takes memory.
+//! Each line of at most 4,096 bytes is said by one call. No call takes memory.
 #![tactic(auto)]
 
-mod line;
 mod message;
 mod report;
 mod word;
@@ -18,6 +16,3 @@ pub use message::{
     write_value_fault, write_values_fault, write_verified, write_write_fault,
 };
 pub use report::{Report, write};
-
-#[cfg(test)]
-mod tests;

@@ -5,20 +5,23 @@
 
 ghost use Rattle.std.specs.Prelude.{◌≡◌};
 ghost use Rattle.cfn_model.specs.Text.{allowed_word, cost_text, kind_name, memory_fault_text, read_fault_text, refusal_text, value_fault_text, values_fault_text, write_fault_text};
-ghost use Rattle.cfn_report.specs.Saying.{Says};
-ghost use Rattle.cfn_report.specs.Texts.{fault_name, refused_text, usage_text, verified_text, word_text};
+ghost use Rattle.cfn_line.specs.Appending.{Appends};
+ghost use Rattle.cfn_line.specs.Words.{word_text};
+ghost use Rattle.cfn_line.specs.declared.channel.Channel.TheVariants.{Screen};
+ghost use Rattle.cfn_report.specs.Texts.{fault_name, refused_text, usage_text, verified_text};
 
-use crate::line::say_bytes;
-use crate::word::{Word, say_words, word_of};
+use crate::word::word_of;
 use cfn_desk::{Desk, Failed};
 use cfn_fault::FaultKind;
+use cfn_line::{Channel, Word, send, write_line};
 use cfn_model::{Kind, Refusal};
 
 /// Says that a file is refused: the kind of what is wrong, and the number of the word, from 1. An `Err` has said
 /// some front of it.
 pub fn write_refusal<D: Desk>(refusal: &Refusal, desk: &mut D) -> Result<(), Failed>
-    ensures { Says D.files D.said D.out D.writing D.faults desk.old (refusal_text refusal.now)
-        result desk.new }
+    ensures { Appends Screen (D.outside desk.old)
+        (refusal_text refusal.now)
+        result (D.outside desk.new) }
 {
     let words = [
         Word::Name("error"),
@@ -26,35 +29,40 @@ pub fn write_refusal<D: Desk>(refusal: &Refusal, desk: &mut D) -> Result<(), Fai
         Word::Name("at"),
         Word::Number(refusal.ordinal),
     ];
-    say_words(&words, desk)
+    write_line(Channel::Screen, &words, desk)
 }
 
 /// Says that a file was not read. An `Err` has said some front of it.
 pub fn write_read_fault<D: Desk>(desk: &mut D) -> Result<(), Failed>
-    ensures { Says D.files D.said D.out D.writing D.faults desk.old read_fault_text result desk.new }
+    ensures { Appends Screen (D.outside desk.old)
+        read_fault_text result (D.outside desk.new) }
 {
-    say_bytes(b"error read\n", desk)
+    send(Channel::Screen, b"error read\n", desk)
 }
 
 /// Says that a file was not written. An `Err` has said some front of it.
 pub fn write_write_fault<D: Desk>(desk: &mut D) -> Result<(), Failed>
-    ensures { Says D.files D.said D.out D.writing D.faults desk.old write_fault_text result desk.new }
+    ensures { Appends Screen (D.outside desk.old)
+        write_fault_text result (D.outside desk.new) }
 {
-    say_bytes(b"error write\n", desk)
+    send(Channel::Screen, b"error write\n", desk)
 }
 
 /// Says that memory was refused. An `Err` has said some front of it.
 pub fn write_memory_fault<D: Desk>(desk: &mut D) -> Result<(), Failed>
-    ensures { Says D.files D.said D.out D.writing D.faults desk.old memory_fault_text result desk.new }
+    ensures { Appends Screen (D.outside desk.old)
+        memory_fault_text result (D.outside desk.new) }
 {
-    say_bytes(b"error memory\n", desk)
+    send(Channel::Screen, b"error memory\n", desk)
 }
 
 /// Says that the program was called wrongly, and how it is called. An `Err` has said some front of it.
 pub fn write_usage<D: Desk>(desk: &mut D) -> Result<(), Failed>
-    ensures { Says D.files D.said D.out D.writing D.faults desk.old usage_text result desk.new }
+    ensures { Appends Screen (D.outside desk.old)
+        usage_text result (D.outside desk.new) }
 {
-    say_bytes(
+    send(
+        Channel::Screen,
         b"error usage\nwcspsolve solve FILE CERT [--workers W] [--budget B]\nwcspsolve check FILE CERT\nwcspsolve cost FILE VALUES..\n",
         desk,
     )
@@ -63,17 +71,19 @@ pub fn write_usage<D: Desk>(desk: &mut D) -> Result<(), Failed>
 /// Says the cost of an assignment, and whether it is allowed: an assignment whose cost reaches the upper bound is
 /// forbidden (toulbar2 user manual, wcsp format). An `Err` has said some front of it.
 pub fn write_cost<D: Desk>(upper: u64, cost: u64, desk: &mut D) -> Result<(), Failed>
-    ensures { Says D.files D.said D.out D.writing D.faults desk.old (cost_text upper cost)
-        result desk.new }
+    ensures { Appends Screen (D.outside desk.old)
+        (cost_text upper cost)
+        result (D.outside desk.new) }
 {
     let words = [Word::Name("cost"), Word::Number(cost), allowed(upper, cost)];
-    say_words(&words, desk)
+    write_line(Channel::Screen, &words, desk)
 }
 
 /// Says that an assignment has another number of values than there are variables. An `Err` has said some front of it.
 pub fn write_values_fault<D: Desk>(expected: u64, got: u64, desk: &mut D) -> Result<(), Failed>
-    ensures { Says D.files D.said D.out D.writing D.faults desk.old (values_fault_text expected got)
-        result desk.new }
+    ensures { Appends Screen (D.outside desk.old)
+        (values_fault_text expected got)
+        result (D.outside desk.new) }
 {
     let words = [
         Word::Name("error"),
@@ -83,13 +93,14 @@ pub fn write_values_fault<D: Desk>(expected: u64, got: u64, desk: &mut D) -> Res
         Word::Name("got"),
         Word::Number(got),
     ];
-    say_words(&words, desk)
+    write_line(Channel::Screen, &words, desk)
 }
 
 /// Says that the value of a variable, counted from 0, is not in its domain. An `Err` has said some front of it.
 pub fn write_value_fault<D: Desk>(x: u32, desk: &mut D) -> Result<(), Failed>
-    ensures { Says D.files D.said D.out D.writing D.faults desk.old (value_fault_text x)
-        result desk.new }
+    ensures { Appends Screen (D.outside desk.old)
+        (value_fault_text x)
+        result (D.outside desk.new) }
 {
     let words = [
         Word::Name("error"),
@@ -97,14 +108,15 @@ pub fn write_value_fault<D: Desk>(x: u32, desk: &mut D) -> Result<(), Failed>
         Word::Name("at"),
         Word::Number(u64::from(x)),
     ];
-    say_words(&words, desk)
+    write_line(Channel::Screen, &words, desk)
 }
 
 /// Says that a certificate is good, with its lower bound and the cost of its best assignment, if it has one. An `Err`
 /// has said some front of it.
 pub fn write_verified<D: Desk>(lower: u64, best: Option<u64>, desk: &mut D) -> Result<(), Failed>
-    ensures { Says D.files D.said D.out D.writing D.faults desk.old (verified_text lower best)
-        result desk.new }
+    ensures { Appends Screen (D.outside desk.old)
+        (verified_text lower best)
+        result (D.outside desk.new) }
 {
     let words = [
         Word::Name("verified"),
@@ -113,14 +125,15 @@ pub fn write_verified<D: Desk>(lower: u64, best: Option<u64>, desk: &mut D) -> R
         Word::Name("best"),
         word_of(best),
     ];
-    say_words(&words, desk)
+    write_line(Channel::Screen, &words, desk)
 }
 
 /// Says that a certificate is refused: how its first line that fails does so, and the number of that line, from 1. An
 /// `Err` has said some front of it.
 pub fn write_refused<D: Desk>(kind: FaultKind, line: u64, desk: &mut D) -> Result<(), Failed>
-    ensures { Says D.files D.said D.out D.writing D.faults desk.old (refused_text kind line)
-        result desk.new }
+    ensures { Appends Screen (D.outside desk.old)
+        (refused_text kind line)
+        result (D.outside desk.new) }
 {
     let words = [
         Word::Name("refused"),
@@ -128,7 +141,7 @@ pub fn write_refused<D: Desk>(kind: FaultKind, line: u64, desk: &mut D) -> Resul
         Word::Name("at"),
         Word::Number(line),
     ];
-    say_words(&words, desk)
+    write_line(Channel::Screen, &words, desk)
 }
 
 /// The name of the way in which a certificate's line fails.

@@ -1,6 +1,6 @@
 use Rattle.cfn_model.specs.Text.{row_words}
-use Rattle.cfn_report.proofs.Chain.{go_on, halt}
-use Rattle.cfn_report.proofs.Lines.{text-drop}
+use Rattle.cfn_line.proofs.CallerLemmas.{go_on, halt}
+use Rattle.cfn_line.proofs.CallerLemmas.{text-drop}
 use Rattle.cfn_report.proofs.report.say_rows.Goals as goal
 
 pub returns-in_err-say_row : goal.returns-in_err-say_row

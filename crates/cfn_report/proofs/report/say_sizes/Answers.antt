@@ -1,5 +1,5 @@
 use Rattle.std.proofs.lemmas.List.{append-nil}
-use Rattle.cfn_report.proofs.Chain.{then, stop, respell}
+use Rattle.cfn_line.proofs.CallerLemmas.{then, stop, respell}
 use Rattle.cfn_report.proofs.report.say_sizes.Goals as goal
 
 pub returns-in_err-say_number : goal.returns-in_err-say_number

@@ -1,5 +1,5 @@
 use Rattle.cfn_proof.specs.Certificates.{certificate_of}
-use Rattle.cfn_report.proofs.Chain.{then, stop, respell}
+use Rattle.cfn_line.proofs.CallerLemmas.{then, stop, respell}
 use Rattle.cfn_report.proofs.Lines.{report_parts}
 use Rattle.cfn_report.proofs.report.write.Goals as goal
 

@@ -1,0 +1,15 @@
+//! The writer of certificates.
+//!
+//! `write` puts a certificate into the file that a desk is writing, a word at a time. What its text is, is defined in
+//! cfn_model's specs/Text.antt. `certificate` has the text as a whole, and `nodes` the lines of one node of the tree:
+//! those of its steps, and that of its end. `walk` goes over the nodes of a tree in the order of their lines, with no
+//! recursion.
+//!
+//! No call takes memory. Each word is one put, together with the space or LF behind it.
+#![tactic(auto)]
+
+mod certificate;
+mod nodes;
+mod walk;
+
+pub use certificate::write;

@@ -1,0 +1,21 @@
+//! Texts of words and lines: what the program writes into a file and says on the screen.
+//!
+//! A text goes through a `Channel`, by calls of a desk, and what they leave is one relation, `Appends`, in
+//! specs/Appending.antt: on Ok the whole text was sent, and an `Err` is one call that failed, behind a front of the text.
+//!
+//! - `channel` sends bytes in one call.
+//! - `word` has the words that lines are made of, and `waiting` the bytes of a line that wait for the screen.
+//! - `lines` writes a line of words: into the file each word by one call, together with the space or LF behind it; on
+//!   the screen the line by one call, where it has at most 4,096 bytes.
+//!
+//! No call takes memory. A text's definition, and `line` and `text`, stand in cfn_model's specs/Text.antt.
+#![tactic(auto)]
+
+mod channel;
+mod lines;
+mod waiting;
+mod word;
+
+pub use channel::{Channel, send};
+pub use lines::{write_line, write_list};
+pub use word::Word;

@@ -1,8 +1,0 @@
-use Rattle.cfn_report.proofs.Chain.{add_fail, add_say}
-use Rattle.cfn_report.proofs.word.say_parted_words.Goals as goal
-
-pub returns-in_err-add_words : goal.returns-in_err-add_words
-returns-in_err-add_words g c = add_fail _ c.from_residual.ensures.0 (rw c.new-line.ensures at c.in_err-add_words.ensures)
-
-pub returns : goal.returns
-returns g c = add_say (rw c.new-line.ensures at c.in_ok-add_words.ensures) c.say.ensures.said
