@@ -1,6 +1,6 @@
 -- What reads is a network: each limit is kept by the check of its place.
 use Rattle.std.proofs.Common.{◌≡◌, ℕ, zero, suc, ◌+◌, ◌*◌, ◌<◌, ◌≤◌, ◌⊎◌, inl, inr, min, Bool, true, false, not, ◌&&◌, ◌||◌, cond, List, [], ◌∷◌, ◌++◌, length, map, get_or, Result, Ok, Err, Option, Some, None, ltb, refl, sym, ap, subst, ◌∙◌, arith}
-use Rattle.std.proofs.lemmas.Bool.{cases_Bool, cases_lt, ltb-false, eq-eqb}
+use Rattle.std.proofs.lemmas.Bool.{cases_lt, ltb-false, eq-eqb}
 use Rattle.std.proofs.lemmas.List.{get_or_append_left, get_or_push, length_push, map_push, get_or_past}
 use Rattle.std.proofs.lemmas.List.Folds.{list_any_at}
 use Rattle.std.proofs.lemmas.List.Sums.{sum_by-cons}
@@ -14,9 +14,9 @@ use Rattle.cfn_model.specs.declared.reading.NumberFault.TheVariants as faults
 use Rattle.cfn_model.specs.declared.reading.Kind.{Kind}
 use Rattle.cfn_model.specs.declared.reading.Kind.TheVariants.{NegativeCost, Keyword, VariableOutOfRange, RepeatedVariable, TableTooWide, TooMany}
 use Rattle.cfn_model.specs.declared.reading.Refusal.{Refusal}
-use Rattle.cfn_model.specs.Network.{Function, Network, IsFunction, IsNetwork, cells, dims, last_listed, function_of, no_function}
+use Rattle.cfn_model.specs.Network.{Function, IsFunction, IsNetwork, cells, dims, last_listed, function_of, no_function}
 use Rattle.cfn_model.specs.Words.{is_space, begins_word, with_first, words, IsWord, greatest, is_number, has_minus, magnitude, number_of}
-use Rattle.cfn_model.specs.Reading.{◌>>=◌, At, unless_refused, first_word, word_at, number_in, natural_at, check_variables, check_functions, check_cost, check_size, check_domain, check_arity, check_variable, check_default, check_count, sizes_at, scope_from, listings_at, function_from, functions_from, network_at, Reads}
+use Rattle.cfn_model.specs.Reading.{◌>>=◌, At, unless_refused, first_word, word_at, number_in, natural_at, check_variables, check_functions, check_cost, check_size, check_domain, check_arity, check_variable, check_default, check_count, sizes_at, scope_from, listings_at, function_from, functions_from, network_at}
 use Rattle.cfn_model.specs.Laws.{ReadNetworks}
 
 -- what does not fail, did not fail at its first part
