@@ -9,10 +9,10 @@ use Rattle.cfn_model.specs.Words.{with_first}
 use Rattle.cfn_model.specs.Tree.{Tree, Open, Closed, Split}
 use Rattle.cfn_model.specs.Certificate.{Solution, Certificate}
 use Rattle.cfn_model.specs.Text.{text, step_words, split_words, tree_lines, best_lines, certificate_lines, spelling, IsSpelled}
-use Rattle.cfn_fault.specs.Fault.{lines, line_at, Begins, Makes, LeavesOpen, Closes, Splits}
+use Rattle.cfn_fault.specs.Fault.{lines, line_at, Begins, NoneBeginsWith, TextFault, Makes, LeavesOpen, Closes, Splits}
 use Rattle.cfn_fault.specs.Lines.{Line, Version, Numbers, Lower, Root, Node, End, words_of, bytes_of, text_of, IsSpelledLine, lines_of_tree, lines_of_best, lines_of, State, AtVersion, AtOver, Follows, Runs}
 use Rattle.cfn_fault.specs.Decoding.{line_of}
-use Rattle.cfn_fault.proofs.Running.{same_end, run_split, runs_certificate, spelled_lines, spelled_front, spelled_back}
+use Rattle.cfn_fault.proofs.Running.{same_end, run_split, runs_certificate, spelled_lines, spelled_front, spelled_back, begun}
 use Rattle.cfn_fault.proofs.Decoding.{says}
 use Rattle.cfn_fault.proofs.Bytes.{fronted, same_words, lines_of_text}
 
@@ -114,7 +114,7 @@ seam_bytes (l ∷ ls) tail = seam_bytes ls tail
 -- where no line that may follow stands behind the lines that were read, no certificate begins so
 pub none_begins : (bytes rest : List ℕ) (ls : List Line) (s : State) → Runs AtVersion ls s → AllByRecursion IsSpelledLine ls → bytes ≡ text_of ls ++ rest
     → ((l : Line) (t : State) → IsSpelledLine l → Follows s l t → line_at rest 0 ≡ bytes_of l → ⊥) → (s ≡ AtOver → line_at rest 0 ≡ [] → ⊥)
-    → (c : Certificate) → IsSpelled c → Begins c bytes (length ls + 1) → ⊥
+    → NoneBeginsWith bytes (length ls + 1)
 none_begins bytes rest ls s run spelled is no_line more c all begins =
     let front = front_of_lines c bytes rest ls (length ls + 1) all spelled is (omega arith) begins in
     let P : List Line → Type 0 = λ x. Runs AtVersion x AtOver in
@@ -130,6 +130,15 @@ none_begins bytes rest ls s run spelled is no_line more c all begins =
     by_rest : (more_lines : List Line) → Runs s more_lines AtOver → AllByRecursion IsSpelledLine more_lines → slice_index_or (map bytes_of more_lines) 0 [] ≡ line_at rest 0 → ⊥
     by_rest [] run its here = more run (sym here)
     by_rest (l ∷ others) run its here = no_line l run.0 its.0 run.1 (sym here)
+
+-- behind lines that may come one behind the other the text fails where no certificate begins with one line more
+pub text_fails : (bytes rest : List ℕ) (ls : List Line) (s : State) → Runs AtVersion ls s → AllByRecursion IsSpelledLine ls → bytes ≡ text_of ls ++ rest → NoneBeginsWith bytes (length ls + 1) → TextFault bytes (length ls + 1)
+text_fails bytes rest ls s run spelled is never = record {
+  none = never;
+  some = λ fewer lt.
+    let c = begun ls s run spelled in
+    (c.certificate, c.spelled, λ i below. begins_with c.certificate bytes rest ls c.rest c.spelled c.lines is i (omega arith));
+}
 
 -- the text of one line more
 pub text_append : (ls : List Line) (l : Line) → text_of (ls ++ l ∷ []) ≡ text_of ls ++ bytes_of l

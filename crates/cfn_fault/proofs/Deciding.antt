@@ -28,7 +28,7 @@ use Rattle.cfn_fault.proofs.Judging.{none_pass_yet, one_more_passes}
 use Rattle.cfn_fault.proofs.Faults.{text_faults, line_faults, whole_texts}
 
 -- a claim or its contrary
-abbrev Decided : Type 0 → Type 0
+abbrev pub Decided : Type 0 → Type 0
 Decided A = A ⊎ (A → ⊥)
 
 both : {A B : Type 0} → Decided A → Decided B → Decided (A × B)
@@ -229,20 +229,19 @@ no_end_in [] e = absurd cc
 no_end_in (b ∷ front) e = no_end_in front (and_parts (not (b == 10)) (list_all (λ b. not (b == 10)) (front ++ 10 ∷ [])) e).1
 
 -- the next line, or that none may come
-record Next (rest : List ℕ) (s : State) : Type 0 where
-  line : Line
-  state : State
-  others : List ℕ
-  spelled : IsSpelledLine line
-  follows : Follows s line state
-  whole : rest ≡ bytes_of line ++ others
-  less : length others < length rest
+pub record Next (rest : List ℕ) (s : State) : Type 0 where
+  pub line : Line
+  pub state : State
+  pub others : List ℕ
+  pub spelled : IsSpelledLine line
+  pub follows : Follows s line state
+  pub whole : rest ≡ bytes_of line ++ others
+  pub less : length others < length rest
 
-NoNext : List ℕ → State → Type 0
+abbrev pub NoNext : List ℕ → State → Type 0
 NoNext rest s = (l : Line) (t : State) → IsSpelledLine l → Follows s l t → line_at rest 0 ≡ bytes_of l → ⊥
 
 never_next : (rest : List ℕ) (s : State) → HasNoEnd rest → NoNext rest s
-unfolding NoNext
 never_next [] s inside l t spelled follows is = some_bytes l spelled (sym is)
 never_next (b ∷ rest) s inside l t spelled follows is =
     let f = fronted l spelled in
@@ -251,7 +250,7 @@ never_next (b ∷ rest) s inside l t spelled follows is =
     no_end_in f.front (subst P same inside)
 
 next_by : (rest front others : List ℕ) (s : State) → HasNoEnd front → rest ≡ front ++ 10 ∷ others → Next rest s ⊎ NoNext rest s
-unfolding NoNext Followed
+unfolding Followed
 next_by rest front others s inside is = by_line (line_of (words_in front)) refl
   where
     here : (l : Line) → IsSpelledLine l → line_at rest 0 ≡ bytes_of l → line_of (words_in front) ≡ Some l
@@ -282,7 +281,7 @@ next_by rest front others s inside is = by_line (line_of (words_in front)) refl
           inr (λ l t spelled follows same. let Q : Line → Type 0 = λ x. Follows s x t in never t (subst Q (sym (one_line (sym some ∙ here l spelled same))) follows))
     ]
 
-next : (rest : List ℕ) (s : State) → Next rest s ⊎ NoNext rest s
+pub next : (rest : List ℕ) (s : State) → Next rest s ⊎ NoNext rest s
 next rest s = by_end (ends rest)
   where
     by_end : Ends rest → Next rest s ⊎ NoNext rest s
@@ -302,7 +301,7 @@ whole_judged P bytes ls fronts all =
       | inr le ↦ inl (whole.0, whole.1.spells, whole.1.good le)
     ]
 
-is_over : (s : State) → Decided (s ≡ AtOver)
+pub is_over : (s : State) → Decided (s ≡ AtOver)
 is_over AtVersion = inr (λ e. absurd (cc))
 is_over AtNumbers = inr (λ e. absurd (cc))
 is_over AtLower = inr (λ e. absurd (cc))
@@ -313,11 +312,11 @@ is_over (AtNodes paths) = inr (λ e. absurd (cc))
 is_over AtOver = inl refl
 
 no_text : (P : Network) (bytes rest : List ℕ) (ls : List Line) (s : State) → Fronts bytes rest ls s → AllPass P ls → NoNext rest s → (s ≡ AtOver → line_at rest 0 ≡ [] → ⊥) → Judged P bytes
-unfolding Judged NoNext
+unfolding Judged
 no_text P bytes rest ls s fronts all none more =
     inr (length ls + 1, kinds.Text, text_faults P bytes rest ls s fronts all (none_begins bytes rest ls s fronts.run fronts.spelled fronts.text none more))
 
-one_line_more : (bytes rest : List ℕ) (ls : List Line) (s : State) (next : Next rest s) → Fronts bytes rest ls s → Fronts bytes next.others (ls ++ next.line ∷ []) next.state
+pub one_line_more : (bytes rest : List ℕ) (ls : List Line) (s : State) (next : Next rest s) → Fronts bytes rest ls s → Fronts bytes next.others (ls ++ next.line ∷ []) next.state
 one_line_more bytes rest ls s next fronts = record {
   text = fronts.text ∙ ap (λ r. text_of ls ++ r) next.whole ∙ sym (append_assoc (text_of ls) (bytes_of next.line) next.others) ∙ ap (λ b. b ++ next.others) (sym (text_append ls next.line));
   run = run_one_more AtVersion s next.state ls next.line fronts.run next.follows;

@@ -90,9 +90,9 @@ one_kind_at P c other bytes l a b hc ho begins also f g =
     one_kind P its.front its.state its.line a b (subst T parts.1 (subst S states (subst R parts.0 at.fails))) its.fails
 
 one_kind_of_line : (P : Network) (bytes : List ℕ) (l : ℕ) (a b : FaultKind) → Fails P bytes l a → Fails P bytes l b → a ≡ b
-one_kind_of_line P bytes l a b (AsText is never) (AsText is' never') = is ∙ sym is'
-one_kind_of_line P bytes l a b (AsText is never) (InCertificate c spelled begins fails) = absurd (never c spelled begins)
-one_kind_of_line P bytes l a b (InCertificate c spelled begins fails) (AsText is never) = absurd (never c spelled begins)
+one_kind_of_line P bytes l a b (AsText is fault) (AsText is' fault') = is ∙ sym is'
+one_kind_of_line P bytes l a b (AsText is fault) (InCertificate c spelled begins fails) = absurd (fault.none c spelled begins)
+one_kind_of_line P bytes l a b (InCertificate c spelled begins fails) (AsText is fault) = absurd (fault.none c spelled begins)
 one_kind_of_line P bytes l a b (InCertificate c spelled begins fails) (InCertificate other its also fails') = one_kind_at P c other bytes l a b spelled its begins also fails fails'
 
 pub one_fault : OneFault
@@ -130,10 +130,10 @@ threshold_of_lines c = by_best c.best
 bound_of_lines : (P : Network) (c : Certificate) → bound P [] c.tree (threshold c) ≡ bound_in P (lines_of c)
 bound_of_lines P c = bound_by_lines P c ∙ ap (λ k. lowest k (open_floors P ([] ∷ []) (lines_of c))) (sym (threshold_of_lines c))
 
-spelled_text : (c : Certificate) (bytes : List ℕ) (l : ℕ) → Spells c bytes → Begins c bytes l
+pub spelled_text : (c : Certificate) (bytes : List ℕ) (l : ℕ) → Spells c bytes → Begins c bytes l
 spelled_text c bytes l spells = let R : List ℕ → Type 0 = λ x. Begins c x l in subst R (sym spells.exact) (λ i lt. refl)
 
-front_whole : (c other : Certificate) (bytes : List ℕ) → Spells c bytes → Spells other bytes → lines_of c ≡ lines_of other
+pub front_whole : (c other : Certificate) (bytes : List ℕ) → Spells c bytes → Spells other bytes → lines_of c ≡ lines_of other
 front_whole c other bytes sc so =
     let front = agree (lines_of other) (lines_of c) [] (spelled_lines other so.spelled) (spelled_lines c sc.spelled)
     (λ i lt. ap (λ x. slice_index_or x i []) (sym (lines_of_spelling other so.spelled) ∙ ap lines (sym so.exact ∙ sc.exact) ∙ lines_of_spelling c sc.spelled ∙ sym (append-nil (map bytes_of (lines_of c))))) in
@@ -144,7 +144,7 @@ front_whole c other bytes sc so =
     sym (front.whole ∙ ap (λ x. lines_of c ++ x) over ∙ append-nil (lines_of c))
 
 pub no_fault_where_good : NoFaultWhereGood
-no_fault_where_good P bytes c l kind spells good (First (AsText is never) before) = never c spells.spelled (spelled_text c bytes l spells)
+no_fault_where_good P bytes c l kind spells good (First (AsText is fault) before) = fault.none c spells.spelled (spelled_text c bytes l spells)
 no_fault_where_good P bytes c l kind spells good (First (InCertificate other its also fails) before) =
     let at = fails_at P other l kind fails in
     let front = shared other c bytes l at.front at.line at.back its spells.spelled also (spelled_text c bytes l spells) at.whole at.number in

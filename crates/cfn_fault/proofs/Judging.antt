@@ -13,11 +13,11 @@ use Rattle.cfn_model.specs.Certificate.{Certificate}
 use Rattle.cfn_model.specs.Text.{IsSpelled, spelling}
 use Rattle.cfn_fault.specs.declared.kind.FaultKind.{FaultKind}
 use Rattle.cfn_fault.specs.declared.kind.FaultKind.TheVariants as kinds
-use Rattle.cfn_fault.specs.Fault.{Begins, Item, Makes, LeavesOpen, Closes, Splits, FailsStep, OutOfRange, NotAllowed, FailsPlace, Fails, AsText, InCertificate, Fault, First}
+use Rattle.cfn_fault.specs.Fault.{Begins, NoneBeginsWith, Item, Makes, LeavesOpen, Closes, Splits, FailsStep, OutOfRange, NotAllowed, FailsPlace, Fails, AsText, InCertificate, Fault, First}
 use Rattle.cfn_fault.specs.Lines.{Line, Version, Numbers, Lower, NoBest, Best, Values, Root, Node, End, bytes_of, text_of, IsSpelledLine, lines_of, State, AtVersion, AtNumbers, AtLower, AtBest, AtValues, AtRoot, AtNodes, AtOver, Follows, Runs}
 use Rattle.cfn_fault.specs.Judging.{threshold_in, NodeFails, LineFails, NoneFails, PassesPlace, NodePasses, LinePasses, AllPass}
 use Rattle.cfn_fault.proofs.Running.{same_end, run_split, run_one_more, runs_certificate, spelled_front, nothing_over, told, begun}
-use Rattle.cfn_fault.proofs.Beginning.{spelling_is, front_of_lines, begins_with}
+use Rattle.cfn_fault.proofs.Beginning.{spelling_is, front_of_lines, begins_with, text_fails}
 use Rattle.cfn_fault.proofs.Placing.{fails_at, fails_line}
 
 -- two ways to part a list
@@ -125,9 +125,9 @@ text_append a b = flat_map-append bytes_of a b
 -- no line fails among lines that are right
 pub none_before : (P : Network) (bytes rest : List ℕ) (ls : List Line) (s : State) → Runs AtVersion ls s → AllByRecursion IsSpelledLine ls → bytes ≡ text_of ls ++ rest → NoneFails P ls
     → (l : ℕ) (kind : FaultKind) → l ≤ length ls → Fails P bytes l kind → ⊥
-none_before P bytes rest ls s run spelled is none l kind le (AsText text never) =
+none_before P bytes rest ls s run spelled is none l kind le (AsText text fault) =
     let c = begun ls s run spelled in
-    never c.certificate c.spelled (λ i lt. begins_with c.certificate bytes rest ls c.rest c.spelled c.lines is i (omega arith))
+    fault.none c.certificate c.spelled (λ i lt. begins_with c.certificate bytes rest ls c.rest c.spelled c.lines is i (omega arith))
 none_before P bytes rest ls s run spelled is none l kind le (InCertificate c all begins fails) =
     let at = fails_at P c l kind fails in
     let parts = cut ls l le in
@@ -139,9 +139,9 @@ none_before P bytes rest ls s run spelled is none l kind le (InCertificate c all
 
 -- the first line that fails, by the grammar and by the table
 pub text_fault : (P : Network) (bytes rest : List ℕ) (ls : List Line) (s : State) → Runs AtVersion ls s → AllByRecursion IsSpelledLine ls → bytes ≡ text_of ls ++ rest → NoneFails P ls
-    → ((c : Certificate) → IsSpelled c → Begins c bytes (length ls + 1) → ⊥) → Fault P bytes (length ls + 1) kinds.Text
+    → NoneBeginsWith bytes (length ls + 1) → Fault P bytes (length ls + 1) kinds.Text
 text_fault P bytes rest ls s run spelled is none never =
-    First (AsText refl never) (λ l kind lt fails. none_before P bytes rest ls s run spelled is none l kind (omega arith) fails)
+    First (AsText refl (text_fails bytes rest ls s run spelled is never)) (λ l kind lt fails. none_before P bytes rest ls s run spelled is none l kind (omega arith) fails)
 
 pub line_fault : (P : Network) (bytes rest : List ℕ) (ls : List Line) (s t : State) (l : Line) (kind : FaultKind) → Runs AtVersion ls s → Follows s l t → AllByRecursion IsSpelledLine (ls ++ l ∷ []) → bytes ≡ text_of (ls ++ l ∷ []) ++ rest → NoneFails P ls
     → LineFails P ls s l kind → Fault P bytes (length ls + 1) kind
@@ -155,11 +155,11 @@ line_fault P bytes rest ls s t l kind run follows spelled is none fails =
 
 -- where all lines of a whole text are right, none fails
 pub none_at_all : (P : Network) (bytes : List ℕ) (ls : List Line) → Runs AtVersion ls AtOver → AllByRecursion IsSpelledLine ls → bytes ≡ text_of ls → NoneFails P ls → (l : ℕ) (kind : FaultKind) → Fails P bytes l kind → ⊥
-none_at_all P bytes ls run spelled is none l kind (AsText text never) =
+none_at_all P bytes ls run spelled is none l kind (AsText text fault) =
     let c = told ls run spelled in
     let same : spelling c.certificate ≡ bytes = spelling_is c.certificate ∙ ap text_of (sym c.lines) ∙ sym is in
     let R : List ℕ → Type 0 = λ x. Begins c.certificate x l in
-    never c.certificate c.spelled (subst R same (λ i lt. refl))
+    fault.none c.certificate c.spelled (subst R same (λ i lt. refl))
 none_at_all P bytes ls run spelled is none l kind (InCertificate c all begins fails) =
     elim (cases_lt (length ls) l) [
       | inr le ↦ none_before P bytes [] ls AtOver run spelled (is ∙ sym (append-nil (text_of ls))) none l kind le (InCertificate c all begins fails)

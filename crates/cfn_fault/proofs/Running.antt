@@ -8,6 +8,7 @@ use Rattle.cfn_model.specs.declared.step.Event.TheVariants.{Did, Is, IsNot}
 use Rattle.cfn_model.specs.Steps.{after}
 use Rattle.cfn_model.specs.Tree.{Tree, Open, Closed, Split}
 use Rattle.cfn_model.specs.Certificate.{Solution, Certificate}
+use Rattle.cfn_model.specs.Words.{greatest}
 use Rattle.cfn_model.specs.Text.{IsSpelledStep, IsSpelledTree, IsSpelledBest, IsSpelled}
 use Rattle.cfn_fault.specs.Fault.{Item, Makes, LeavesOpen, Closes, Splits}
 use Rattle.cfn_fault.specs.Lines.{Line, Version, Numbers, Lower, NoBest, Best, Values, Root, Node, End, IsSpelledLine, lines_of_tree, lines_of_best, lines_of, State, AtVersion, AtNumbers, AtLower, AtBest, AtValues, AtRoot, AtNodes, AtOver, paths_after, Follows, VersionFollows, NumbersFollow, LowerFollows, NoBestFollows, BestFollows, ValuesFollow, RootFollows, NodeFollows, EndFollows, Runs}
@@ -242,7 +243,7 @@ from_root : (ls : List Line) → Runs AtRoot ls AtOver → AllByRecursion IsSpel
 from_root [] run spelled = absurd (root_not_over run)
 from_root (l ∷ ls) run spelled = root_by l run.0 ls run.1 run.2 spelled.1
 
-values_by : (cost : ℕ) (l : Line) (m : State) (ls : List Line) → cost ≤ 9223372036854775807 → Follows AtValues l m → Runs m ls AtOver → IsSpelledLine l → AllByRecursion IsSpelledLine ls → FromBest (Best cost ∷ l ∷ ls)
+values_by : (cost : ℕ) (l : Line) (m : State) (ls : List Line) → cost ≤ greatest → Follows AtValues l m → Runs m ls AtOver → IsSpelledLine l → AllByRecursion IsSpelledLine ls → FromBest (Best cost ∷ l ∷ ls)
 unfolding FromBest FromRoot
 values_by cost l m ls one (ValuesFollow {values = values}) run two spelled =
     let root = from_root ls run spelled in
@@ -251,7 +252,7 @@ values_by cost l m ls one (ValuesFollow {values = values}) run two spelled =
 values_not_over : AtValues ≡ AtOver → ⊥
 values_not_over e = absurd cc
 
-from_values : (cost : ℕ) (ls : List Line) → cost ≤ 9223372036854775807 → Runs AtValues ls AtOver → AllByRecursion IsSpelledLine ls → FromBest (Best cost ∷ ls)
+from_values : (cost : ℕ) (ls : List Line) → cost ≤ greatest → Runs AtValues ls AtOver → AllByRecursion IsSpelledLine ls → FromBest (Best cost ∷ ls)
 from_values cost [] one run spelled = absurd (values_not_over run)
 from_values cost (l ∷ ls) one run spelled = values_by cost l run.0 ls one run.1 run.2 spelled.0 spelled.1
 

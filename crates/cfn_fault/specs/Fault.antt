@@ -26,6 +26,16 @@ line_at bytes i = slice_index_or (lines bytes) i []
 abbrev pub Begins : Certificate → List ℕ → ℕ → Type 0
 Begins c bytes l = (i : ℕ) → i < l → line_at (spelling c) i ≡ line_at bytes i
 
+-- No certificate begins with the first l lines of the bytes.
+abbrev pub NoneBeginsWith : List ℕ → ℕ → Type 0
+NoneBeginsWith bytes l = (c : Certificate) → IsSpelled c → Begins c bytes l → ⊥
+
+-- The text alone fails at line l, whatever the network: no certificate begins with the first l lines, and one does with
+-- any fewer.
+pub record TextFault (bytes : List ℕ) (l : ℕ) : Type 0 where
+  pub none : NoneBeginsWith bytes l
+  pub some : (fewer : ℕ) → fewer < l → (c : Certificate) × IsSpelled c × Begins c bytes fewer
+
 -- What a line of a tree says.
 pub data Item : Type 0 where
   Makes : (step : Step) → Item
@@ -89,9 +99,9 @@ pub data FailsLine (P : Network) (c : Certificate) (l : ℕ) (kind : FaultKind) 
   AtPlace : (before behind : List Place) (at : Place) → l ≡ length (head_lines c) + 2 + length before → places [] c.tree ≡ before ++ at ∷ behind
       → FailsPlace P (threshold c) at.history at.item kind → FailsLine P c l kind
 
--- Line l of the bytes fails: no certificate begins with the first l lines, or one does and its line l is wrong.
+-- Line l of the bytes fails: the text does, or a certificate begins with the first l lines and its line l is wrong.
 pub data Fails (P : Network) (bytes : List ℕ) (l : ℕ) (kind : FaultKind) : Type 0 where
-  AsText : kind ≡ kinds.Text → ((c : Certificate) → IsSpelled c → Begins c bytes l → ⊥) → Fails P bytes l kind
+  AsText : kind ≡ kinds.Text → TextFault bytes l → Fails P bytes l kind
   InCertificate : (c : Certificate) → IsSpelled c → Begins c bytes l → FailsLine P c l kind → Fails P bytes l kind
 
 -- The first line that fails decides. Where none does, the lower bound is judged, on line 3.

@@ -6,9 +6,29 @@ use Rattle.cfn_model.specs.Certificate.{Certificate, Good}
 use Rattle.cfn_model.specs.Text.{IsSpelled, Spells}
 use Rattle.cfn_fault.specs.declared.kind.FaultKind.{FaultKind}
 use Rattle.cfn_fault.specs.declared.kind.FaultKind.TheVariants as kinds
-use Rattle.cfn_fault.specs.Fault.{Begins, Fault}
+use Rattle.cfn_fault.specs.Fault.{Begins, NoneBeginsWith, TextFault, Fault}
 use Rattle.cfn_fault.specs.Lines.{Line, text_of, IsSpelledLine, lines_of, State, AtVersion, AtOver, Runs}
 use Rattle.cfn_fault.specs.Judging.{LineFails, LinePasses, AllPass, lower_in, bound_in}
+
+-- Bytes spell one certificate at most.
+abbrev pub OneCertificate : Type 0
+OneCertificate = (bytes : List ℕ) (c d : Certificate) → Spells c bytes → Spells d bytes → c ≡ d
+
+-- Every text spells a certificate, or the text alone fails at some line.
+abbrev pub SpellsOrTextFault : Type 0
+SpellsOrTextFault = (bytes : List ℕ) → ((c : Certificate) × Spells c bytes) ⊎ ((l : ℕ) × TextFault bytes l)
+
+-- Where the bytes spell a certificate, the text alone does not fail.
+abbrev pub NoTextFaultWhereSpelled : Type 0
+NoTextFaultWhereSpelled = (bytes : List ℕ) (c : Certificate) (l : ℕ) → Spells c bytes → TextFault bytes l → ⊥
+
+-- The text alone fails at one line at most.
+abbrev pub OneTextFault : Type 0
+OneTextFault = (bytes : List ℕ) (l m : ℕ) → TextFault bytes l → TextFault bytes m → l ≡ m
+
+-- A fault of the kind of texts is the text's alone: no other line is said to fail so.
+abbrev pub FaultOfText : Type 0
+FaultOfText = (P : Network) (bytes : List ℕ) (l : ℕ) → Fault P bytes l kinds.Text → TextFault bytes l
 
 -- A text has one fault at most: one line, and one kind.
 abbrev pub OneFault : Type 0
@@ -43,7 +63,7 @@ WholeSpells = (bytes : List ℕ) (ls : List Line) → Fronts bytes [] ls AtOver 
 -- Where the lines in front are right, and no certificate begins with the next one too, that one does not follow the grammar.
 abbrev pub TextFaults : Type 0
 TextFaults = (P : Network) (bytes rest : List ℕ) (ls : List Line) (s : State) → Fronts bytes rest ls s → AllPass P ls
-    → ((c : Certificate) → IsSpelled c → Begins c bytes (length ls + 1) → ⊥) → Fault P bytes (length ls + 1) kinds.Text
+    → NoneBeginsWith bytes (length ls + 1) → Fault P bytes (length ls + 1) kinds.Text
 
 -- Where the lines in front are right, and the next one fails behind them, it is the fault.
 abbrev pub LineFaults : Type 0

@@ -1,6 +1,16 @@
 //! What follows from the definitions, each the contract of a function with nothing to do.
 
-ghost use Rattle.cfn_fault.specs.Laws.{AllBegin, GoodOrFault, LineFaults, NoFaultWhereGood, OneFault, OneMorePasses, SomeBegins, TextFaults, WholeSpells, WholeTexts};
+ghost use Rattle.cfn_fault.specs.Laws.{AllBegin, FaultOfText, GoodOrFault, LineFaults, NoFaultWhereGood, NoTextFaultWhereSpelled, OneCertificate, OneFault, OneMorePasses, OneTextFault, SomeBegins, SpellsOrTextFault, TextFaults, WholeSpells, WholeTexts};
+
+/// For all bytes exactly one holds, whatever the network: they spell a certificate, and one alone, or the text fails at
+/// one line. A fault of the kind of texts is that one.
+pub fn texts()
+    ensures one { OneCertificate }
+    ensures some { SpellsOrTextFault }
+    ensures not_both { NoTextFaultWhereSpelled }
+    ensures one_line { OneTextFault }
+    ensures kind { FaultOfText }
+{}
 
 /// For every network and all bytes exactly one holds: the bytes spell a good certificate, or they have a fault, at one
 /// line and of one kind.

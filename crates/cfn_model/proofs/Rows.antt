@@ -2,25 +2,25 @@
 use Rattle.std.proofs.Common.{◌≡◌, ℕ, suc, List, [], ◌∷◌, refl, arith, lit<, lit≤, inl}
 use Rattle.std.proofs.lemmas.Int.{ints}
 use Rattle.std.specs.Fmt.{digits}
-use Rattle.std.specs.Prelude.{codes, Some, None, pos, ◌≤ℤ◌, ◌≤◌, zero}
+use Rattle.std.specs.Prelude.{codes, Some, None, pos, ◌≤ℤ◌, ◌≤◌, ◌<◌, zero}
 use Rattle.cfn_model.specs.declared.step.Step.TheVariants.{Project, Lift}
 use Rattle.cfn_model.specs.declared.step.Event.TheVariants.{Did}
 use Rattle.cfn_model.specs.declared.step.Event.{Event}
 use Rattle.cfn_model.specs.declared.step.Step.{Step}
-use Rattle.cfn_model.specs.declared.reading.Kind.TheVariants.{Short, NotNumber, TooLarge, IntervalDomain, Keyword, RepeatedVariable, TableTooWide}
-use Rattle.cfn_model.specs.Network.{Function, Network, cost}
+use Rattle.cfn_model.specs.declared.reading.Kind.TheVariants.{Short, NotNumber, TooLarge, NoVariables, NegativeCount, EmptyDomain, IntervalDomain, DomainTooLarge, NegativeCost, Keyword, SharedTable, VariableOutOfRange, RepeatedVariable, ValueOutOfRange, TableTooWide, TooMany}
+use Rattle.cfn_model.specs.Network.{Function, Network, Fits, Least, cost}
 use Rattle.cfn_model.specs.Sums.{floor, unary, residual}
 use Rattle.cfn_model.specs.Steps.{CanProject, CanLift}
 use Rattle.cfn_model.specs.Tree.{Open, Closed}
 use Rattle.cfn_model.specs.Certificate.{Certificate, Good}
 use Rattle.cfn_model.specs.Text.{spelling}
-use Rattle.cfn_model.specs.Reading.{Reads, Refuses, natural_at, sizes_at, scope_from, tuple_at, listing_at, listings_at, function_from, functions_from, network_at}
+use Rattle.cfn_model.specs.Reading.{Reads, Refuses, check_default, natural_at, sizes_at, scope_from, tuple_at, listing_at, listings_at, function_from, functions_from, network_at}
 
 -- a function as a row of its scope, its default and its entries
-abbrev row : List ℕ → ℕ → List ℕ → Function
+abbrev pub row : List ℕ → ℕ → List ℕ → Function
 row scope default entries = record { scope = scope; default = default; entries = entries }
 
-abbrev tiny : Network
+abbrev pub tiny : Network
 tiny = record { name = codes "tiny"; sizes = 2 ∷ []; upper = 10; functions = row (0 ∷ []) 3 (3 ∷ 1 ∷ []) ∷ [] }
 
 abbrev tiny_file : List ℕ
@@ -30,13 +30,46 @@ pub tiny_reads : Reads tiny_file tiny
 unfolding natural_at sizes_at scope_from tuple_at listing_at listings_at function_from functions_from network_at
 tiny_reads = refl
 
-pub hard_reads : Reads (codes "hard 2 2 1 5\n2 2\n2 0 1 5 0\n") (record { name = codes "hard"; sizes = 2 ∷ 2 ∷ []; upper = 5; functions = row (0 ∷ 1 ∷ []) 5 (5 ∷ 5 ∷ 5 ∷ 5 ∷ []) ∷ [] })
+abbrev hard : Network
+hard = record { name = codes "hard"; sizes = 2 ∷ 2 ∷ []; upper = 5; functions = row (0 ∷ 1 ∷ []) 5 (5 ∷ 5 ∷ 5 ∷ 5 ∷ []) ∷ [] }
+
+pub hard_reads : Reads (codes "hard 2 2 1 5\n2 2\n2 0 1 5 0\n") hard
 unfolding natural_at sizes_at scope_from tuple_at listing_at listings_at function_from functions_from network_at
 hard_reads = refl
 
 pub const_reads : Reads (codes "const 1 2 1 10\n2\n0 4 0\n") (record { name = codes "const"; sizes = 2 ∷ []; upper = 10; functions = row [] 4 (4 ∷ []) ∷ [] })
 unfolding natural_at sizes_at scope_from tuple_at listing_at listings_at function_from functions_from network_at
 const_reads = refl
+
+-- the least cost of tiny is that of value 1; hard has none, since each of its assignments costs the upper bound
+pub tiny_least : Least tiny 1
+tiny_least = record { reached = (1 ∷ [], (lit< tt, tt), refl); below = lit< tt; bound = each }
+  where
+    each : (values : List ℕ) → Fits (2 ∷ []) values → 1 ≤ cost tiny values
+    each [] fits = absurd fits
+    each (zero ∷ []) fits = lit≤ tt
+    each (suc zero ∷ []) fits = lit≤ tt
+    each (suc (suc v) ∷ []) fits = absurd (omega (arith, fits.0))
+    each (v ∷ w ∷ values) fits = absurd fits.1
+
+pub tiny_least_is_not_3 : Least tiny 3 → ⊥
+tiny_least_is_not_3 least = let h : 3 ≤ 1 = least.bound (1 ∷ []) (lit< tt, tt) in absurd (omega arith)
+
+pub tiny_least_is_not_0 : Least tiny 0 → ⊥
+tiny_least_is_not_0 least = each least.reached.0 least.reached.1 least.reached.2
+  where
+    each : (values : List ℕ) → Fits (2 ∷ []) values → cost tiny values ≡ 0 → ⊥
+    each [] fits e = absurd fits
+    each (zero ∷ []) fits e = let h : 3 ≡ 0 = e in absurd (omega arith)
+    each (suc zero ∷ []) fits e = let h : 1 ≡ 0 = e in absurd (omega arith)
+    each (suc (suc v) ∷ []) fits e = absurd (omega (arith, fits.0))
+    each (v ∷ w ∷ values) fits e = absurd fits.1
+
+pub hard_costs : (cost hard (0 ∷ 0 ∷ []) ≡ 5) × (cost hard (1 ∷ 1 ∷ []) ≡ 5)
+hard_costs = (refl, refl)
+
+pub hard_has_no_least : Least hard 5 → ⊥
+hard_has_no_least least = let h : 5 < 5 = least.below in absurd (omega arith)
 
 -- a tuple that is listed twice has the cost of its last listing
 abbrev twice : Network
@@ -50,7 +83,7 @@ pub twice_costs : cost twice (0 ∷ []) ≡ 2
 twice_costs = refl
 
 -- costs add up to at most the upper bound
-abbrev top : Network
+abbrev pub top : Network
 top = record { name = codes "top"; sizes = 1 ∷ []; upper = 9223372036854775807; functions = row (0 ∷ []) 9223372036854775807 (9223372036854775807 ∷ []) ∷ row (0 ∷ []) 9223372036854775807 (9223372036854775807 ∷ []) ∷ [] }
 
 pub top_reads : Reads (codes "top 1 1 2 9223372036854775807\n1\n1 0 9223372036854775807 0\n1 0 9223372036854775807 0\n") top
@@ -61,7 +94,7 @@ pub top_costs : cost top (0 ∷ []) ≡ 9223372036854775807
 top_costs = refl
 
 -- three variables, of which each two should differ
-abbrev tri : Network
+abbrev pub tri : Network
 tri = record { name = codes "tri"; sizes = 2 ∷ 2 ∷ 2 ∷ []; upper = 10; functions = row (0 ∷ 1 ∷ []) 0 (1 ∷ 0 ∷ 0 ∷ 1 ∷ []) ∷ row (0 ∷ 2 ∷ []) 0 (1 ∷ 0 ∷ 0 ∷ 1 ∷ []) ∷ row (1 ∷ 2 ∷ []) 0 (1 ∷ 0 ∷ 0 ∷ 1 ∷ []) ∷ [] }
 
 pub tri_reads : Reads (codes "tri 3 2 3 10\n2 2 2\n2 0 1 0 2\n0 0 1\n1 1 1\n2 0 2 0 2\n0 0 1\n1 1 1\n2 1 2 0 2\n0 0 1\n1 1 1\n") tri
@@ -104,11 +137,95 @@ pub large_refused : Refuses (codes "tiny 1 2 1 9223372036854775808\n2\n1 0 3 1\n
 unfolding natural_at sizes_at scope_from tuple_at listing_at listings_at function_from functions_from network_at
 large_refused = refl
 
+pub no_variables_refused : Refuses (codes "n 0 2 1 10\n") (record { kind = NoVariables; ordinal = 2 })
+unfolding natural_at sizes_at scope_from tuple_at listing_at listings_at function_from functions_from network_at
+no_variables_refused = refl
+
+pub minus_variables_refused : Refuses (codes "n -1 2 1 10\n") (record { kind = NoVariables; ordinal = 2 })
+unfolding natural_at sizes_at scope_from tuple_at listing_at listings_at function_from functions_from network_at
+minus_variables_refused = refl
+
+pub many_variables_refused : Refuses (codes "n 1048577 2 1 10\n") (record { kind = TooMany; ordinal = 2 })
+unfolding natural_at sizes_at scope_from tuple_at listing_at listings_at function_from functions_from network_at
+many_variables_refused = refl
+
+pub most_variables_taken : Refuses (codes "n 1048576 2 1 10") (record { kind = Short; ordinal = 6 })
+unfolding natural_at sizes_at scope_from tuple_at listing_at listings_at function_from functions_from network_at
+most_variables_taken = refl
+
+pub negative_count_refused : Refuses (codes "n 1 2 -1 10\n2\n") (record { kind = NegativeCount; ordinal = 4 })
+unfolding natural_at sizes_at scope_from tuple_at listing_at listings_at function_from functions_from network_at
+negative_count_refused = refl
+
+pub many_functions_refused : Refuses (codes "n 1 2 1048577 10\n2\n") (record { kind = TooMany; ordinal = 4 })
+unfolding natural_at sizes_at scope_from tuple_at listing_at listings_at function_from functions_from network_at
+many_functions_refused = refl
+
+pub negative_upper_refused : Refuses (codes "n 1 2 1 -10\n2\n") (record { kind = NegativeCost; ordinal = 5 })
+unfolding natural_at sizes_at scope_from tuple_at listing_at listings_at function_from functions_from network_at
+negative_upper_refused = refl
+
+pub empty_domain_refused : Refuses (codes "n 1 2 1 10\n0\n") (record { kind = EmptyDomain; ordinal = 6 })
+unfolding natural_at sizes_at scope_from tuple_at listing_at listings_at function_from functions_from network_at
+empty_domain_refused = refl
+
+pub large_domain_refused : Refuses (codes "n 1 2 1 10\n4097\n") (record { kind = DomainTooLarge; ordinal = 6 })
+unfolding natural_at sizes_at scope_from tuple_at listing_at listings_at function_from functions_from network_at
+large_domain_refused = refl
+
+pub shared_table_refused : Refuses (codes "n 1 2 1 10\n2\n-1 0 3 0\n") (record { kind = SharedTable; ordinal = 7 })
+unfolding natural_at sizes_at scope_from tuple_at listing_at listings_at function_from functions_from network_at
+shared_table_refused = refl
+
+pub shared_tuples_refused : Refuses (codes "n 1 2 1 10\n2\n1 0 3 -1\n") (record { kind = SharedTable; ordinal = 10 })
+unfolding natural_at sizes_at scope_from tuple_at listing_at listings_at function_from functions_from network_at
+shared_tuples_refused = refl
+
+pub other_variable_refused : Refuses (codes "n 1 2 1 10\n2\n1 1 3 0\n") (record { kind = VariableOutOfRange; ordinal = 8 })
+unfolding natural_at sizes_at scope_from tuple_at listing_at listings_at function_from functions_from network_at
+other_variable_refused = refl
+
+pub negative_default_refused : Refuses (codes "n 1 2 1 10\n2\n1 0 -2 0\n") (record { kind = NegativeCost; ordinal = 9 })
+unfolding natural_at sizes_at scope_from tuple_at listing_at listings_at function_from functions_from network_at
+negative_default_refused = refl
+
+pub other_value_refused : Refuses (codes "n 1 2 1 10\n2\n1 0 3 1\n2 1\n") (record { kind = ValueOutOfRange; ordinal = 11 })
+unfolding natural_at sizes_at scope_from tuple_at listing_at listings_at function_from functions_from network_at
+other_value_refused = refl
+
+pub negative_cost_refused : Refuses (codes "n 1 2 1 10\n2\n1 0 3 1\n1 -1\n") (record { kind = NegativeCost; ordinal = 12 })
+unfolding natural_at sizes_at scope_from tuple_at listing_at listings_at function_from functions_from network_at
+negative_cost_refused = refl
+
+pub many_tuples_refused : Refuses (codes "n 1 2 1 10\n2\n1 0 3 67108865\n") (record { kind = TooMany; ordinal = 10 })
+unfolding natural_at sizes_at scope_from tuple_at listing_at listings_at function_from functions_from network_at
+many_tuples_refused = refl
+
+pub largest_domain_reads : Reads (codes "n 1 2 0 10\n4096\n") (record { name = codes "n"; sizes = 4096 ∷ []; upper = 10; functions = [] })
+unfolding natural_at sizes_at scope_from tuple_at listing_at listings_at function_from functions_from network_at
+largest_domain_reads = refl
+
+-- what is behind the last word is not looked at, and a cost above the upper bound counts as the upper bound
+pub more_words_read : Reads (codes "tiny 1 9 1 10\n2\n1 0 3 1\n1 1 -1 x\n") tiny
+unfolding natural_at sizes_at scope_from tuple_at listing_at listings_at function_from functions_from network_at
+more_words_read = refl
+
+pub capped_reads : Reads (codes "cap 1 2 1 10\n2\n1 0 11 1\n1 12\n") (record { name = codes "cap"; sizes = 2 ∷ []; upper = 10; functions = row (0 ∷ []) 10 (10 ∷ 10 ∷ []) ∷ [] })
+unfolding natural_at sizes_at scope_from tuple_at listing_at listings_at function_from functions_from network_at
+capped_reads = refl
+
+-- the cells of all functions, this one's with them
+pub many_cells_refused : check_default 67108865 (pos 0) ≡ Some TooMany
+many_cells_refused = refl
+
+pub most_cells_taken : check_default 67108864 (pos 0) ≡ None
+most_cells_taken = refl
+
 -- the sums after two projects and a lift on tiny
-abbrev shifts : List Step
+abbrev pub shifts : List Step
 shifts = Project 0 0 0 3 ∷ Project 0 0 1 1 ∷ Lift 0 1 ∷ []
 
-abbrev shifted : List Event
+abbrev pub shifted : List Event
 shifted = Did (Lift 0 1) ∷ Did (Project 0 0 1 1) ∷ Did (Project 0 0 0 3) ∷ []
 
 pub shifted_floor : floor tiny shifted ≡ 1

@@ -7,6 +7,11 @@ use Rattle.cfn_model.specs.Sums.{floor, unary, residual}
 use Rattle.cfn_model.specs.Steps.{AllInRange, Run}
 use Rattle.cfn_model.specs.Tree.{Tree, IsClosed, leaf, Valid, bound}
 use Rattle.cfn_model.specs.Certificate.{Solution, Certificate, Good}
+use Rattle.cfn_model.specs.Reading.{Reads}
+
+-- What reads is a network: reading keeps every limit.
+abbrev pub ReadNetworks : Type 0
+ReadNetworks = (bytes : List ℕ) (P : Network) → Reads bytes P → IsNetwork P
 
 -- The sum of f below n.
 abbrev pub sum_below : (ℕ → ℤ) → ℕ → ℤ

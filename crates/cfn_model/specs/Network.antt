@@ -1,7 +1,8 @@
 -- Weighted constraint networks (cost function networks) and the cost of an assignment (toulbar2 user manual, wcsp format).
-use Rattle.std.specs.Prelude.{◌≡◌, ℕ, ◌+◌, ◌*◌, ◌<◌, ◌≤◌, ◌^◌, min, List, [], ◌∷◌, length, map, sum_by, slice_index, slice_index_or, if◌then◌else◌, ◌==◌}
+use Rattle.std.specs.Prelude.{◌≡◌, ℕ, suc, ◌+◌, ◌*◌, ◌<◌, ◌≤◌, min, List, [], ◌∷◌, length, map, sum_by, slice_index, slice_index_or, if◌then◌else◌, ◌==◌}
 use Rattle.std.specs.List.{range_with_len}
-use Rattle.cfn_model.specs.Words.{IsWord}
+use Rattle.cfn_model.specs.declared.limits.TheConstants.{MOST_VARIABLES, MOST_VALUES, MOST_FUNCTIONS, MOST_TUPLES, MOST_CELLS}
+use Rattle.cfn_model.specs.Words.{IsWord, greatest}
 
 -- A cost function: its scope, its default cost, and its entry at each cell.
 pub record Function : Type 0 where
@@ -105,7 +106,7 @@ entry_at P f tuple = entry P.sizes (function_at P f) tuple
 pub record IsFunction (sizes : List ℕ) (upper : ℕ) (f : Function) : Type 0 where
   pub variables : (place : ℕ) → place < length f.scope → slice_index f.scope place < length sizes
   pub different : (place other : ℕ) → place < other → other < length f.scope → slice_index f.scope place ≡ slice_index f.scope other → ⊥
-  pub few : cells (dims sizes f.scope) ≤ 4194304
+  pub few : cells (dims sizes f.scope) ≤ MOST_TUPLES
   pub default : f.default ≤ upper
   pub table : length f.entries ≡ cells (dims sizes f.scope)
   pub capped : (c : ℕ) → slice_index f.entries c ≤ upper
@@ -113,9 +114,9 @@ pub record IsFunction (sizes : List ℕ) (upper : ℕ) (f : Function) : Type 0 w
 pub record IsNetwork (P : Network) : Type 0 where
   pub name : IsWord P.name
   pub some : 0 < length P.sizes
-  pub few : length P.sizes ≤ 1048576
-  pub sizes : (x : ℕ) → x < length P.sizes → (0 < slice_index P.sizes x) × (slice_index P.sizes x ≤ 4096)
-  pub upper : P.upper < 2 ^ 63
+  pub few : length P.sizes ≤ MOST_VARIABLES
+  pub sizes : (x : ℕ) → x < length P.sizes → (0 < slice_index P.sizes x) × (slice_index P.sizes x ≤ MOST_VALUES)
+  pub upper : P.upper < suc greatest
   pub functions : (f : ℕ) → f < length P.functions → IsFunction P.sizes P.upper (function_at P f)
-  pub few_functions : length P.functions ≤ 1048576
-  pub few_cells : sum_by (λ f. cells (dims P.sizes f.scope)) P.functions ≤ 67108864
+  pub few_functions : length P.functions ≤ MOST_FUNCTIONS
+  pub few_cells : sum_by (λ f. cells (dims P.sizes f.scope)) P.functions ≤ MOST_CELLS

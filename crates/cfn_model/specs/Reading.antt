@@ -2,6 +2,7 @@
 -- Words are read from left to right; at each place the checks run in their order, and the first that fails decides.
 use Rattle.std.specs.Prelude.{◌≡◌, ℕ, zero, suc, ◌+◌, ◌*◌, ◌&&◌, ◌||◌, List, [], ◌∷◌, ◌++◌, length, slice_index, ℤ, pos, negsuc, Option, Some, None, Result, Ok, Err, if◌then◌else◌, ◌==◌, nat_lt, int_lt, unsigned_abs}
 use Rattle.std.specs.List.{list_any}
+use Rattle.cfn_model.specs.declared.limits.TheConstants.{MOST_VARIABLES, MOST_VALUES, MOST_FUNCTIONS, MOST_TUPLES, MOST_CELLS}
 use Rattle.cfn_model.specs.declared.reading.NumberFault.{NumberFault}
 use Rattle.cfn_model.specs.declared.reading.NumberFault.TheVariants as faults
 use Rattle.cfn_model.specs.declared.reading.Kind.{Kind}
@@ -49,13 +50,13 @@ natural_at check s = do
 
 -- The checks of each place.
 abbrev pub check_variables : ℤ → Option Kind
-check_variables z = if int_lt z (pos 1) then Some NoVariables else (if int_lt (pos 1048576) z then Some TooMany else None)
+check_variables z = if int_lt z (pos 1) then Some NoVariables else (if int_lt (pos MOST_VARIABLES) z then Some TooMany else None)
 
 abbrev pub check_size : ℤ → Option Kind
 check_size z = if int_lt z (pos 0) then Some IntervalDomain else (if int_lt z (pos 1) then Some EmptyDomain else None)
 
 abbrev pub check_functions : ℤ → Option Kind
-check_functions z = if int_lt z (pos 0) then Some NegativeCount else (if int_lt (pos 1048576) z then Some TooMany else None)
+check_functions z = if int_lt z (pos 0) then Some NegativeCount else (if int_lt (pos MOST_FUNCTIONS) z then Some TooMany else None)
 
 abbrev pub check_cost : ℤ → Option Kind
 check_cost z = if int_lt z (pos 0) then Some NegativeCost else None
@@ -63,7 +64,7 @@ check_cost z = if int_lt z (pos 0) then Some NegativeCost else None
 abbrev pub check_domain : ℤ → Option Kind
 check_domain z =
     if int_lt z (pos 0) then Some IntervalDomain
-    else (if int_lt z (pos 1) then Some EmptyDomain else (if int_lt (pos 4096) z then Some DomainTooLarge else None))
+    else (if int_lt z (pos 1) then Some EmptyDomain else (if int_lt (pos MOST_VALUES) z then Some DomainTooLarge else None))
 
 abbrev pub check_arity : ℤ → Option Kind
 check_arity z = if int_lt z (pos 0) then Some SharedTable else None
@@ -73,16 +74,16 @@ abbrev pub check_variable : List ℕ → List ℕ → ℤ → Option Kind
 check_variable sizes scope z =
     if int_lt z (pos 0) || int_lt (pos (length sizes)) (pos (suc (unsigned_abs z))) then Some VariableOutOfRange
     else (if list_any (λ x. x == unsigned_abs z) scope then Some RepeatedVariable
-    else (if nat_lt 4194304 (cells (dims sizes scope) * slice_index sizes (unsigned_abs z)) then Some TableTooWide else None))
+    else (if nat_lt MOST_TUPLES (cells (dims sizes scope) * slice_index sizes (unsigned_abs z)) then Some TableTooWide else None))
 
 -- A default cost, where the functions so far, this one included, have so many cells.
 abbrev pub check_default : ℕ → ℤ → Option Kind
 check_default all_cells z =
     if int_lt (negsuc 1) z && int_lt z (pos 0) then Some Keyword
-    else (if int_lt z (pos 0) then Some NegativeCost else (if nat_lt 67108864 all_cells then Some TooMany else None))
+    else (if int_lt z (pos 0) then Some NegativeCost else (if nat_lt MOST_CELLS all_cells then Some TooMany else None))
 
 abbrev pub check_count : ℤ → Option Kind
-check_count z = if int_lt z (pos 0) then Some SharedTable else (if int_lt (pos 67108864) z then Some TooMany else None)
+check_count z = if int_lt z (pos 0) then Some SharedTable else (if int_lt (pos MOST_CELLS) z then Some TooMany else None)
 
 abbrev pub check_value : ℕ → ℤ → Option Kind
 check_value size z = if int_lt z (pos 0) || int_lt (pos size) (pos (suc (unsigned_abs z))) then Some ValueOutOfRange else None

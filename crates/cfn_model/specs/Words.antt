@@ -1,6 +1,7 @@
 -- The words of a text, and the numbers that words are (toulbar2 user manual, wcsp format).
 use Rattle.std.specs.Prelude.{◌≡◌, ℕ, ◌+◌, ◌-◌, ◌*◌, Bool, true, false, not, ◌&&◌, ◌||◌, List, [], ◌∷◌, ℤ, pos, neg_ℤ, Result, Ok, Err, if◌then◌else◌, ◌==◌, nat_le, nat_lt}
 use Rattle.std.specs.List.{list_all}
+use Rattle.cfn_model.specs.declared.limits.TheConstants.{GREATEST}
 use Rattle.cfn_model.specs.declared.reading.NumberFault.{NumberFault}
 use Rattle.cfn_model.specs.declared.reading.NumberFault.TheVariants.{NotNumber, TooLarge}
 
@@ -51,7 +52,7 @@ digits_behind n (b ∷ bytes) = digits_behind (10 * n + (b - 48)) bytes
 
 -- The greatest number that is read: 2^63 - 1.
 abbrev pub greatest : ℕ
-greatest = 9223372036854775807
+greatest = GREATEST
 
 -- An optional minus and one or more digits.
 abbrev pub is_number : List ℕ → Bool

@@ -1,6 +1,11 @@
 //! The laws that the definitions have, each the contract of a function with nothing to do.
 
-ghost use Rattle.cfn_model.specs.Laws.{Equivalence, Bounds, ClosedLeaves, LowerBounds, Optimum, NoneBelow, RunLowering, ValidLowering};
+ghost use Rattle.cfn_model.specs.Laws.{ReadNetworks, Equivalence, Bounds, ClosedLeaves, LowerBounds, Optimum, NoneBelow, RunLowering, ValidLowering};
+
+/// What reads is a network: whatever the bytes of a file are, what they read as keeps every limit of networks.
+pub fn networks()
+    ensures { ReadNetworks }
+{}
 
 /// Shifts keep the total of every assignment (equivalence-preserving transformations, Cooper et al. 2010).
 pub fn equivalence()

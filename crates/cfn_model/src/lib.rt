@@ -5,10 +5,12 @@
 #![tactic(auto)]
 
 pub mod laws;
+mod limits;
 mod reading;
 mod report;
 mod step;
 
+pub use limits::{GREATEST, MOST_CELLS, MOST_FUNCTIONS, MOST_TUPLES, MOST_VALUES, MOST_VARIABLES};
 pub use reading::{Kind, NumberFault, Refusal};
 pub use report::{ResultWord, Row};
 pub use step::{Event, Step};

@@ -5,7 +5,7 @@
 pub enum NumberFault {
     /// It is not an optional `-` and one or more decimal digits.
     NotNumber,
-    /// Its absolute value is above 9,223,372,036,854,775,807.
+    /// Its absolute value is above `GREATEST`.
     TooLarge,
 }
 
@@ -16,7 +16,7 @@ pub enum Kind {
     Short,
     /// The word is no number.
     NotNumber,
-    /// The number is above 9,223,372,036,854,775,807.
+    /// The absolute value of the number is above `GREATEST`.
     TooLarge,
     /// The network has no variables.
     NoVariables,
@@ -26,7 +26,7 @@ pub enum Kind {
     EmptyDomain,
     /// A domain is an interval (a negative domain size).
     IntervalDomain,
-    /// A domain has more than 4,096 values.
+    /// A domain has more than `MOST_VALUES` values.
     DomainTooLarge,
     /// A cost is negative.
     NegativeCost,
@@ -40,7 +40,7 @@ pub enum Kind {
     RepeatedVariable,
     /// A tuple has a value that its variable lacks.
     ValueOutOfRange,
-    /// A function has more than 4,194,304 tuples.
+    /// A function has more than `MOST_TUPLES` tuples.
     TableTooWide,
     /// There are more variables, functions, tuples or cells than the solver takes.
     TooMany,

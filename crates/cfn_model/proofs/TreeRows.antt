@@ -1,0 +1,244 @@
+-- Small trees whose leaves, counts, bounds and validity are known, as theorems that compute.
+use Rattle.std.proofs.Common.{◌≡◌, ◌≢◌, ℕ, zero, suc, ◌<◌, ◌≤◌, inl, inr, List, [], ◌∷◌, true, false, refl, arith, lit<, lit≤}
+use Rattle.std.specs.Prelude.{codes, Some, slice_index}
+use Rattle.std.specs.Fmt.{digits}
+use Rattle.cfn_model.specs.declared.step.Step.{Step}
+use Rattle.cfn_model.specs.declared.step.Step.TheVariants.{Project, Lift, CutValue}
+use Rattle.cfn_model.specs.declared.step.Event.{Event}
+use Rattle.cfn_model.specs.declared.step.Event.TheVariants.{Did, Is, IsNot}
+use Rattle.cfn_model.specs.Sums.{is_live}
+use Rattle.cfn_model.specs.Steps.{Run, CanProject, after}
+use Rattle.cfn_model.specs.Tree.{Tree, Open, Closed, Split, leaf, count, splits, open_leaves, IsWiped, CanClose, Valid, Strict, bound, OpenBelow}
+use Rattle.cfn_model.specs.Certificate.{Certificate, Good}
+use Rattle.cfn_model.specs.Text.{spelling}
+use Rattle.cfn_model.proofs.Trying.{at_most, can_project, can_lift}
+use Rattle.cfn_model.proofs.Rows.{tiny, top, tri, shifted}
+
+-- a leaf may be closed where the floor reaches the threshold, or where a variable has no live value
+pub close_at_1 : CanClose tiny shifted 1
+close_at_1 = inl (lit≤ tt)
+
+pub not_close_at_2 : CanClose tiny shifted 2 → ⊥
+not_close_at_2 (inl reached) = absurd (omega arith)
+not_close_at_2 (inr wiped) = by_variable wiped.0 wiped.1 wiped.2
+  where
+    by_variable : (x : ℕ) → x < 1 → ((a : ℕ) → a < slice_index tiny.sizes x → is_live shifted x a ≡ false) → ⊥
+    by_variable zero lt dead = let h : true ≡ false = dead 0 (lit< tt) in absurd cc
+    by_variable (suc x) lt dead = absurd (omega arith)
+
+abbrev wiped : List Event
+wiped = IsNot 0 1 ∷ Did (CutValue 0 0) ∷ []
+
+pub tiny_wiped : IsWiped tiny wiped
+tiny_wiped = (0, lit< tt, each)
+  where
+    each : (a : ℕ) → a < 2 → is_live wiped 0 a ≡ false
+    each zero lt = refl
+    each (suc zero) lt = refl
+    each (suc (suc a)) lt = absurd (omega arith)
+
+pub wiped_closes : CanClose tiny wiped 10
+wiped_closes = inr tiny_wiped
+
+-- a value is left
+pub one_value_left : IsWiped tiny (IsNot 0 1 ∷ []) → ⊥
+one_value_left (x, lt, dead) = by_variable x lt dead
+  where
+    by_variable : (x : ℕ) → x < 1 → ((a : ℕ) → a < slice_index tiny.sizes x → is_live (IsNot 0 1 ∷ []) x a ≡ false) → ⊥
+    by_variable zero lt dead = let h : true ≡ false = dead 0 (lit< tt) in absurd cc
+    by_variable (suc x) lt dead = absurd (omega arith)
+
+-- a split with two open leaves, whose floors are 3 and 1
+abbrev of_value_0 : List Step
+of_value_0 = Project 0 0 0 3 ∷ Lift 0 3 ∷ []
+
+abbrev of_value_1 : List Step
+of_value_1 = Project 0 0 1 1 ∷ Lift 0 1 ∷ []
+
+abbrev two_open : Tree
+two_open = Split [] 0 0 (Open of_value_0) (Open of_value_1)
+
+pub two_open_leaves : (leaf (0 ∷ []) two_open ≡ Open of_value_0) × (leaf (1 ∷ []) two_open ≡ Open of_value_1)
+two_open_leaves = (refl, refl)
+
+pub two_open_counts : (count two_open ≡ 1) × (splits two_open ≡ 1) × (open_leaves two_open ≡ 2)
+two_open_counts = (refl, refl, refl)
+
+pub two_open_bound : bound tiny [] two_open 10 ≡ 1
+two_open_bound = refl
+
+pub other_order_bound : bound tiny [] (Split [] 0 1 (Open of_value_1) (Open of_value_0)) 10 ≡ 1
+other_order_bound = refl
+
+pub low_threshold_bound : bound tiny [] two_open 0 ≡ 0
+low_threshold_bound = refl
+
+pub closed_bound : (bound tiny [] (Closed []) 10 ≡ 10) × (bound tiny [] (Split [] 0 0 (Open of_value_0) (Closed [])) 10 ≡ 3) × (bound tiny [] (Split [] 0 0 (Closed []) (Open of_value_1)) 10 ≡ 1)
+closed_bound = (refl, refl, refl)
+
+pub two_open_valid : Valid tiny [] two_open 10
+two_open_valid = (
+  tt,
+  record { variable = lit< tt; value = lit< tt },
+  ((record { function = lit< tt; place = lit< tt; value = lit< tt }, lit< tt, first_project), ((lit< tt, lit< tt, can_lift tiny (Did (Project 0 0 0 3) ∷ Is 0 0 ∷ []) 0 3 refl refl), tt)),
+  ((record { function = lit< tt; place = lit< tt; value = lit< tt }, lit< tt, second_project), ((lit< tt, lit< tt, can_lift tiny (Did (Project 0 0 1 1) ∷ IsNot 0 0 ∷ []) 0 1 refl refl), tt)),
+)
+  where
+    first_project : CanProject tiny (Is 0 0 ∷ []) 0 0 0 3
+    first_project [] fits is live = absurd fits
+    first_project (zero ∷ []) fits is live = at_most refl
+    first_project (suc v ∷ []) fits is live = absurd (omega arith)
+    first_project (v ∷ w ∷ tuple) fits is live = absurd fits.1
+
+    second_project : CanProject tiny (IsNot 0 0 ∷ []) 0 0 1 1
+    second_project [] fits is live = absurd fits
+    second_project (zero ∷ []) fits is live = absurd (omega arith)
+    second_project (suc zero ∷ []) fits is live = at_most refl
+    second_project (suc (suc v) ∷ []) fits is live = absurd (omega (arith, is))
+    second_project (v ∷ w ∷ tuple) fits is live = absurd fits.1
+
+pub two_open_below : OpenBelow tiny [] two_open 4
+two_open_below = (lit< tt, lit< tt)
+
+pub two_open_at_3 : OpenBelow tiny [] two_open 3 → ⊥
+two_open_at_3 below = let h : 3 < 3 = below.0 in absurd (omega arith)
+
+-- counts of a larger tree: two splits, two closed leaves and an open one
+pub larger_counts : (count (Split [] 0 0 (Split [] 1 0 (Open []) (Closed [])) (Closed [])) ≡ 4) × (splits (Split [] 0 0 (Split [] 1 0 (Open []) (Closed [])) (Closed [])) ≡ 2) × (open_leaves (Split [] 0 0 (Split [] 1 0 (Open []) (Closed [])) (Closed [])) ≡ 1)
+larger_counts = (refl, refl, refl)
+
+-- a split is of a value of a variable
+pub split_of_no_value : Valid tiny [] (Split [] 0 2 (Open []) (Open [])) 10 → ⊥
+split_of_no_value valid = let h : 2 < 2 = valid.1.value in absurd (omega arith)
+
+pub split_of_no_variable : Valid tiny [] (Split [] 1 0 (Open []) (Open [])) 10 → ⊥
+split_of_no_variable valid = let h : 1 < 1 = valid.1.variable in absurd (omega arith)
+
+-- a strict split leaves a live value on either side
+pub two_open_strict : Strict tiny [] two_open
+two_open_strict = (record { live = refl; other = (1, lit< tt, (λ e. absurd (omega arith)), refl) }, tt, tt)
+
+pub split_of_dead_value : Strict tiny [] (Split (CutValue 0 0 ∷ []) 0 0 (Open []) (Open [])) → ⊥
+split_of_dead_value strict = let h : false ≡ true = strict.0.live in absurd cc
+
+pub split_with_no_other : Strict tiny [] (Split (CutValue 0 1 ∷ []) 0 0 (Open []) (Open [])) → ⊥
+split_with_no_other strict = by_other strict.0.other.0 strict.0.other.1 strict.0.other.2 strict.0.other.3
+  where
+    by_other : (b : ℕ) → b < 2 → b ≢ 0 → is_live (Did (CutValue 0 1) ∷ []) 0 b ≡ true → ⊥
+    by_other zero lt other live = other refl
+    by_other (suc zero) lt other live = let h : false ≡ true = live in absurd cc
+    by_other (suc (suc b)) lt other live = absurd (omega arith)
+
+pub split_of_one_value : Strict top [] (Split [] 0 0 (Open []) (Open [])) → ⊥
+split_of_one_value strict = by_other strict.0.other.0 strict.0.other.1 strict.0.other.2
+  where
+    by_other : (b : ℕ) → b < 1 → b ≢ 0 → ⊥
+    by_other zero lt other = other refl
+    by_other (suc b) lt other = absurd (omega arith)
+
+pub split_twice_the_same : Strict tri [] (Split [] 0 0 (Split [] 0 0 (Open []) (Open [])) (Open [])) → ⊥
+split_twice_the_same strict = by_other strict.1.0.other.0 strict.1.0.other.1 strict.1.0.other.2 strict.1.0.other.3
+  where
+    by_other : (b : ℕ) → b < 2 → b ≢ 0 → is_live (Is 0 0 ∷ []) 0 b ≡ true → ⊥
+    by_other zero lt other live = other refl
+    by_other (suc zero) lt other live = let h : false ≡ true = live in absurd cc
+    by_other (suc (suc b)) lt other live = absurd (omega arith)
+
+-- a tree that shows that the least cost of tri is 1: whichever value variable 0 has, one of the other two costs 1
+abbrev pub first_side : List Step
+first_side = Project 0 1 0 1 ∷ CutValue 1 0 ∷ Project 1 1 0 1 ∷ CutValue 2 0 ∷ Project 2 0 1 1 ∷ Lift 1 1 ∷ []
+
+abbrev pub second_side : List Step
+second_side = Project 0 1 1 1 ∷ CutValue 1 1 ∷ Project 1 1 1 1 ∷ CutValue 2 1 ∷ Project 2 0 0 1 ∷ Lift 1 1 ∷ []
+
+abbrev pub tri_tree : List Step → Tree
+tri_tree block = Split [] 0 0 (Closed first_side) (Closed block)
+
+abbrev pub tri_certificate : List Step → Certificate
+tri_certificate block = record { variables = 3; functions = 3; upper = 10; best = Some (record { cost = 1; values = 0 ∷ 0 ∷ 1 ∷ [] }); lower = 1; tree = tri_tree block }
+
+pub tri_text : spelling (tri_certificate second_side) ≡ codes "wcspcert 1\nnetwork 3 3 10\nlower 1\nbest 1\nvalues 0 0 1\ntree\nsplit 0 0\np 0 1 0 1\nv 1 0\np 1 1 0 1\nv 2 0\np 2 0 1 1\nu 1 1\nclosed\np 0 1 1 1\nv 1 1\np 1 1 1 1\nv 2 1\np 2 0 0 1\nu 1 1\nclosed\nend\n"
+unfolding digits
+tri_text = refl
+
+first_runs : Run tri (Is 0 0 ∷ []) first_side 1
+first_runs = (
+  (record { function = lit< tt; place = lit< tt; value = lit< tt }, lit< tt, can_project tri (Is 0 0 ∷ []) 0 1 0 1 refl refl),
+  (
+    (record { variable = lit< tt; value = lit< tt }, at_most refl),
+    (
+      (record { function = lit< tt; place = lit< tt; value = lit< tt }, lit< tt, can_project tri (after (Project 0 1 0 1 ∷ CutValue 1 0 ∷ []) (Is 0 0 ∷ [])) 1 1 0 1 refl refl),
+      (
+        (record { variable = lit< tt; value = lit< tt }, at_most refl),
+        (
+          (record { function = lit< tt; place = lit< tt; value = lit< tt }, lit< tt, can_project tri (after (Project 0 1 0 1 ∷ CutValue 1 0 ∷ Project 1 1 0 1 ∷ CutValue 2 0 ∷ []) (Is 0 0 ∷ [])) 2 0 1 1 refl refl),
+          (
+            (lit< tt, lit< tt, can_lift tri (after (Project 0 1 0 1 ∷ CutValue 1 0 ∷ Project 1 1 0 1 ∷ CutValue 2 0 ∷ Project 2 0 1 1 ∷ []) (Is 0 0 ∷ [])) 1 1 refl refl),
+            tt,
+          ),
+        ),
+      ),
+    ),
+  ),
+)
+
+second_runs : Run tri (IsNot 0 0 ∷ []) second_side 1
+second_runs = (
+  (record { function = lit< tt; place = lit< tt; value = lit< tt }, lit< tt, can_project tri (IsNot 0 0 ∷ []) 0 1 1 1 refl refl),
+  (
+    (record { variable = lit< tt; value = lit< tt }, at_most refl),
+    (
+      (record { function = lit< tt; place = lit< tt; value = lit< tt }, lit< tt, can_project tri (after (Project 0 1 1 1 ∷ CutValue 1 1 ∷ []) (IsNot 0 0 ∷ [])) 1 1 1 1 refl refl),
+      (
+        (record { variable = lit< tt; value = lit< tt }, at_most refl),
+        (
+          (record { function = lit< tt; place = lit< tt; value = lit< tt }, lit< tt, can_project tri (after (Project 0 1 1 1 ∷ CutValue 1 1 ∷ Project 1 1 1 1 ∷ CutValue 2 1 ∷ []) (IsNot 0 0 ∷ [])) 2 0 0 1 refl refl),
+          (
+            (lit< tt, lit< tt, can_lift tri (after (Project 0 1 1 1 ∷ CutValue 1 1 ∷ Project 1 1 1 1 ∷ CutValue 2 1 ∷ Project 2 0 0 1 ∷ []) (IsNot 0 0 ∷ [])) 1 1 refl refl),
+            tt,
+          ),
+        ),
+      ),
+    ),
+  ),
+)
+
+pub tri_valid : Valid tri [] (tri_tree second_side) 1
+tri_valid = (tt, record { variable = lit< tt; value = lit< tt }, (first_runs, inl (lit≤ tt)), (second_runs, inl (lit≤ tt)))
+
+pub tri_bound : bound tri [] (tri_tree second_side) 1 ≡ 1
+tri_bound = refl
+
+pub tri_counts : (count (tri_tree second_side) ≡ 3) × (splits (tri_tree second_side) ≡ 1) × (open_leaves (tri_tree second_side) ≡ 0)
+tri_counts = (refl, refl, refl)
+
+pub tri_is_good : Good tri (tri_certificate second_side)
+tri_is_good = record {
+  variables = refl;
+  functions = refl;
+  upper = refl;
+  best = record { below = lit< tt; fits = (lit< tt, (lit< tt, (lit< tt, tt))); cost = refl };
+  valid = tri_valid;
+  lower = lit≤ tt;
+}
+
+-- at 2 it shows nothing: the first cut is refused
+pub tri_not_at_2 : Valid tri [] (tri_tree second_side) 2 → ⊥
+tri_not_at_2 valid = valid.2.0.1.0.1.le
+
+-- the second side may not be closed without its steps, nor without the first of them
+pub tri_without_steps : Good tri (tri_certificate []) → ⊥
+tri_without_steps good = not_closed good.valid.3.1
+  where
+    not_closed : CanClose tri (IsNot 0 0 ∷ []) 1 → ⊥
+    not_closed (inl reached) = let h : 1 ≤ 0 = reached in absurd (omega arith)
+    not_closed (inr wiped) = by_variable wiped.0 wiped.1 wiped.2
+      where
+        by_variable : (x : ℕ) → x < 3 → ((a : ℕ) → a < slice_index tri.sizes x → is_live (IsNot 0 0 ∷ []) x a ≡ false) → ⊥
+        by_variable zero lt dead = let h : true ≡ false = dead 1 (lit< tt) in absurd cc
+        by_variable (suc zero) lt dead = let h : true ≡ false = dead 0 (lit< tt) in absurd cc
+        by_variable (suc (suc zero)) lt dead = let h : true ≡ false = dead 0 (lit< tt) in absurd cc
+        by_variable (suc (suc (suc x))) lt dead = absurd (omega arith)
+
+pub tri_without_first_step : Good tri (tri_certificate (CutValue 1 1 ∷ Project 1 1 1 1 ∷ CutValue 2 1 ∷ Project 2 0 0 1 ∷ Lift 1 1 ∷ [])) → ⊥
+tri_without_first_step good = good.valid.3.0.0.1.le
