@@ -1,5 +1,5 @@
 -- Which history stands before a node, and what a split or a closing of an open leaf adds to a tree.
-use Rattle.std.proofs.Common.{◌≡◌, ◌≢◌, ℕ, zero, suc, ◌+◌, ◌<◌, ◌⊎◌, inl, inr, List, [], ◌∷◌, ◌++◌, length, Option, Some, None, refl, sym, ap, ◌∙◌, subst, arith, append_assoc, length-append}
+use Rattle.std.proofs.Common.{◌≡◌, ◌≢◌, ℕ, zero, suc, ◌+◌, ◌<◌, ◌≤◌, ◌^◌, ◌⊎◌, inl, inr, List, [], ◌∷◌, ◌++◌, length, Option, Some, None, refl, sym, ap, ◌∙◌, subst, arith, append_assoc, length-append}
 use Rattle.std.proofs.lemmas.Bool.{cases_eq}
 use Rattle.std.specs.Prelude.{true, false, ◌||◌, ◌==◌, IsTrue}
 use Rattle.cfn_model.specs.declared.step.Step.{Step}
@@ -7,13 +7,13 @@ use Rattle.cfn_model.specs.declared.step.Event.{Event}
 use Rattle.cfn_model.specs.declared.step.Event.TheVariants.{Did, Is, IsNot}
 use Rattle.cfn_model.specs.Steps.{after}
 use Rattle.cfn_model.specs.Tree as trees
-use Rattle.cfn_model.specs.Tree.{count}
+use Rattle.cfn_model.specs.Tree.{count, splits}
 use Rattle.cfn_proof.specs.declared.tree.NodeId.{NodeId}
 use Rattle.cfn_proof.specs.declared.tree.End.{End}
 use Rattle.cfn_proof.specs.declared.tree.End.TheVariants.{Free, Shut, Split}
 use Rattle.cfn_proof.specs.declared.tree.Node.{Node}
 use Rattle.cfn_proof.specs.Nodes.{node_at, names_child, tree_at, tree_of, with_children, IsLinked, IsFree, Before, at_root, at_first, at_second, split_at, split_end, close_at}
-use Rattle.cfn_proof.specs.Local.{BeforeSplitLaw, BeforeCloseLaw, BeforeOnceLaw, BeforeSomeLaw, CountSplitLaw, CountCloseLaw}
+use Rattle.cfn_proof.specs.Local.{BeforeSplitLaw, BeforeCloseLaw, BeforeOnceLaw, BeforeSomeLaw, CountSplitLaw, CountCloseLaw, SplitsSplitLaw, SplitsCloseLaw}
 use Rattle.cfn_proof.proofs.TreeLemmas.{tree_at_is, from_last}
 use Rattle.cfn_proof.proofs.Growth.{Changed, before_old, before_new, changed_by_split, changed_by_close, split_numbers, split_at-same, split_at-first, split_at-second, length-split_at, close_at-same, length-close_at, linked_by_split, linked_by_close}
 
@@ -170,6 +170,10 @@ one_side : (x a : ℕ) (early late : List Event) → IsEnd (Is x a ∷ early) la
 unfolding IsEnd
 one_side x a early late h k = let e : Is x a ≡ IsNot x a = same_ends (Is x a) (IsNot x a) early h.0 k.0 (sym h.1 ∙ k.1) in cc
 
+-- a measure of trees that at a split is one more than on both its sides
+abbrev AddsOverSplits : (trees.Tree → ℕ) → Type 0
+AddsOverSplits measure = (block : List Step) (x a : ℕ) (first second : trees.Tree) → measure (trees.Split block x a first second) ≡ 1 + (measure first + measure second)
+
 -- a subtree that the changed leaf is not in stays
 module _ (nodes new : List Node) (i : ℕ) (here : List Event) (linked : IsLinked nodes) (linked_new : IsLinked new) (changed : Changed nodes new i) (before_here : Before nodes i here) where
   children_same : (j : ℕ) (history : List Event) (e : End) → j < length nodes → Before nodes j history → (node_at nodes j).end ≡ e → (IsEnd history here → ⊥) → ((c : ℕ) → j < c → c < length nodes → (h : List Event) → Before nodes c h → (IsEnd h here → ⊥) → tree_at new c ≡ tree_at nodes c) → with_children (node_at nodes j).block e (tree_at new) ≡ with_children (node_at nodes j).block e (tree_at nodes)
@@ -204,59 +208,82 @@ module _ (nodes new : List Node) (i : ℕ) (here : List Event) (linked : IsLinke
   as_split : (m : List Node) (j x a : ℕ) (first second : NodeId) → IsLinked m → j < length m → (node_at m j).end ≡ Split x a first second → tree_at m j ≡ trees.Split (node_at m j).block x a (tree_at m first.number) (tree_at m second.number)
   as_split m j x a first second l there is = tree_at_is m j l there ∙ ap (λ e. with_children (node_at m j).block e (tree_at m)) is
 
-  -- one node more in a subtree is one more in the whole tree
-  pub counted_up : (j : ℕ) (history : List Event) → Before nodes j history → IsEnd history here → count (tree_at new j) ≡ count (tree_at nodes j) + 1 → count (tree_of new) ≡ count (tree_of nodes) + 1
-  counted_up j history (at_root is_root is_empty) end more = subst (λ m. count (tree_at new m) ≡ count (tree_at nodes m) + 1) is_root more
-  counted_up j history (at_first parent x a first second above there is before is_child is_history) end more =
+  -- what a subtree gains of a measure that adds over splits, the whole tree gains
+  pub gained : (measure : trees.Tree → ℕ) → AddsOverSplits measure → (gain j : ℕ) (history : List Event) → Before nodes j history → IsEnd history here → measure (tree_at new j) ≡ measure (tree_at nodes j) + gain → measure (tree_of new) ≡ measure (tree_of nodes) + gain
+  gained measure adds gain j history (at_root is_root is_empty) end more = subst (λ m. measure (tree_at new m) ≡ measure (tree_at nodes m) + gain) is_root more
+  gained measure adds gain j history (at_first parent x a first second above there is before is_child is_history) end more =
       let e = node_same parent x a first second there is in
       let family = linked.children parent x a first second there is in
       let h : IsEnd (Is x a ∷ after (node_at nodes parent).block above) here = subst (λ h. IsEnd h here) is_history end in
       let same : tree_at new second.number ≡ tree_at nodes second.number =
       apart_same second.number family.second_there (IsNot x a ∷ after (node_at nodes parent).block above) (at_second parent x a first second above there is before refl refl) (λ k. one_side x a (after (node_at nodes parent).block above) here h k) in
       let up : IsEnd above here = end_of_after (node_at nodes parent).block above here (end_of_cons (Is x a) (after (node_at nodes parent).block above) here h) in
-      let old = ap count (as_split nodes parent x a first second linked there is) in
-      let now = ap count (as_split new parent x a first second linked_new (omega (arith, changed.no_fewer)) (ap (λ (n : Node). n.end) e ∙ is)) in
-      let m : count (tree_at new first.number) ≡ count (tree_at nodes first.number) + 1 = subst (λ c. count (tree_at new c) ≡ count (tree_at nodes c) + 1) is_child more in
-      counted_up parent above before up (omega (arith, old, now, m, ap count same))
-  counted_up j history (at_second parent x a first second above there is before is_child is_history) end more =
+      let old = ap measure (as_split nodes parent x a first second linked there is) ∙ adds (node_at nodes parent).block x a (tree_at nodes first.number) (tree_at nodes second.number) in
+      let now = ap measure (as_split new parent x a first second linked_new (omega (arith, changed.no_fewer)) (ap (λ (n : Node). n.end) e ∙ is)) ∙ adds (node_at new parent).block x a (tree_at new first.number) (tree_at new second.number) in
+      let m : measure (tree_at new first.number) ≡ measure (tree_at nodes first.number) + gain = subst (λ c. measure (tree_at new c) ≡ measure (tree_at nodes c) + gain) is_child more in
+      gained measure adds gain parent above before up (omega (arith, old, now, m, ap measure same))
+  gained measure adds gain j history (at_second parent x a first second above there is before is_child is_history) end more =
       let e = node_same parent x a first second there is in
       let family = linked.children parent x a first second there is in
       let h : IsEnd (IsNot x a ∷ after (node_at nodes parent).block above) here = subst (λ h. IsEnd h here) is_history end in
       let same : tree_at new first.number ≡ tree_at nodes first.number =
       apart_same first.number family.first_there (Is x a ∷ after (node_at nodes parent).block above) (at_first parent x a first second above there is before refl refl) (λ k. one_side x a (after (node_at nodes parent).block above) here k h) in
       let up : IsEnd above here = end_of_after (node_at nodes parent).block above here (end_of_cons (IsNot x a) (after (node_at nodes parent).block above) here h) in
-      let old = ap count (as_split nodes parent x a first second linked there is) in
-      let now = ap count (as_split new parent x a first second linked_new (omega (arith, changed.no_fewer)) (ap (λ (n : Node). n.end) e ∙ is)) in
-      let m : count (tree_at new second.number) ≡ count (tree_at nodes second.number) + 1 = subst (λ c. count (tree_at new c) ≡ count (tree_at nodes c) + 1) is_child more in
-      counted_up parent above before up (omega (arith, old, now, m, ap count same))
+      let old = ap measure (as_split nodes parent x a first second linked there is) ∙ adds (node_at nodes parent).block x a (tree_at nodes first.number) (tree_at nodes second.number) in
+      let now = ap measure (as_split new parent x a first second linked_new (omega (arith, changed.no_fewer)) (ap (λ (n : Node). n.end) e ∙ is)) ∙ adds (node_at new parent).block x a (tree_at new first.number) (tree_at new second.number) in
+      let m : measure (tree_at new second.number) ≡ measure (tree_at nodes second.number) + gain = subst (λ c. measure (tree_at new c) ≡ measure (tree_at nodes c) + gain) is_child more in
+      gained measure adds gain parent above before up (omega (arith, old, now, m, ap measure same))
 
-leaf_count : (nodes : List Node) (i : ℕ) → IsLinked nodes → i < length nodes → IsFree nodes i → count (tree_at nodes i) ≡ 0
-leaf_count nodes i linked there free = ap count (tree_at_is nodes i linked there ∙ ap (λ e. with_children (node_at nodes i).block e (tree_at nodes)) free)
+-- an open leaf's measure, where open leaves measure nothing
+leaf_measure : (measure : trees.Tree → ℕ) → ((block : List Step) → measure (trees.Open block) ≡ 0) → (nodes : List Node) (i : ℕ) → IsLinked nodes → i < length nodes → IsFree nodes i → measure (tree_at nodes i) ≡ 0
+leaf_measure measure none nodes i linked there free = ap measure (tree_at_is nodes i linked there ∙ ap (λ e. with_children (node_at nodes i).block e (tree_at nodes)) free) ∙ none (node_at nodes i).block
 
 itself : (history : List Event) → IsEnd history history
 unfolding IsEnd
 itself history = ([], refl)
 
-pub count_split : CountSplitLaw
-count_split nodes i x a linked there free room some =
+-- a split of an open leaf adds one
+split_gains : (measure : trees.Tree → ℕ) → AddsOverSplits measure → ((block : List Step) → measure (trees.Open block) ≡ 0) → (nodes : List Node) (i x a : ℕ) → IsLinked nodes → i < length nodes → IsFree nodes i → length nodes + 2 ≤ 2 ^ 32 → ((history : List Event) × Before nodes i history) → measure (tree_of (split_at nodes i x a)) ≡ measure (tree_of nodes) + 1
+split_gains measure adds none nodes i x a linked there free room some =
     let new = split_at nodes i x a in
     let changed = changed_by_split nodes i x a there free in
     let linked_new = linked_by_split nodes i x a linked there free room in
     let len = length-split_at nodes i x a there in
     let is : (node_at new i).end ≡ split_end x a (length nodes) = ap (λ (n : Node). n.end) (split_at-same nodes i x a there) in
-    let tree = ap count (tree_at_is new i linked_new (omega (arith, len)) ∙ ap (λ e. with_children (node_at new i).block e (tree_at new)) is) in
-    let left = leaf_count new (length nodes) linked_new (omega (arith, len)) (ap (λ (n : Node). n.end) (split_at-first nodes i x a there)) in
-    let right = leaf_count new (length nodes + 1) linked_new (omega (arith, len)) (ap (λ (n : Node). n.end) (split_at-second nodes i x a there)) in
-    counted_up nodes new i some.0 linked linked_new changed some.1 i some.0 some.1 (itself some.0)
-    (omega (arith, tree, left, right, leaf_count nodes i linked there free))
+    let tree = ap measure (tree_at_is new i linked_new (omega (arith, len)) ∙ ap (λ e. with_children (node_at new i).block e (tree_at new)) is) ∙ adds (node_at new i).block x a (tree_at new (length nodes)) (tree_at new (length nodes + 1)) in
+    let left = leaf_measure measure none new (length nodes) linked_new (omega (arith, len)) (ap (λ (n : Node). n.end) (split_at-first nodes i x a there)) in
+    let right = leaf_measure measure none new (length nodes + 1) linked_new (omega (arith, len)) (ap (λ (n : Node). n.end) (split_at-second nodes i x a there)) in
+    gained nodes new i some.0 linked linked_new changed some.1 measure adds 1 i some.0 some.1 (itself some.0)
+    (omega (arith, tree, left, right, leaf_measure measure none nodes i linked there free))
 
-pub count_close : CountCloseLaw
-count_close nodes i block linked there free some =
+-- a closing adds what a closed leaf measures
+close_gains : (measure : trees.Tree → ℕ) → AddsOverSplits measure → ((block : List Step) → measure (trees.Open block) ≡ 0) → (gain : ℕ) → ((block : List Step) → measure (trees.Closed block) ≡ gain) → (nodes : List Node) (i : ℕ) (block : List Step) → IsLinked nodes → i < length nodes → IsFree nodes i → ((history : List Event) × Before nodes i history) → measure (tree_of (close_at nodes i block)) ≡ measure (tree_of nodes) + gain
+close_gains measure adds none gain closes nodes i block linked there free some =
     let new = close_at nodes i block in
     let changed = changed_by_close nodes i block there free in
     let linked_new = linked_by_close nodes i block linked there free in
     let len = length-close_at nodes i block there in
     let is : (node_at new i).end ≡ Shut = ap (λ (n : Node). n.end) (close_at-same nodes i block there) in
-    let tree = ap count (tree_at_is new i linked_new (omega (arith, len)) ∙ ap (λ e. with_children (node_at new i).block e (tree_at new)) is) in
-    counted_up nodes new i some.0 linked linked_new changed some.1 i some.0 some.1 (itself some.0)
-    (omega (arith, tree, leaf_count nodes i linked there free))
+    let tree = ap measure (tree_at_is new i linked_new (omega (arith, len)) ∙ ap (λ e. with_children (node_at new i).block e (tree_at new)) is) ∙ closes (node_at new i).block in
+    gained nodes new i some.0 linked linked_new changed some.1 measure adds gain i some.0 some.1 (itself some.0)
+    (omega (arith, tree, leaf_measure measure none nodes i linked there free))
+
+count_adds : AddsOverSplits count
+count_adds block x a first second = refl
+
+splits_adds : AddsOverSplits splits
+splits_adds block x a first second = refl
+
+pub count_split : CountSplitLaw
+count_split = split_gains count count_adds (λ block. refl)
+
+pub count_close : CountCloseLaw
+count_close = close_gains count count_adds (λ block. refl) 1 (λ block. refl)
+
+pub splits_split : SplitsSplitLaw
+splits_split = split_gains splits splits_adds (λ block. refl)
+
+pub splits_close : SplitsCloseLaw
+splits_close nodes i block linked there free some =
+    let e = close_gains splits splits_adds (λ block. refl) 0 (λ block. refl) nodes i block linked there free some in
+    omega (arith, e)

@@ -3,3 +3,4 @@ pub mod Growth
 pub mod Histories
 pub mod WholeTree
 pub mod Written
+pub mod Rows

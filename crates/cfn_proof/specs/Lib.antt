@@ -1,3 +1,4 @@
 pub mod Nodes
 pub mod Local
 pub mod Certificates
+pub mod Outcome

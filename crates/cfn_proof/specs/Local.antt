@@ -7,7 +7,7 @@ use Rattle.cfn_model.specs.Network.{Network}
 use Rattle.cfn_model.specs.Sums.{floor}
 use Rattle.cfn_model.specs.Steps.{IsValue, Run, after}
 use Rattle.cfn_model.specs.Text.{IsSpelledTree}
-use Rattle.cfn_model.specs.Tree.{CanClose, IsStrictSplit, Valid, Strict, OpenBelow, bound, count, open_leaves}
+use Rattle.cfn_model.specs.Tree.{CanClose, IsStrictSplit, Valid, Strict, OpenBelow, bound, count, splits, open_leaves}
 use Rattle.cfn_proof.specs.declared.tree.End.{End}
 use Rattle.cfn_proof.specs.declared.tree.End.TheVariants.{Free, Shut, Split}
 use Rattle.cfn_proof.specs.declared.tree.Node.{Node}
@@ -62,6 +62,13 @@ CountSplitLaw = (nodes : List Node) (i x a : ℕ) → IsLinked nodes → i < len
 
 abbrev pub CountCloseLaw : Type 0
 CountCloseLaw = (nodes : List Node) (i : ℕ) (block : List Step) → IsLinked nodes → i < length nodes → IsFree nodes i → ((history : List Event) × Before nodes i history) → count (tree_of (close_at nodes i block)) ≡ count (tree_of nodes) + 1
+
+-- A split of an open leaf is one split more, and a closing is none.
+abbrev pub SplitsSplitLaw : Type 0
+SplitsSplitLaw = (nodes : List Node) (i x a : ℕ) → IsLinked nodes → i < length nodes → IsFree nodes i → length nodes + 2 ≤ 2 ^ 32 → ((history : List Event) × Before nodes i history) → splits (tree_of (split_at nodes i x a)) ≡ splits (tree_of nodes) + 1
+
+abbrev pub SplitsCloseLaw : Type 0
+SplitsCloseLaw = (nodes : List Node) (i : ℕ) (block : List Step) → IsLinked nodes → i < length nodes → IsFree nodes i → ((history : List Event) × Before nodes i history) → splits (tree_of (close_at nodes i block)) ≡ splits (tree_of nodes)
 
 -- After a split, what stands before a node is what stood before it, or a new child's.
 pub record IsNewChild (nodes : List Node) (i : ℕ) (decision : Event) (history : List Event) : Type 0 where

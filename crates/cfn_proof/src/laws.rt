@@ -1,6 +1,6 @@
 //! Laws of trees: what a whole tree has where each of its nodes has it, and what a split or a closing changes.
 
-ghost use Rattle.cfn_proof.specs.Local.{ValidLaw, StrictLaw, OpenBelowLaw, BoundFromLaw, BoundAtLaw, CountSplitLaw, CountCloseLaw, BeforeSplitLaw, BeforeCloseLaw, BeforeOnceLaw, BeforeSomeLaw, SpelledLaw, NoneOpenLaw, SomeOpenLaw};
+ghost use Rattle.cfn_proof.specs.Local.{ValidLaw, StrictLaw, OpenBelowLaw, BoundFromLaw, BoundAtLaw, CountSplitLaw, CountCloseLaw, SplitsSplitLaw, SplitsCloseLaw, BeforeSplitLaw, BeforeCloseLaw, BeforeOnceLaw, BeforeSomeLaw, SpelledLaw, NoneOpenLaw, SomeOpenLaw};
 
 /// A tree is valid at a threshold, or strict, where each of its nodes is after what stands before it.
 pub fn valid_where_nodes_are()
@@ -19,6 +19,12 @@ pub fn bound_where_floors_are()
 pub fn one_node_more()
     ensures split { CountSplitLaw }
     ensures close { CountCloseLaw }
+{}
+
+/// A split of an open leaf adds one to the number of splits, and a closing adds none.
+pub fn one_split_more()
+    ensures split { SplitsSplitLaw }
+    ensures close { SplitsCloseLaw }
 {}
 
 /// What stands before a node stays where another leaf is split or closed.

@@ -1,18 +1,21 @@
-//! What a search leaves as its proof: blocks of steps, paths, and trees of blocks.
+//! What a search leaves as its proof: blocks of steps, paths, and trees of blocks; and what it hands out with them.
 //!
 //! A tree is a list of nodes. What such a list means as a tree is defined in specs/Nodes.antt; specs/Local.antt
-//! says what a whole tree has where each of its nodes has it, and `laws` carries those statements.
+//! says what a whole tree has where each of its nodes has it, and `laws` carries those statements. specs/Outcome.antt
+//! says what every search owes of its `Outcome`.
 #![tactic(auto)]
 
 mod block;
 mod certificate;
 pub mod laws;
+mod outcome;
 mod path;
 mod tree;
 
 pub use block::Block;
 pub use certificate::Certificate;
 pub use cfn_model::{Event, Row, Step};
+pub use outcome::{Outcome, Stop};
 pub use path::Path;
 pub use tree::{End, Node, NodeId, Tree};
 

@@ -113,4 +113,4 @@ settled P nodes ids id best better spent lows highs block tree sound domains dec
     let low_sound = lowered P nodes (ids ++ id ∷ []) best better spent (network ∙ sym sound.network) solution less sound in
     closed P nodes ids id better spent (spent + 1) block tree low_sound
     (λ history before. let c = closes history (leaves_least P nodes ids id best spent lows highs history tree sound (domains history before) decided before) in (c.0, inl c.1))
-    (omega arith)
+    (omega arith) (omega arith)

@@ -10,7 +10,7 @@ use Rattle.cfn_model.specs.Sums.{floor}
 use Rattle.cfn_model.specs.Steps.{after}
 use Rattle.cfn_model.specs.Words.{greatest}
 use Rattle.cfn_model.specs.Text.{IsSpelled, IsSpelledBest}
-use Rattle.cfn_model.specs.Tree.{bound, count, open_leaves}
+use Rattle.cfn_model.specs.Tree.{bound, count, splits, open_leaves}
 use Rattle.cfn_model.specs.Certificate.{Solution, Certificate, IsBest, threshold_of, threshold}
 use Rattle.cfn_model.proofs.Bounding.{bound_low, fits_length}
 use Rattle.cfn_net.specs.Scoring.{Scoring}
@@ -19,9 +19,9 @@ use Rattle.cfn_proof.specs.declared.tree.Node.{Node}
 use Rattle.cfn_proof.specs.Nodes.{node_at, tree_of, IsTree, IsFree, Before}
 use Rattle.cfn_proof.proofs.WholeTree.{valid_law, strict_law, open_below_law, bound_from_law, bound_at_law, spelled_law, none_open_law, some_open_law}
 use Rattle.cfn_proof.proofs.Histories.{before_some}
-use Rattle.cfn_search.specs.declared.outcome.Stop.{Stop}
-use Rattle.cfn_search.specs.declared.outcome.Stop.TheVariants.{Done, Budget, Memory}
-use Rattle.cfn_search.specs.Outcome.{HasCause, IsSearched, RowHolds, opening}
+use Rattle.cfn_proof.specs.declared.outcome.Stop.{Stop}
+use Rattle.cfn_proof.specs.declared.outcome.Stop.TheVariants.{Done, Budget, Memory}
+use Rattle.cfn_proof.specs.Outcome.{HasCause, IsSearched, RowHolds, opening}
 use Rattle.cfn_search.specs.Sound.{Sound, price_of, number_at}
 use Rattle.cfn_search.proofs.Growing.{leaf_floor}
 use Rattle.cfn_search.proofs.Shifts.{total_split}
@@ -128,6 +128,7 @@ module _ (P : Network) (budget : ℕ) (nodes : List Node) (ids : List NodeId) (b
         lower = b;
         below = subst (λ t. Rattle.cfn_model.specs.Tree.OpenBelow P [] t (threshold c)) (sym is_tree) (subst (λ m. Rattle.cfn_model.specs.Tree.OpenBelow P [] (tree_of nodes) m) (sym k) (open_below_law P nodes (price_of best) tree.linked (record { each = λ i history h free before. let g = open_floor i history h free before in omega (arith, g.0, g.1) })));
         strict = subst (λ t. Rattle.cfn_model.specs.Tree.Strict P [] t) (sym is_tree) (strict_law P nodes tree.linked sound.strict);
+        expanded = let e = ap splits is_tree in omega (arith, sound.expanded, e);
         counted = let e = ap count is_tree in omega (arith, sound.counted, e);
         allowed = allowed;
         rows_hold = record {

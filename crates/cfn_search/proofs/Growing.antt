@@ -20,7 +20,7 @@ use Rattle.cfn_proof.specs.declared.tree.Node.{Node}
 use Rattle.cfn_proof.specs.Nodes.{node_at, open_node, IsTree, IsFree, Before, split_at, split_end, close_at}
 use Rattle.cfn_proof.specs.Local.{ValidNode, StrictNode}
 use Rattle.cfn_proof.proofs.Growth.{length-split_at, split_at-same, split_at-other, split_at-first, split_at-second, split_numbers, length-close_at, close_at-same, close_at-other}
-use Rattle.cfn_proof.proofs.Histories.{before_split, before_close, before_some, count_split, count_close}
+use Rattle.cfn_proof.proofs.Histories.{before_split, before_close, before_some, count_split, count_close, splits_split, splits_close}
 use Rattle.cfn_search.specs.Decisions.{low, high, InOrder}
 use Rattle.cfn_search.specs.Sound.{Sound, AreOpen, number_at, price_of}
 use Rattle.cfn_search.proofs.Live.{live_from, no_steps}
@@ -43,6 +43,7 @@ lowered P nodes ids best better spent same solution less sound = record {
   empty = sound.empty;
   splits = sound.splits;
   leaves = sound.leaves;
+  expanded = sound.expanded;
   counted = sound.counted;
 }
 
@@ -79,8 +80,8 @@ module _ (P : Network) (nodes : List Node) (ids : List NodeId) (id : NodeId) (be
   not_last : (j : ℕ) → j < length ids → number_at ids j ≢ id.number
   not_last j h same = sound.leaves.different j (length ids) h (omega (arith, length-append ids (id ∷ []))) (front_number ids id j h ∙ same ∙ sym (last_number ids id))
 
-  pub closed : ((history : List Event) → Before nodes id.number history → Run P history block (price_of best) × CanClose P (after block history) (price_of best)) → now ≤ spent + 1 → Sound P (close_at nodes id.number block) ids best now
-  closed closes fewer =
+  pub closed : ((history : List Event) → Before nodes id.number history → Run P history block (price_of best) × CanClose P (after block history) (price_of best)) → spent ≤ now → now ≤ spent + 1 → Sound P (close_at nodes id.number block) ids best now
+  closed closes more fewer =
       let there = last_there in
       let free = last_free in
       let same = close_at-same nodes id.number block there in
@@ -130,6 +131,7 @@ module _ (P : Network) (nodes : List Node) (ids : List NodeId) (id : NodeId) (be
                 ])
           ];
         };
+        expanded = let m = splits_close nodes id.number block tree.linked there free (before_some nodes id.number tree.linked there) in omega (arith, m, sound.expanded, more);
         counted = let m = count_close nodes id.number block tree.linked there free (before_some nodes id.number tree.linked there) in omega (arith, m, sound.counted, fewer);
       }
     where
@@ -305,6 +307,7 @@ module _ (P : Network) (nodes : List Node) (ids : List NodeId) (id one two : Nod
           ];
         };
         leaves = grown there free apart_from other len first_is second_is is_split;
+        expanded = let m = splits_split nodes id.number x a tree.linked there free room (before_some nodes id.number tree.linked there) in omega (arith, m, sound.expanded);
         counted = let m = count_split nodes id.number x a tree.linked there free room (before_some nodes id.number tree.linked there) in omega (arith, m, sound.counted);
       }
 
@@ -315,11 +318,11 @@ leaf_floor P nodes ids best spent i history sound there free before =
     ap (λ b. floor P (after b history)) block_is ∙ decisions_floor P history (no_steps P.sizes history (sound.order i history there before))
 
 -- an open leaf whose floor reaches the threshold is closed behind its own block
-pub swept : (P : Network) (nodes : List Node) (ids : List NodeId) (id : NodeId) (best : Scoring) (spent now : ℕ) → IsTree nodes → Sound P nodes (ids ++ id ∷ []) best spent → price_of best ≤ floor P [] → now ≤ spent + 1 → Sound P (close_at nodes id.number (node_at nodes id.number).block) ids best now
-swept P nodes ids id best spent now tree sound reached fewer =
+pub swept : (P : Network) (nodes : List Node) (ids : List NodeId) (id : NodeId) (best : Scoring) (spent now : ℕ) → IsTree nodes → Sound P nodes (ids ++ id ∷ []) best spent → price_of best ≤ floor P [] → spent ≤ now → now ≤ spent + 1 → Sound P (close_at nodes id.number (node_at nodes id.number).block) ids best now
+swept P nodes ids id best spent now tree sound reached more fewer =
     let there = last_there P nodes ids id best spent now [] tree sound in
     let free = last_free P nodes ids id best spent now [] tree sound in
     let block_is : (node_at nodes id.number).block ≡ [] = sound.empty id.number there (λ shut. shut_not_free shut free) in
     closed P nodes ids id best spent now (node_at nodes id.number).block tree sound
     (λ history before. (subst (λ b. Run P history b (price_of best)) (sym block_is) tt, inl (let f = leaf_floor P nodes (ids ++ id ∷ []) best spent id.number history sound there free before in omega (arith, f, reached))))
-    fewer
+    more fewer

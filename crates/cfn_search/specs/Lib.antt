@@ -3,5 +3,4 @@ pub mod Trees
 pub mod Closing
 pub mod Shifting
 pub mod Sound
-pub mod Outcome
 pub mod Searching

@@ -2,7 +2,7 @@
 use Rattle.std.specs.Prelude.{◌≡◌, ◌≢◌, ℕ, ◌<◌, ◌≤◌, List, [], length, slice_index_or}
 use Rattle.cfn_model.specs.declared.step.Event.{Event}
 use Rattle.cfn_model.specs.Network.{Network}
-use Rattle.cfn_model.specs.Tree.{count}
+use Rattle.cfn_model.specs.Tree.{count, splits}
 use Rattle.cfn_model.specs.Certificate.{threshold_of, IsBest}
 use Rattle.cfn_net.specs.Scoring.{Scoring}
 use Rattle.cfn_proof.specs.declared.tree.NodeId.{NodeId}
@@ -29,12 +29,13 @@ pub record AreOpen (nodes : List Node) (ids : List NodeId) : Type 0 where
   pub complete : (i : ℕ) → i < length nodes → IsFree nodes i → (j : ℕ) × (j < length ids) × (number_at ids j ≡ i)
 
 -- The tree is valid and strict at the threshold, its splits are decisions in order behind empty blocks, what is held
--- is a solution, and no more nodes are counted than the tree has.
+-- is a solution, each split is counted, and no more nodes are counted than the tree has.
 pub record Sound (P : Network) (nodes : List Node) (ids : List NodeId) (best : Scoring) (spent : ℕ) : Type 0 where
   pub network : best.network ≡ P
   pub solution : IsBest P best.held
   pub valid : ValidNodes P nodes (price_of best)
   pub strict : StrictNodes P nodes
+  pub expanded : splits (tree_of nodes) ≤ spent
   pub order : (i : ℕ) (history : List Event) → i < length nodes → Before nodes i history → InOrder P.sizes history
   pub empty : (i : ℕ) → i < length nodes → (node_at nodes i).end ≢ Shut → (node_at nodes i).block ≡ []
   pub splits : SplitsInRange P.sizes nodes

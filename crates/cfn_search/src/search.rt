@@ -7,15 +7,14 @@ ghost use Rattle.cfn_model.specs.Network.{Fits, cost, function_at};
 ghost use Rattle.cfn_model.specs.Sums.{constant, floor};
 ghost use Rattle.cfn_proof.specs.Certificates.{solution_of};
 ghost use Rattle.cfn_search.specs.Decisions.{AllDecided, IsFewest};
-ghost use Rattle.cfn_search.specs.Outcome.{IsOutcome, opening};
+ghost use Rattle.cfn_proof.specs.Outcome.{IsOutcome, opening};
 ghost use Rattle.cfn_search.specs.Sound.{price_of};
 
 use crate::closing::closing_block;
 use crate::domains::Domains;
-use crate::outcome::{Outcome, Stop};
 use cfn_cost::Cost;
 use cfn_net::{Network, Scored};
-use cfn_proof::{Certificate, NodeId, Row, Tree};
+use cfn_proof::{Certificate, NodeId, Outcome, Row, Stop, Tree};
 use std::alloc::{AllocError, Global};
 
 /// A search between two expansions.

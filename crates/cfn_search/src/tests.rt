@@ -1,6 +1,6 @@
 use super::*;
 use cfn_net::{Builder, Network};
-use cfn_proof::Tree;
+use cfn_proof::{Stop, Tree};
 use std::alloc::{AllocError, Global};
 use std::test::*;
 

@@ -10,7 +10,7 @@ returns-then-price-lowest-clause-ok c =
     let old = c.args.self.now in
     let reached : price_of old.best ≤ floor P [] = omega (arith, c.requires.lowest, c.price.ensures, c.if-price-lowest.true) in
     record {
-      sound = subst (λ m. Sound P m old.leaves.items old.best (old.nodes + 1)) (sym c.shut.ensures) (swept P old.tree old.leaves.items c.args.leaf old.best old.nodes (old.nodes + 1) c.linked.ensures c.requires.popped.sound reached (omega arith));
+      sound = subst (λ m. Sound P m old.leaves.items old.best (old.nodes + 1)) (sym c.shut.ensures) (swept P old.tree old.leaves.items c.args.leaf old.best old.nodes (old.nodes + 1) c.linked.ensures c.requires.popped.sound reached (omega arith) (omega arith));
       low = c.requires.popped.low;
       high = c.requires.popped.high;
     }

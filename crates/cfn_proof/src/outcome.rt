@@ -1,6 +1,7 @@
 //! What a search hands out.
 
-use cfn_proof::{Certificate, Row};
+use crate::certificate::Certificate;
+use cfn_model::Row;
 
 /// Why a search stopped.
 #[derive(Clone, Copy, Debug, PartialEq, Eq)]
