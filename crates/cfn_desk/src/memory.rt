@@ -164,7 +164,7 @@ impl MemoryDesk {
 
 impl Desk for MemoryDesk {
     ghost use Rattle.std.specs.Prelude.{◌≡◌, ◌+◌, ◌<◌, ◌⊎◌, ◌↔◌, [], ◌∷◌, length, None, Some, true, false, is_ok, IsErr, IsErrOf, IsSome, IsTrue, OnOk, OnErr};
-    ghost use Rattle.cfn_desk.specs.Outside.{Load, Open, Close, Discard, answer_of, after_put, after_say, said, written};
+    ghost use Rattle.cfn_desk.specs.Outside.{Load, Open, Close, Discard, Idle, IsIdle, IsWriting, Stored, answer_of, after_put, after_say, said, written};
     ghost use Rattle.cfn_desk.specs.MemoryDesk.{files_of, fails_next, after_call, bytes_of, file_of};
     ghost use Rattle.cfn_desk.specs.declared.memory.TheConstants.{NAME_ROOM};
 
@@ -186,6 +186,7 @@ impl Desk for MemoryDesk {
     }
 
     fn open_out(&mut self, name: &str) -> Result<(), Failed>
+        requires { IsIdle self.old.calls }
         // It fails where it was told to, after a file was stored, and at a name past its room.
         ensures fails { IsErr result
             ↔ (IsTrue (fails_next self.old) ⊎ IsSome self.old.stored
@@ -210,22 +211,24 @@ impl Desk for MemoryDesk {
     }
 
     fn put(&mut self, bytes: &[u8]) -> Result<(), Failed>
+        requires { IsWriting self.old.calls }
         // It fails where it was told to, and where the room is full.
         ensures fails { IsErr result ↔ (IsTrue (fails_next self.old)
             ⊎ (self.old.out_room < length (bytes_of (written self.old.calls)) + length bytes.now)) }
         ensures called { self.new
             ≡ after_call (after_put bytes.now result self.old.calls) self.old }
     {
-        if self.begin_call() || self.bytes.add(bytes).is_err() {
-            self.stage = Stage::Cut;
-            self.trace.put(bytes, Err(Failed));
-            return Err(Failed);
+        if !self.begin_call() && self.bytes.add(bytes).is_ok() {
+            self.trace.put(bytes, Ok(()));
+            return Ok(());
         }
-        self.trace.put(bytes, Ok(()));
-        Ok(())
+        self.stage = Stage::Cut;
+        self.trace.put(bytes, Err(Failed));
+        Err(Failed)
     }
 
     fn close_out(&mut self) -> Result<(), Failed>
+        requires { IsWriting self.old.calls }
         // It fails where it was told to, and drops the file.
         ensures fails { IsErr result ↔ IsTrue (fails_next self.old) }
         ensures ok { OnOk result (self.new ≡ record (after_call (Close true ∷ self.old.calls) self.old) {
@@ -233,14 +236,21 @@ impl Desk for MemoryDesk {
         }) }
         ensures err { OnErr result
             (self.new ≡ after_call (Close false ∷ self.old.calls) self.old) }
+        ensures stored { OnOk result (Stored (Some (files_of self.old))
+            (written self.old.calls) (Some (files_of self.new))) }
     {
-        let fails = self.begin_call();
-        self.stage = if fails { Stage::Empty } else { Stage::Kept };
-        self.trace.close(!fails);
-        if fails { Err(Failed) } else { Ok(()) }
+        if self.begin_call() {
+            self.stage = Stage::Empty;
+            self.trace.close(false);
+            return Err(Failed);
+        }
+        self.stage = Stage::Kept;
+        self.trace.close(true);
+        Ok(())
     }
 
     fn discard_out(&mut self)
+        requires { written self.old.calls ≡ Idle → ⊥ }
         ensures called { self.new ≡ record self.old { calls = Discard ∷ self.old.calls } }
     {
         self.stage = Stage::Empty;
@@ -254,12 +264,11 @@ impl Desk for MemoryDesk {
         ensures called { self.new
             ≡ after_call (after_say bytes.now result self.old.calls) self.old }
     {
-        let answer = if self.begin_call() || self.text.add(bytes).is_err() {
-            Err(Failed)
-        } else {
-            Ok(())
-        };
-        self.trace.say(bytes, answer);
-        answer
+        if !self.begin_call() && self.text.add(bytes).is_ok() {
+            self.trace.say(bytes, Ok(()));
+            return Ok(());
+        }
+        self.trace.say(bytes, Err(Failed));
+        Err(Failed)
     }
 }
