@@ -3,6 +3,7 @@
 use crate::interface::{Desk, Failed, LoadFault};
 use crate::named::{NamedFile, copy_files, find_file};
 use crate::room::Room;
+use crate::trace::Trace;
 use std::alloc::{AllocError, Global};
 use std::marker::Model;
 
@@ -12,57 +13,63 @@ pub const NAME_ROOM: usize = 4096;
 /// What the room for one written file has.
 #[derive(Clone, Copy, Debug, PartialEq, Eq)]
 enum Stage {
-    Unwritten,
-    Writing,
-    Written,
+    /// No file, or one that was dropped.
+    Empty,
+    /// A file that is being written.
+    Begun,
+    /// A file of which a piece failed.
+    Cut,
+    /// A file that was closed.
+    Kept,
 }
 
-/// A desk whose files and said bytes are in memory, all of which it takes when it is made. It tells
-/// everything. The calls that it was told to fail do so, and keep nothing of their piece.
+/// A desk whose files and said bytes are in memory, all of which it takes when it is made. It tells its files. The calls
+/// that it was told to fail do so, and keep nothing of their piece.
 #[derive(Drop)]
 pub struct MemoryDesk {
     given: Vec<NamedFile>,
     stage: Stage,
     name: Room,
     bytes: Room,
-    said: Room,
+    text: Room,
     failing: Vec<u64>,
-    calls: u64,
-    faults: u64,
+    made: u64,
+    trace: Trace,
 }
 
 impl Model for MemoryDesk {
     ghost use Rattle.std.specs.Prelude.{◌≡◌};
     ghost use Rattle.cfn_desk.specs.NamedFiles.{kept_files};
-    ghost use Rattle.cfn_desk.specs.MemoryDesk.{InMemory, out_at, written_at};
+    ghost use Rattle.cfn_desk.specs.MemoryDesk.{InMemory, stored_at, written_at};
+    ghost use Rattle.cfn_desk.specs.Outside.{said, written};
     ghost use Rattle.cfn_desk.specs.declared.memory.TheConstants.{NAME_ROOM};
 
     ghost Value = { InMemory };
 
     ghost view = { λ desk. record {
       given = kept_files desk.given.items;
-      written = written_at desk.stage desk.name desk.bytes;
-      out = out_at desk.stage desk.name desk.bytes;
-      said = desk.said.bytes;
-      calls = desk.calls;
-      faults = desk.faults;
+      stored = stored_at desk.stage desk.name desk.bytes;
+      calls = desk.trace.calls;
+      made = desk.made;
       failing = desk.failing.items;
       out_room = desk.bytes.limit;
-      said_room = desk.said.limit;
+      said_room = desk.text.limit;
     } };
 
-    ghost invariant = { λ desk. desk.name.limit ≡ NAME_ROOM };
+    ghost invariant = { λ desk. (desk.name.limit ≡ NAME_ROOM)
+        × ((written desk.trace.calls ≡ written_at desk.stage desk.name desk.bytes)
+        × (said desk.trace.calls ≡ desk.text.bytes)) };
 }
 
 impl MemoryDesk {
-    ghost use Rattle.std.specs.Prelude.{◌≡◌, [], None, map, IfOk, option_map, option_copied, unwrap_or};
-    ghost use Rattle.cfn_desk.specs.Desk.{counted, Rose};
-    ghost use Rattle.cfn_desk.specs.MemoryDesk.{files_of, fails_next, after_call};
+    ghost use Rattle.std.specs.Prelude.{◌≡◌, [], None, map, IfOk, option_copied};
+    ghost use Rattle.cfn_desk.specs.MemoryDesk.{bytes_of, files_of, fails_next};
+    ghost use Rattle.cfn_desk.specs.Outside.{said, written};
+    ghost use Rattle.cfn_desk.specs.SureDesk.{counted};
 
-    /// Takes all the memory that the desk will use: copies of the files, and room for one written
-    /// file of `out_room` bytes and for `said_room` bytes said. Where a name is given twice, the
-    /// first counts. `failing` has the ordinals of the calls that are to fail, counted from 1 over
-    /// all five methods.
+    /// Takes all the memory that the desk will use: copies of the files, and room for one written file of `out_room` bytes
+    /// and for `said_room` bytes said. Where a name is given twice, the first counts. `failing` has the ordinals of the
+    /// calls that are to fail, counted from 1 over all methods but `discard_out`, which can't fail.
     pub fn make(
         alloc: Global,
         files: &[(&str, &[u8])],
@@ -72,11 +79,9 @@ impl MemoryDesk {
     ) -> Result<MemoryDesk, AllocError>
         ensures { IfOk result (λ desk. desk ≡ record {
           given = map (λ file. (file.0.now, file.1.now)) files.now;
-          written = None;
-          out = None;
-          said = [];
-          calls = 0;
-          faults = 0;
+          stored = None;
+          calls = [];
+          made = 0;
           failing = failing.now;
           out_room = out_room;
           said_room = said_room;
@@ -84,47 +89,39 @@ impl MemoryDesk {
     {
         Ok(MemoryDesk {
             given: copy_files(alloc, files)?,
-            stage: Stage::Unwritten,
+            stage: Stage::Empty,
             name: Room::make(alloc, NAME_ROOM)?,
             bytes: Room::make(alloc, out_room)?,
-            said: Room::make(alloc, said_room)?,
+            text: Room::make(alloc, said_room)?,
             failing: Vec::from_slice(alloc, failing)?,
-            calls: 0,
-            faults: 0,
+            made: 0,
+            trace: Trace::new(),
         })
     }
 
     /// The bytes said so far.
     pub fn said_bytes(&self) -> &[u8]
-        ensures { result.now ≡ self.now.said }
+        ensures { result.now ≡ said self.now.calls }
     {
-        self.said.as_slice()
+        self.text.as_slice()
     }
 
-    /// The bytes of the file being written, or none.
+    /// The bytes of the file being written, or nothing where none is, or where a piece of it failed.
     pub fn out_bytes(&self) -> &[u8]
-        ensures { result.now ≡ unwrap_or (option_map (λ out. out.1) self.now.out) [] }
+        ensures { result.now ≡ bytes_of (written self.now.calls) }
     {
         match self.stage {
-            Stage::Writing => self.bytes.as_slice(),
-            Stage::Unwritten | Stage::Written => &[],
+            Stage::Begun => self.bytes.as_slice(),
+            Stage::Empty | Stage::Cut | Stage::Kept => &[],
         }
     }
 
-    /// How many calls failed, up to the last value of a u64.
-    pub fn fault_count(&self) -> u64
-        ensures { result ≡ self.now.faults }
-    {
-        self.faults
-    }
-
-    /// The bytes of the file of that name: the one that was written and closed, or else the first
-    /// that was given.
+    /// The bytes of the file of that name: the one that was written and closed, or else the first that was given.
     pub fn file(&self, name: &str) -> Option<&[u8]>
         ensures { option_copied result ≡ files_of self.now name.now }
     {
         let name = name.as_bytes();
-        if self.stage == Stage::Written && self.name.as_slice() == name {
+        if self.stage == Stage::Kept && self.name.as_slice() == name {
             return Some(self.bytes.as_slice());
         }
         find_file(&self.given, name)
@@ -133,133 +130,145 @@ impl MemoryDesk {
     /// Counts the call that begins, and answers whether it is to fail.
     fn begin_call(&mut self) -> bool
         ensures due { result ≡ fails_next self.old }
-        ensures counted { self.new ≡ after_call self.old }
+        ensures counted { self.new ≡ record self.old { made = counted self.old.made 1 } }
     {
-        self.calls = self.calls.saturating_add(1);
-        self.failing.contains(&self.calls)
-    }
-
-    /// Counts the fault of a call that fails.
-    fn raise_fault(&mut self) -> Failed
-        ensures counted { self.new ≡ record self.old { faults = counted self.old.faults 1 } }
-        ensures rose { Rose self.old.faults self.new.faults }
-    {
-        self.faults = self.faults.saturating_add(1);
-        Failed
+        let _ = &self.name;
+        self.made = self.made.saturating_add(1);
+        self.failing.contains(&self.made)
     }
 }
 
-impl Desk for MemoryDesk {
-    ghost use Rattle.std.specs.Prelude.{◌≡◌, ◌+◌, ◌<◌, ◌≤◌, ◌⊎◌, ◌↔◌, [], ◌++◌, length, None, Some, false, is_some, IsErr, IsErrOf, IsSome, IsSomeAnd, IsTrue, IfErr, OnOk, OnErr, option_map, refl};
-    ghost use Rattle.cfn_desk.specs.Desk.{FailsByFault, LoadFailsByFault, StoresOut};
-    ghost use Rattle.cfn_desk.specs.MemoryDesk.{files_of, fails_next, after_call, after_fault, none_if_not};
-    ghost use Rattle.cfn_desk.specs.declared.memory.TheConstants.{NAME_ROOM};
+impl MemoryDesk {
+    ghost use Rattle.std.specs.Prelude.{◌≡◌, ◌<◌, ◌⊎◌, ◌↔◌, [], None, Some, IsErr, IsErrOf, IsSome, IsTrue, OnOk, OnErr, length};
+    ghost use Rattle.cfn_desk.specs.MemoryDesk.{files_of, fails_next};
+    ghost use Rattle.cfn_desk.specs.SureDesk.{counted};
 
-    ghost files = { λ desk. Some (files_of desk) };
-
-    ghost said = { λ desk. Some desk.said };
-
-    ghost out = { λ desk. desk.out };
-
-    ghost writing = { λ desk. is_some desk.out };
-
-    ghost faults = { λ desk. desk.faults };
-
-    ghost idle = { λ desk. none_if_not desk.out };
-
-    fn load(&mut self, name: &str, into: &mut Vec<u8>) -> Result<(), LoadFault>
+    /// Reads the file of that name into `into`, which is empty, or fails where that was told.
+    fn read(&mut self, name: &str, into: &mut Vec<u8>) -> Result<(), LoadFault>
+        requires { into.old.items ≡ [] }
         ensures fails { IsErrOf result LoadFault.Failed
             ↔ (IsTrue (fails_next self.old) ⊎ (files_of self.old name.now ≡ None)) }
         ensures read { OnOk result (files_of self.old name.now ≡ Some into.new.items) }
         ensures emptied { OnErr result (into.new.items ≡ []) }
-        ensures ok { OnOk result (self.new ≡ after_call self.old) }
-        ensures failed { IsErrOf result LoadFault.Failed → self.new ≡ after_fault self.old }
-        ensures memory { IsErrOf result LoadFault.Memory → self.new ≡ after_call self.old }
-        ensures cause { LoadFailsByFault result self.old.faults self.new.faults }
-        ensures never_falls { self.old.faults ≤ self.new.faults }
+        ensures same { self.new ≡ record self.old { made = counted self.old.made 1 } }
     {
-        into.clear();
         if self.begin_call() {
-            self.raise_fault();
             return Err(LoadFault::Failed);
         }
         let Some(bytes) = self.file(name) else {
-            self.raise_fault();
             return Err(LoadFault::Failed);
         };
         into.extend_from_slice(bytes).map_err(|_| LoadFault::Memory)
     }
+}
+
+impl Desk for MemoryDesk {
+    ghost use Rattle.std.specs.Prelude.{◌≡◌, ◌+◌, ◌<◌, ◌⊎◌, ◌↔◌, [], ◌∷◌, length, None, Some, true, false, is_ok, IsErr, IsErrOf, IsSome, IsTrue, OnOk, OnErr};
+    ghost use Rattle.cfn_desk.specs.Outside.{Load, Open, Close, Discard, Idle, IsIdle, IsWriting, Stored, answer_of, after_put, after_say, said, written};
+    ghost use Rattle.cfn_desk.specs.MemoryDesk.{files_of, fails_next, after_call, bytes_of, file_of};
+    ghost use Rattle.cfn_desk.specs.declared.memory.TheConstants.{NAME_ROOM};
+
+    ghost outside = { λ desk. record { calls = desk.calls; files = Some (files_of desk) } };
+
+    fn load(&mut self, name: &str, into: &mut Vec<u8>) -> Result<(), LoadFault>
+        // It fails where it was told to, and where the file is not there.
+        ensures fails { IsErrOf result LoadFault.Failed
+            ↔ (IsTrue (fails_next self.old) ⊎ (files_of self.old name.now ≡ None)) }
+        ensures read { OnOk result (files_of self.old name.now ≡ Some into.new.items) }
+        ensures emptied { OnErr result (into.new.items ≡ []) }
+        ensures called { self.new ≡ after_call
+            (Load name.now (answer_of result into.new.items) ∷ self.old.calls) self.old }
+    {
+        into.clear();
+        let answer = self.read(name, into);
+        self.trace.load(name, answer, into);
+        answer
+    }
 
     fn open_out(&mut self, name: &str) -> Result<(), Failed>
-        requires { is_some self.old.out ≡ false }
+        requires { IsIdle self.old.calls }
+        // It fails where it was told to, after a file was stored, and at a name past its room.
         ensures fails { IsErr result
-            ↔ (IsTrue (fails_next self.old) ⊎ IsSome self.old.written
+            ↔ (IsTrue (fails_next self.old) ⊎ IsSome self.old.stored
             ⊎ (NAME_ROOM < length name.now)) }
-        ensures ok { OnOk result
-            (self.new ≡ record (after_call self.old) { out = Some (name.now, []) }) }
-        ensures failed { OnErr result (self.new ≡ after_fault self.old) }
-        ensures cause { FailsByFault result self.old.faults self.new.faults }
-        ensures never_falls { self.old.faults ≤ self.new.faults }
+        ensures called { self.new
+            ≡ after_call (Open name.now (is_ok result) ∷ self.old.calls) self.old }
     {
-        if self.begin_call() || self.stage == Stage::Written {
-            return Err(self.raise_fault());
+        if self.begin_call() || self.stage == Stage::Kept {
+            self.trace.open(name, false);
+            return Err(Failed);
         }
         self.name.clear();
         self.bytes.clear();
         if self.name.add(name.as_bytes()).is_err() {
-            return Err(self.raise_fault());
+            self.stage = Stage::Empty;
+            self.trace.open(name, false);
+            return Err(Failed);
         }
-        self.stage = Stage::Writing;
+        self.stage = Stage::Begun;
+        self.trace.open(name, true);
         Ok(())
     }
 
     fn put(&mut self, bytes: &[u8]) -> Result<(), Failed>
-        requires { IsTrue (is_some self.old.out) }
+        requires { IsWriting self.old.calls }
+        // It fails where it was told to, and where the room is full.
         ensures fails { IsErr result ↔ (IsTrue (fails_next self.old)
-            ⊎ IsSomeAnd self.old.out (λ out. self.old.out_room < length out.1 + length bytes.now)) }
-        ensures ok { OnOk result (self.new ≡ record (after_call self.old)
-            { out = option_map (λ out. (out.0, out.1 ++ bytes.now)) self.old.out }) }
-        ensures failed { OnErr result (self.new ≡ after_fault self.old) }
-        ensures cause { FailsByFault result self.old.faults self.new.faults }
-        ensures never_falls { self.old.faults ≤ self.new.faults }
+            ⊎ (self.old.out_room < length (bytes_of (written self.old.calls)) + length bytes.now)) }
+        ensures called { self.new
+            ≡ after_call (after_put bytes.now result self.old.calls) self.old }
     {
-        if self.begin_call() || self.bytes.add(bytes).is_err() {
-            return Err(self.raise_fault());
+        if !self.begin_call() && self.bytes.add(bytes).is_ok() {
+            self.trace.put(bytes, Ok(()));
+            return Ok(());
         }
-        Ok(())
+        self.stage = Stage::Cut;
+        self.trace.put(bytes, Err(Failed));
+        Err(Failed)
     }
 
     fn close_out(&mut self) -> Result<(), Failed>
-        requires { IsTrue (is_some self.old.out) }
+        requires { IsWriting self.old.calls }
+        // It fails where it was told to, and drops the file.
         ensures fails { IsErr result ↔ IsTrue (fails_next self.old) }
-        ensures ok { OnOk result
-            (self.new ≡ record (after_call self.old) { out = None; written = self.old.out }) }
-        ensures failed { OnErr result (self.new ≡ record (after_fault self.old) { out = None }) }
-        ensures stored { OnOk result
-            (StoresOut (Some (files_of self.old)) self.old.out (Some (files_of self.new))) }
-        ensures cause { FailsByFault result self.old.faults self.new.faults }
-        ensures never_falls { self.old.faults ≤ self.new.faults }
+        ensures ok { OnOk result (self.new ≡ record (after_call (Close true ∷ self.old.calls) self.old) {
+          stored = file_of (written self.old.calls);
+        }) }
+        ensures err { OnErr result
+            (self.new ≡ after_call (Close false ∷ self.old.calls) self.old) }
+        ensures stored { OnOk result (Stored (Some (files_of self.old))
+            (written self.old.calls) (Some (files_of self.new))) }
     {
         if self.begin_call() {
-            self.stage = Stage::Unwritten;
-            return Err(self.raise_fault());
+            self.stage = Stage::Empty;
+            self.trace.close(false);
+            return Err(Failed);
         }
-        self.stage = Stage::Written;
+        self.stage = Stage::Kept;
+        self.trace.close(true);
         Ok(())
     }
 
-    fn say(&mut self, bytes: &[u8]) -> Result<(), Failed>
-        ensures fails { IsErr result ↔ (IsTrue (fails_next self.old)
-            ⊎ (self.old.said_room < length self.old.said + length bytes.now)) }
-        ensures ok { OnOk result
-            (self.new ≡ record (after_call self.old) { said = self.old.said ++ bytes.now }) }
-        ensures failed { OnErr result (self.new ≡ after_fault self.old) }
-        ensures cause { FailsByFault result self.old.faults self.new.faults }
-        ensures never_falls { self.old.faults ≤ self.new.faults }
+    fn discard_out(&mut self)
+        requires { written self.old.calls ≡ Idle → ⊥ }
+        ensures called { self.new ≡ record self.old { calls = Discard ∷ self.old.calls } }
     {
-        if self.begin_call() || self.said.add(bytes).is_err() {
-            return Err(self.raise_fault());
+        self.stage = Stage::Empty;
+        self.trace.discard();
+    }
+
+    fn say(&mut self, bytes: &[u8]) -> Result<(), Failed>
+        // It fails where it was told to, and where the room is full.
+        ensures fails { IsErr result ↔ (IsTrue (fails_next self.old)
+            ⊎ (self.old.said_room < length (said self.old.calls) + length bytes.now)) }
+        ensures called { self.new
+            ≡ after_call (after_say bytes.now result self.old.calls) self.old }
+    {
+        if !self.begin_call() && self.text.add(bytes).is_ok() {
+            self.trace.say(bytes, Ok(()));
+            return Ok(());
         }
-        Ok(())
+        self.trace.say(bytes, Err(Failed));
+        Err(Failed)
     }
 }
