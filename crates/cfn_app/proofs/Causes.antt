@@ -13,11 +13,11 @@ use Rattle.cfn_model.specs.Steps.{after}
 use Rattle.cfn_model.specs.Tree.{Tree, Open, Closed, Split, OpenBelow, open_leaves, bound}
 use Rattle.cfn_model.specs.Certificate.{Solution, Certificate, Good, threshold, threshold_of}
 use Rattle.cfn_model.proofs.Bounding.{lower_bounds, optimum, none_below}
-use Rattle.cfn_search.specs.declared.outcome.Stop.{Stop}
-use Rattle.cfn_search.specs.declared.outcome.Stop.TheVariants.{Done, Budget, Memory}
-use Rattle.cfn_search.specs.Outcome.{IsSearched, HasCause}
+use Rattle.cfn_proof.specs.declared.outcome.Stop.{Stop}
+use Rattle.cfn_proof.specs.declared.outcome.Stop.TheVariants.{Done, Budget, Memory}
+use Rattle.cfn_proof.specs.Outcome.{IsSearched, HasCause}
 use Rattle.cfn_app.specs.Headline.{HasOptimum, HasNone, HasCauses, Promise}
-use Rattle.cfn_app.specs.Results.{word_of, word_when_done}
+use Rattle.cfn_app.specs.Solving.{word_of, word_when_done}
 
 -- a tree without open leaves has the threshold as its bound, and one with an open leaf less
 bound_closed : (P : Network) (history : List Event) (tree : Tree) (k : ℕ) → open_leaves tree ≡ 0 → bound P history tree k ≡ k
@@ -134,6 +134,7 @@ promised P budget nodes c rows stop network s =
       below = s.below;
       rows_hold = s.rows_hold;
       allowed = s.allowed;
+      expanded = s.expanded;
       counted = s.counted;
       strict = s.strict;
       causes = by_cause;

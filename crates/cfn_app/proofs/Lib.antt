@@ -1,3 +1,1 @@
-pub mod Causes
-pub mod Ends
-pub mod Ending
+mod Causes

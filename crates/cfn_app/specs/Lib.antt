@@ -1,7 +1,8 @@
-pub mod Outside
+pub mod Checking
+pub mod Costing
+pub mod Endings
 pub mod Headline
+pub mod Loading
 pub mod Runs
+pub mod Solving
 pub mod Statuses
-pub mod Results
-pub mod Saving
-pub mod Output

@@ -1,107 +1,178 @@
--- What each status of a run says.
-use Rattle.std.specs.Prelude.{◌≡◌, ◌≢◌, ◌⊎◌, ℕ, ◌≤◌, List, length, Option, Some, None, IsSomeAnd}
+-- What each status of a run says, and which one comes.
+use Rattle.std.specs.Prelude.{◌≡◌, ◌⊎◌, ℕ, ◌<◌, true, List, ◌∷◌, Option, Some, None, length}
+use Rattle.cfn_model.specs.declared.report.Row.{Row}
 use Rattle.cfn_model.specs.declared.report.ResultWord.{ResultWord}
-use Rattle.cfn_model.specs.declared.report.ResultWord.TheVariants.{Optimum, Nothing, Budget, Memory}
+use Rattle.cfn_model.specs.declared.report.ResultWord.TheVariants.{Optimum, Budget, Memory}
+use Rattle.cfn_model.specs.declared.report.ResultWord.TheVariants as words
 use Rattle.cfn_model.specs.declared.reading.Refusal.{Refusal}
 use Rattle.cfn_model.specs.Network.{Network, Fits, cost as cost_at}
-use Rattle.cfn_model.specs.Reading.{Reads, Refuses}
-use Rattle.cfn_model.specs.Text.{Spells, refusal_text, memory_fault_text, cost_text, values_fault_text, value_fault_text}
-use Rattle.cfn_desk.specs.Desk.{Rose}
-use Rattle.cfn_net.specs.Fitting.{IsFirstMisfit}
 use Rattle.cfn_model.specs.Certificate.{Certificate, Good}
+use Rattle.cfn_model.specs.Text.{Spells, spelling, report, refusal_text, memory_fault_text, cost_text, values_fault_text, value_fault_text}
+use Rattle.cfn_net.specs.Fitting.{IsFirstMisfit}
 use Rattle.cfn_fault.specs.declared.kind.FaultKind.{FaultKind}
-use Rattle.cfn_fault.specs.Fault.{Fault}
+use Rattle.cfn_fault.specs.Fault as faulty
 use Rattle.cfn_check.specs.Checking.{cost_of}
 use Rattle.cfn_report.specs.Texts.{usage_text, verified_text, refused_text}
+use Rattle.cfn_desk.specs.Outside.{Outside, Call, Open, Close, Writing, HasFile, IsIdle, Stored, faults, puts, says}
 use Rattle.cfn_cli.specs.Request.{Request, solve, check, cost, SolveRequest, CheckRequest, CostRequest}
-use Rattle.cfn_app.specs.Outside.{Outside, HasFile, ReadsFile, RefusesFile, Says}
-use Rattle.cfn_app.specs.Headline.{Reports, Verifies}
-use Rattle.cfn_app.specs.Runs.{file_of, HasOthers}
+use Rattle.cfn_app.specs.declared.format.Format.TheVariants.{Wcsp}
+use Rattle.cfn_app.specs.declared.status.Status.{Status}
+use Rattle.cfn_app.specs.declared.status.Status.TheVariants.{Done, Nothing, BudgetSpent, Usage, Refused, Fault, NoMemory, Disproved}
+use Rattle.cfn_app.specs.Endings.{IsHindered}
+use Rattle.cfn_app.specs.Headline.{Promise}
+use Rattle.cfn_app.specs.Loading.{ReadsAs, RefusesAs, Tells, loaded}
+use Rattle.cfn_app.specs.Checking.{Verifies}
 
--- The words ask for `solve`, and a report with this result stands.
-abbrev pub Solved : Option Request → Outside → Outside → ResultWord → Type 0
-Solved request old new word = (ask : SolveRequest) × (request ≡ Some (solve ask)) × Reports ask old new word
+-- The count of failed calls: it rose with the status of a fault, and with no other.
+abbrev pub Counts : List Call → List Call → Status → Type 0
+Counts before now Done = faults now ≡ faults before
+Counts before now Nothing = faults now ≡ faults before
+Counts before now BudgetSpent = faults now ≡ faults before
+Counts before now Usage = faults now ≡ faults before
+Counts before now Refused = faults now ≡ faults before
+Counts before now Fault = faults before < faults now
+Counts before now NoMemory = faults now ≡ faults before
+Counts before now Disproved = faults now ≡ faults before
 
--- The words ask for `check`, the certificate is good, and its bounds are said.
-abbrev pub Verified : Option Request → Outside → Outside → Type 0
-Verified request old new =
-    (ask : CheckRequest) × (P : Network) × (bytes : List ℕ) × (c : Certificate) × (request ≡ Some (check ask)) × ReadsFile old ask.file P × HasFile old ask.certificate bytes × Verifies P bytes c
-    × Says old new (verified_text c.lower (cost_of c.best))
+-- After these calls a text was said, and no file was written.
+abbrev pub Says : Outside → List Call → List ℕ → Outside → Type 0
+Says old calls text new = (new.calls ≡ says text calls) × (new.files ≡ old.files)
 
--- The words ask for `check`, a line of the certificate fails, no earlier one does, and how it fails is said.
-abbrev pub Disproved : Option Request → Outside → Outside → Type 0
-Disproved request old new =
-    (ask : CheckRequest) × (P : Network) × (bytes : List ℕ) × (l : ℕ) × (kind : FaultKind) × (request ≡ Some (check ask)) × ReadsFile old ask.file P × HasFile old ask.certificate bytes × Fault P bytes l kind
-    × Says old new (refused_text kind l)
+-- Want of memory was said, and no file was written.
+abbrev pub SaysNoMemory : Outside → Outside → Type 0
+SaysNoMemory old new = (calls : List Call) × Says old calls memory_fault_text new
 
--- The words ask for `cost`, and the cost of the assignment is said.
-abbrev pub Costed : Option Request → Outside → Outside → Type 0
-Costed request old new =
-    (ask : CostRequest) × (P : Network) × (request ≡ Some (cost ask)) × ReadsFile old ask.file P × Fits P.sizes ask.values × Says old new (cost_text P.upper (cost_at P ask.values))
+-- The bytes of the file are refused, and what is wrong with their first word that fails was said, after these calls.
+abbrev pub FileRefused : (List ℕ → List Call) → List ℕ → Outside → Outside → Type 0
+FileRefused calls file old new = (bytes : List ℕ) × (refusal : Refusal) × HasFile old file bytes × RefusesAs Wcsp bytes refusal × Says old (calls bytes) (refusal_text refusal) new
 
--- The file was refused, after all that is asked for was loaded, and what is wrong with its first word that fails was
--- said.
-abbrev pub FileRefused : Option Request → Outside → Outside → Type 0
-FileRefused request old new =
-    (ask : Request) × (refusal : Refusal) × (request ≡ Some ask) × RefusesFile old (file_of ask) refusal × HasOthers old ask × Says old new (refusal_text refusal)
+-- ---- solve
 
--- What is wrong with an assignment, and what is said of it: the number of its values, or the first value out of range.
-abbrev pub Misfits : Network → List ℕ → Outside → Outside → Type 0
-Misfits P values old new =
-    ((length values ≢ length P.sizes) × Says old new (values_fault_text (length P.sizes) (length values)))
-    ⊎ ((x : ℕ) × IsFirstMisfit P.sizes values x × Says old new (value_fault_text x))
+-- The file's network was searched with this result: its certificate is written, and then its report was said.
+pub record Solved (ask : SolveRequest) (old new : Outside) (word : ResultWord) : Type 0 where
+  pub bytes : List ℕ
+  pub network : Network
+  pub nodes : ℕ
+  pub certificate : Certificate
+  pub rows : List Row
+  pub file : HasFile old ask.file bytes
+  pub reads : ReadsAs Wcsp bytes network
+  pub promise : Promise network ask.budget nodes certificate rows word
+  pub stored : Stored old.files (Writing ask.certificate (spelling certificate)) new.files
+  pub calls : new.calls ≡ says (report ask.workers certificate rows nodes word) (Close true ∷ puts (spelling certificate) (Open ask.certificate true ∷ loaded ask.file bytes old.calls))
 
--- The words ask for `cost`, and the values of the assignment were refused.
-abbrev pub ValuesRefused : Option Request → Outside → Outside → Type 0
-ValuesRefused request old new =
-    (ask : CostRequest) × (P : Network) × (request ≡ Some (cost ask)) × ReadsFile old ask.file P × Misfits P ask.values old new
+abbrev pub SolveSays : SolveRequest → Outside → Outside → Status → Type 0
+SolveSays ask old new Done = Solved ask old new Optimum
+SolveSays ask old new Nothing = Solved ask old new words.Nothing
+SolveSays ask old new BudgetSpent = Solved ask old new Budget
+SolveSays ask old new Usage = ⊥
+SolveSays ask old new Refused = FileRefused (λ bytes. loaded ask.file bytes old.calls) ask.file old new
+SolveSays ask old new Fault = Unit {0}
+SolveSays ask old new NoMemory = SaysNoMemory old new ⊎ Solved ask old new Memory
+SolveSays ask old new Disproved = ⊥
 
--- The desk tells the file of the request, and its bytes are refused.
-abbrev pub IsRefused : Option Request → Outside → Type 0
-IsRefused request old = IsSomeAnd request (λ ask. IsSomeAnd old.files (λ files. (bytes : List ℕ) × (refusal : Refusal) × (files (file_of ask) ≡ Some bytes) × Refuses bytes refusal))
+-- A result was reported.
+abbrev pub IsReported : Status → Type 0
+IsReported status = (status ≡ Done) ⊎ ((status ≡ Nothing) ⊎ (status ≡ BudgetSpent))
 
--- The desk tells the file of this name, and its bytes read as P.
-abbrev pub Tells : Outside → List ℕ → Network → Type 0
-Tells old file P = IsSomeAnd old.files (λ files. (bytes : List ℕ) × (files file ≡ Some bytes) × Reads bytes P)
+-- What a status of `solve` says; a file that is refused ends with that, and one that reads as a network with a report.
+pub record SolveStatus (ask : SolveRequest) (old new : Outside) (status : Status) : Type 0 where
+  pub says : SolveSays ask old new status
+  pub refused : (bytes : List ℕ) (refusal : Refusal) → Tells old ask.file bytes → RefusesAs Wcsp bytes refusal → (status ≡ Refused) ⊎ IsHindered status
+  pub solved : (bytes : List ℕ) (P : Network) → Tells old ask.file bytes → ReadsAs Wcsp bytes P → IsReported status ⊎ IsHindered status
 
--- The desk tells that the file of this name has these bytes.
-abbrev pub TellsBytes : Outside → List ℕ → List ℕ → Type 0
-TellsBytes old file bytes = IsSomeAnd old.files (λ files. files file ≡ Some bytes)
+-- ---- check
 
--- A call of the desk failed, or memory was refused.
-abbrev pub IsHindered : ℕ → Type 0
-IsHindered status = (status ≡ 5) ⊎ (status ≡ 6)
+abbrev pub both : CheckRequest → Outside → List ℕ → List ℕ → List Call
+both ask old bytes text = loaded ask.certificate text (loaded ask.file bytes old.calls)
 
--- What each status says, and which one comes where no call of the desk fails and no memory is refused.
-pub record Statuses (request : Option Request) (old new : Outside) (status : ℕ) : Type 0 where
-  -- an optimum is reported, a certificate is good, or a cost is said
-  pub done : status ≡ 0 → Solved request old new Optimum ⊎ (Verified request old new ⊎ Costed request old new)
-  -- it is reported that no assignment is below the upper bound
-  pub none : status ≡ 1 → Solved request old new Nothing
-  -- bounds are reported, and the budget is spent
-  pub budget_spent : status ≡ 2 → Solved request old new Budget
-  -- the words are no command
-  pub usage : status ≡ 3 → (request ≡ None) × Says old new usage_text
-  -- the file is refused, or the values are
-  pub refused : status ≡ 4 → FileRefused request old new ⊎ ValuesRefused request old new
-  -- a call of the desk failed
-  pub fault : status ≡ 5 → Rose old.faults new.faults
-  -- memory was refused, before there was anything to report or after
-  pub memory : status ≡ 6 → Says old new memory_fault_text ⊎ Solved request old new Memory
-  -- a certificate is refused
-  pub disproved : status ≡ 7 → Disproved request old new
-  -- there is no other status, and no fault was counted but with 5
-  pub range : status ≤ 7
-  pub faultless : status ≢ 5 → new.faults ≡ old.faults
-  -- words that are no command end with the usage
-  pub no_command : request ≡ None → (status ≡ 3) ⊎ IsHindered status
-  -- a file that is refused ends with that
-  pub file_refused : IsRefused request old → (status ≡ 4) ⊎ IsHindered status
-  -- a file that reads as a network is solved
-  pub solves : (ask : SolveRequest) (P : Network) → request ≡ Some (solve ask) → Tells old ask.file P → (status ≡ 0) ⊎ ((status ≡ 1) ⊎ ((status ≡ 2) ⊎ IsHindered status))
-  -- a good certificate is verified, and any other text is refused
-  pub checks : (ask : CheckRequest) (P : Network) (bytes : List ℕ) (c : Certificate) → request ≡ Some (check ask) → Tells old ask.file P → TellsBytes old ask.certificate bytes → Spells c bytes → Good P c → (status ≡ 0) ⊎ IsHindered status
-  pub refuses : (ask : CheckRequest) (P : Network) (bytes : List ℕ) (l : ℕ) (kind : FaultKind) → request ≡ Some (check ask) → Tells old ask.file P → TellsBytes old ask.certificate bytes → Fault P bytes l kind → (status ≡ 7) ⊎ IsHindered status
-  -- the cost of an assignment that fits is said, and one that does not fit is refused
-  pub costs : (ask : CostRequest) (P : Network) → request ≡ Some (cost ask) → Tells old ask.file P → Fits P.sizes ask.values → (status ≡ 0) ⊎ IsHindered status
-  pub misfits : (ask : CostRequest) (P : Network) → request ≡ Some (cost ask) → Tells old ask.file P → (Fits P.sizes ask.values → ⊥) → (status ≡ 4) ⊎ IsHindered status
+-- The certificate is good, and its bounds were said.
+abbrev pub Verified : CheckRequest → Outside → Outside → Type 0
+Verified ask old new =
+    (bytes : List ℕ) × (text : List ℕ) × (P : Network) × (c : Certificate) × HasFile old ask.file bytes × HasFile old ask.certificate text × ReadsAs Wcsp bytes P × Verifies P text c
+    × Says old (both ask old bytes text) (verified_text c.lower (cost_of c.best)) new
+
+-- A line of the certificate fails, no earlier one does, and how it fails was said.
+abbrev pub Refuted : CheckRequest → Outside → Outside → Type 0
+Refuted ask old new =
+    (bytes : List ℕ) × (text : List ℕ) × (P : Network) × (l : ℕ) × (kind : FaultKind) × HasFile old ask.file bytes × HasFile old ask.certificate text × ReadsAs Wcsp bytes P × faulty.Fault P text l kind
+    × Says old (both ask old bytes text) (refused_text kind l) new
+
+-- The file was refused, after the certificate was loaded too.
+abbrev pub CheckRefused : CheckRequest → Outside → Outside → Type 0
+CheckRefused ask old new = (text : List ℕ) × HasFile old ask.certificate text × FileRefused (λ bytes. both ask old bytes text) ask.file old new
+
+abbrev pub CheckSays : CheckRequest → Outside → Outside → Status → Type 0
+CheckSays ask old new Done = Verified ask old new
+CheckSays ask old new Nothing = ⊥
+CheckSays ask old new BudgetSpent = ⊥
+CheckSays ask old new Usage = ⊥
+CheckSays ask old new Refused = CheckRefused ask old new
+CheckSays ask old new Fault = Unit {0}
+CheckSays ask old new NoMemory = SaysNoMemory old new
+CheckSays ask old new Disproved = Refuted ask old new
+
+-- What a status of `check` says; a file that is refused ends with that, a good certificate is verified, and any other
+-- text is refused.
+pub record CheckStatus (ask : CheckRequest) (old new : Outside) (status : Status) : Type 0 where
+  pub says : CheckSays ask old new status
+  pub refused : (bytes : List ℕ) (refusal : Refusal) → Tells old ask.file bytes → RefusesAs Wcsp bytes refusal → (status ≡ Refused) ⊎ IsHindered status
+  pub verified : (bytes text : List ℕ) (P : Network) (c : Certificate) → Tells old ask.file bytes → Tells old ask.certificate text → ReadsAs Wcsp bytes P → Spells c text → Good P c → (status ≡ Done) ⊎ IsHindered status
+  pub refuted : (bytes text : List ℕ) (P : Network) (l : ℕ) (kind : FaultKind) → Tells old ask.file bytes → Tells old ask.certificate text → ReadsAs Wcsp bytes P → faulty.Fault P text l kind → (status ≡ Disproved) ⊎ IsHindered status
+
+-- ---- cost
+
+-- The cost of the assignment was said.
+abbrev pub Costed : CostRequest → Outside → Outside → Type 0
+Costed ask old new =
+    (bytes : List ℕ) × (P : Network) × HasFile old ask.file bytes × ReadsAs Wcsp bytes P × Fits P.sizes ask.values × Says old (loaded ask.file bytes old.calls) (cost_text P.upper (cost_at P ask.values)) new
+
+-- What is wrong with an assignment, and what was said of it: the number of its values, or the first value out of range.
+abbrev pub Misfits : Network → CostRequest → Outside → List Call → Outside → Type 0
+Misfits P ask old calls new =
+    ((length ask.values ≡ length P.sizes → ⊥) × Says old calls (values_fault_text (length P.sizes) (length ask.values)) new)
+    ⊎ ((x : ℕ) × IsFirstMisfit P.sizes ask.values x × Says old calls (value_fault_text x) new)
+
+abbrev pub ValuesRefused : CostRequest → Outside → Outside → Type 0
+ValuesRefused ask old new = (bytes : List ℕ) × (P : Network) × HasFile old ask.file bytes × ReadsAs Wcsp bytes P × Misfits P ask old (loaded ask.file bytes old.calls) new
+
+abbrev pub CostSays : CostRequest → Outside → Outside → Status → Type 0
+CostSays ask old new Done = Costed ask old new
+CostSays ask old new Nothing = ⊥
+CostSays ask old new BudgetSpent = ⊥
+CostSays ask old new Usage = ⊥
+CostSays ask old new Refused = FileRefused (λ bytes. loaded ask.file bytes old.calls) ask.file old new ⊎ ValuesRefused ask old new
+CostSays ask old new Fault = Unit {0}
+CostSays ask old new NoMemory = SaysNoMemory old new
+CostSays ask old new Disproved = ⊥
+
+-- What a status of `cost` says; a file that is refused ends with that, the cost of an assignment that fits is said, and
+-- one that does not fit is refused.
+pub record CostStatus (ask : CostRequest) (old new : Outside) (status : Status) : Type 0 where
+  pub says : CostSays ask old new status
+  pub refused : (bytes : List ℕ) (refusal : Refusal) → Tells old ask.file bytes → RefusesAs Wcsp bytes refusal → (status ≡ Refused) ⊎ IsHindered status
+  pub costed : (bytes : List ℕ) (P : Network) → Tells old ask.file bytes → ReadsAs Wcsp bytes P → Fits P.sizes ask.values → (status ≡ Done) ⊎ IsHindered status
+  pub misfits : (bytes : List ℕ) (P : Network) → Tells old ask.file bytes → ReadsAs Wcsp bytes P → (Fits P.sizes ask.values → ⊥) → (status ≡ Refused) ⊎ IsHindered status
+
+-- ---- all commands
+
+-- Words that are no command end with the usage.
+abbrev pub UsageSays : Outside → Outside → Status → Type 0
+UsageSays old new Done = ⊥
+UsageSays old new Nothing = ⊥
+UsageSays old new BudgetSpent = ⊥
+UsageSays old new Usage = Says old old.calls usage_text new
+UsageSays old new Refused = ⊥
+UsageSays old new Fault = Unit {0}
+UsageSays old new NoMemory = SaysNoMemory old new
+UsageSays old new Disproved = ⊥
+
+-- What a status says, by what the words ask for; with which status the count of failed calls rose; and that no file is
+-- being written at the end, if none was before.
+pub record Statuses (request : Option Request) (old new : Outside) (status : Status) : Type 0 where
+  pub no_command : request ≡ None → UsageSays old new status
+  pub solves : (ask : SolveRequest) → request ≡ Some (solve ask) → SolveStatus ask old new status
+  pub checks : (ask : CheckRequest) → request ≡ Some (check ask) → CheckStatus ask old new status
+  pub costs : (ask : CostRequest) → request ≡ Some (cost ask) → CostStatus ask old new status
+  pub counts : Counts old.calls new.calls status
+  pub idle : IsIdle old.calls → IsIdle new.calls

@@ -1,13 +1,12 @@
 //! The command `check`.
 
-ghost use Rattle.std.specs.Prelude.{◌≡◌, Some};
-ghost use Rattle.cfn_cli.specs.Request.{spoken_check, check as check_request};
-ghost use Rattle.cfn_app.specs.Outside.{outside_of};
-ghost use Rattle.cfn_app.specs.Output.{SaysCheck};
-ghost use Rattle.cfn_app.specs.Runs.{Runs};
+ghost use Rattle.std.specs.Prelude.{◌≡◌};
+ghost use Rattle.cfn_cli.specs.Request.{spoken_check};
+ghost use Rattle.cfn_app.specs.Checking.{Checks, Judges};
 
-use crate::loading::load_both;
-use crate::status::{DISPROVED, DONE, MEMORY, ending};
+use crate::format::Format;
+use crate::loading::{load_bytes, read_bytes};
+use crate::status::{Status, ending};
 use cfn_check::{Check, check};
 use cfn_cli::CheckArguments;
 use cfn_desk::Desk;
@@ -16,30 +15,37 @@ use std::alloc::{AllocError, Global};
 
 /// Loads both files that are asked for, reads the network, judges the certificate and says whether it is good, or the
 /// first fault.
-pub fn check_file<D: Desk>(alloc: Global, ask: &CheckArguments, desk: &mut D) -> u8
-    ensures { Runs (Some (check_request (spoken_check ask.now)))
-        (outside_of D.files D.said D.out D.writing D.faults desk.old)
-        (outside_of D.files D.said D.out D.writing D.faults desk.new) result }
+pub fn check_file<D: Desk>(alloc: Global, ask: &CheckArguments, desk: &mut D) -> Status
+    ensures ends { Checks (spoken_check ask.now) (D.outside desk.old) (D.outside desk.new).calls result }
+    ensures files { (D.outside desk.new).files ≡ (D.outside desk.old).files }
 {
-    match load_both(alloc, ask.file.as_str(), ask.certificate.as_str(), desk) {
-        Ok((network, certificate)) => judge(alloc, &network, &certificate, desk),
+    let bytes = match load_bytes(alloc, ask.file.as_str(), desk) {
+        Ok(bytes) => bytes,
+        Err(status) => return status,
+    };
+    let text = match load_bytes(alloc, ask.certificate.as_str(), desk) {
+        Ok(text) => text,
+        Err(status) => return status,
+    };
+    match read_bytes(alloc, Format::Wcsp, &bytes, desk) {
+        Ok(network) => judge(alloc, &network, &text, desk),
         Err(status) => status,
     }
 }
 
 /// Judges a certificate, and says its bounds or its first line that fails.
-fn judge<D: Desk>(alloc: Global, network: &Network, certificate: &[u8], desk: &mut D) -> u8
-    ensures { SaysCheck network.now certificate.now (outside_of D.files D.said D.out D.writing D.faults desk.old)
-        (outside_of D.files D.said D.out D.writing D.faults desk.new) result }
+fn judge<D: Desk>(alloc: Global, network: &Network, text: &[u8], desk: &mut D) -> Status
+    ensures ends { Judges network.now text.now (D.outside desk.old).calls (D.outside desk.new).calls result }
+    ensures files { (D.outside desk.new).files ≡ (D.outside desk.old).files }
 {
     network.limits();
-    match check(alloc, network, certificate) {
+    match check(alloc, network, text) {
         Ok(Check::Verified { lower, best }) => {
-            ending(cfn_report::write_verified(lower, best, desk), DONE)
+            ending(cfn_report::write_verified(lower, best, desk), Status::Done)
         }
         Ok(Check::Refused { kind, line }) => {
-            ending(cfn_report::write_refused(kind, line, desk), DISPROVED)
+            ending(cfn_report::write_refused(kind, line, desk), Status::Disproved)
         }
-        Err(AllocError) => ending(cfn_report::write_memory_fault(desk), MEMORY),
+        Err(AllocError) => ending(cfn_report::write_memory_fault(desk), Status::NoMemory),
     }
 }

@@ -2,26 +2,25 @@
 //!
 //! `run` reads the words of the command line, loads and reads the file, and then solves it, writes the certificate and
 //! says the report; or judges the certificate that it loaded, and says its bounds or its first line that fails; or says
-//! the cost of an assignment. How it may end is defined in specs/Runs.antt, what each status says in
-//! specs/Statuses.antt, and what a report promises in specs/Headline.antt.
+//! the cost of an assignment. How it may end, with each call of the desk, is defined in specs/Runs.antt; what each status
+//! says in specs/Statuses.antt; and what a report promises in specs/Headline.antt.
 //!
-//! - `program` has `run`, and `solving`, `checking` and `costing` have a command each.
-//! - `loading` goes from the names of files to bytes and a network, `saving` writes a certificate, and `output` writes
-//!   one and says its report. `status` names the statuses.
+//! - `program` has `run`, and `solving`, `checking` and `costing` have a command each, as specs/ has.
+//! - `loading` goes from the names of files to bytes and a network in a `format`, and `output` writes a certificate and
+//!   says its report. `status` has the statuses.
 //! - A `Gate` is what the workers of a search pass; one works, and passes none.
 #![tactic(auto)]
 
 mod checking;
 mod costing;
+mod format;
 mod gate;
 mod loading;
 mod output;
 mod program;
-mod saving;
 mod solving;
 mod status;
-#[cfg(test)]
-mod tests;
 
 pub use gate::{Gate, OpenGate, Point};
 pub use program::run;
+pub use status::Status;

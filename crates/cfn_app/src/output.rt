@@ -1,31 +1,29 @@
 //! Writing a certificate and saying its report.
 
-ghost use Rattle.std.specs.Prelude.{◌≡◌, false};
+ghost use Rattle.std.specs.Prelude.{◌≡◌, OnOk, OnErr};
+ghost use Rattle.cfn_model.specs.Text.{report, spelling};
+ghost use Rattle.cfn_desk.specs.Outside.{IsWriting};
 ghost use Rattle.cfn_proof.specs.Certificates.{certificate_of, solution_of};
-ghost use Rattle.cfn_app.specs.Outside.{outside_of};
-ghost use Rattle.cfn_app.specs.Results.{word_of};
-ghost use Rattle.cfn_app.specs.Headline.{status_of};
-ghost use Rattle.cfn_app.specs.Output.{PutsOut};
+ghost use Rattle.cfn_app.specs.Solving.{Outputs, Wrote, NotWritten, status_of, word_of};
 
-use crate::saving::save;
-use crate::status::{BUDGET, DONE, FAULT, MEMORY, NOTHING, ending};
-use cfn_desk::Desk;
+use crate::status::{Status, ending};
+use cfn_desk::{Desk, Failed};
 use cfn_model::ResultWord;
+use cfn_proof::{Certificate, Outcome, Stop};
 use cfn_report::Report;
-use cfn_search::{Outcome, Stop};
 
-/// Writes the certificate of an outcome to the file `name`, and then says its report. It takes no memory. The status
-/// is the result's, or that of a fault.
-pub fn put_out<D: Desk>(outcome: &Outcome, workers: u32, name: &str, desk: &mut D) -> u8
-    requires { D.writing desk.old ≡ false }
-    ensures { PutsOut workers name.now (outside_of D.files D.said D.out D.writing D.faults desk.old)
-        (outside_of D.files D.said D.out D.writing D.faults desk.new)
-        outcome.now.nodes (certificate_of outcome.now.certificate) outcome.now.rows.items
-        (word_of outcome.now.stop (solution_of outcome.now.certificate.best)) result }
+/// Writes the certificate of an outcome into the file that was opened, and then says its report. It takes no memory.
+/// The status is the result's, or that of a fault.
+pub fn put_out<D: Desk>(outcome: &Outcome, workers: u32, desk: &mut D) -> Status
+    requires { IsWriting (D.outside desk.old).calls }
+    ensures { Outputs (spelling (certificate_of outcome.now.certificate))
+        (report workers (certificate_of outcome.now.certificate) outcome.now.rows.items outcome.now.nodes
+        (word_of outcome.now.stop (solution_of outcome.now.certificate.best)))
+        (status_of (word_of outcome.now.stop (solution_of outcome.now.certificate.best)))
+        (D.outside desk.old) (D.outside desk.new) result }
 {
-    if save(&outcome.certificate, name, desk).is_err() {
-        let _ = cfn_report::write_write_fault(desk);
-        return FAULT;
+    if save(&outcome.certificate, desk).is_err() {
+        return ending(cfn_report::write_write_fault(desk), Status::Fault);
     }
     let word = result_word(outcome);
     let report = Report {
@@ -36,6 +34,22 @@ pub fn put_out<D: Desk>(outcome: &Outcome, workers: u32, name: &str, desk: &mut 
         word,
     };
     ending(cfn_report::write(&report, desk), status(word))
+}
+
+/// Writes a certificate into the file that was opened, and closes it. It takes no memory. After an `Err` no file is being
+/// written: where a piece failed it was dropped.
+fn save<D: Desk>(certificate: &Certificate, desk: &mut D) -> Result<(), Failed>
+    requires { IsWriting (D.outside desk.old).calls }
+    ensures wrote { OnOk result (Wrote (spelling (certificate_of certificate.now))
+        (D.outside desk.old) (D.outside desk.new)) }
+    ensures not_written { OnErr result (NotWritten (spelling (certificate_of certificate.now))
+        (D.outside desk.old) (D.outside desk.new)) }
+{
+    if cfn_certwrite::write(certificate, desk).is_err() {
+        desk.discard_out();
+        return Err(Failed);
+    }
+    desk.close_out()
 }
 
 /// The result of a search, by why it stopped.
@@ -53,13 +67,13 @@ fn result_word(outcome: &Outcome) -> ResultWord
 }
 
 /// The status that stands for a result.
-fn status(word: ResultWord) -> u8
+fn status(word: ResultWord) -> Status
     ensures { result ≡ status_of word }
 {
     match word {
-        ResultWord::Optimum => DONE,
-        ResultWord::Nothing => NOTHING,
-        ResultWord::Budget => BUDGET,
-        ResultWord::Memory => MEMORY,
+        ResultWord::Optimum => Status::Done,
+        ResultWord::Nothing => Status::Nothing,
+        ResultWord::Budget => Status::BudgetSpent,
+        ResultWord::Memory => Status::NoMemory,
     }
 }

@@ -1,32 +1,56 @@
 //! The statuses that a run ends with.
 
-ghost use Rattle.std.specs.Prelude.{◌≡◌, is_ok, if◌then◌else◌};
+ghost use Rattle.std.specs.Prelude.{◌≡◌, if◌then◌else◌, is_ok};
+ghost use Rattle.cfn_app.specs.Endings.{code};
+ghost use Rattle.cfn_app.specs.declared.status.Status.TheVariants.{Fault};
 
 use cfn_desk::Failed;
 
-/// What was asked for is done.
-pub const DONE: u8 = 0;
-/// No assignment is below the file's upper bound.
-pub const NOTHING: u8 = 1;
-/// The budget of nodes is spent.
-pub const BUDGET: u8 = 2;
-/// The words are no command.
-pub const USAGE: u8 = 3;
-/// The file or an assignment is refused.
-pub const REFUSED: u8 = 4;
-/// A read or a write failed.
-pub const FAULT: u8 = 5;
-/// Memory was refused.
-pub const MEMORY: u8 = 6;
-/// The certificate is refused.
-pub const DISPROVED: u8 = 7;
+/// How a run ended.
+#[derive(Clone, Copy, Debug, PartialEq, Eq)]
+pub enum Status {
+    /// What was asked for is done: an optimum, a good certificate, or a cost.
+    Done,
+    /// No assignment is below the file's upper bound.
+    Nothing,
+    /// The budget of nodes is spent.
+    BudgetSpent,
+    /// The words are no command.
+    Usage,
+    /// The file or an assignment is refused.
+    Refused,
+    /// A read or a write failed.
+    Fault,
+    /// Memory was refused.
+    NoMemory,
+    /// The certificate is refused.
+    Disproved,
+}
+
+impl Status {
+    /// The number of the status, 0 to 7.
+    pub fn code(self) -> u8
+        ensures { result ≡ code self }
+    {
+        match self {
+            Status::Done => 0,
+            Status::Nothing => 1,
+            Status::BudgetSpent => 2,
+            Status::Usage => 3,
+            Status::Refused => 4,
+            Status::Fault => 5,
+            Status::NoMemory => 6,
+            Status::Disproved => 7,
+        }
+    }
+}
 
 /// The status that is due where a text was said, or that of a fault.
-pub fn ending(said: Result<(), Failed>, due: u8) -> u8
-    ensures { result ≡ (if is_ok said then due else 5) }
+pub fn ending(said: Result<(), Failed>, due: Status) -> Status
+    ensures { result ≡ (if is_ok said then due else Fault) }
 {
     match said {
         Ok(()) => due,
-        Err(Failed) => FAULT,
+        Err(Failed) => Status::Fault,
     }
 }

@@ -1,0 +1,37 @@
+-- From the name of a file to a network.
+use Rattle.std.specs.Prelude.{◌≡◌, List, ◌∷◌, Option, Some, IsSomeAnd, ℕ}
+use Rattle.cfn_model.specs.declared.reading.Refusal.{Refusal}
+use Rattle.cfn_model.specs.Network.{Network}
+use Rattle.cfn_model.specs.Reading.{Reads, Refuses}
+use Rattle.cfn_model.specs.Text.{refusal_text, read_fault_text, memory_fault_text}
+use Rattle.cfn_desk.specs.Outside.{Outside, Call, Load, Bytes, Unreadable, NoMemory}
+use Rattle.cfn_app.specs.declared.format.Format.{Format}
+use Rattle.cfn_app.specs.declared.format.Format.TheVariants.{Wcsp}
+use Rattle.cfn_app.specs.declared.status.Status.{Status}
+use Rattle.cfn_app.specs.declared.status.Status.TheVariants as statuses
+use Rattle.cfn_app.specs.Endings.{Ends}
+
+-- The bytes are that network in the format, or are refused so.
+abbrev pub ReadsAs : Format → List ℕ → Network → Type 0
+ReadsAs Wcsp bytes P = Reads bytes P
+
+abbrev pub RefusesAs : Format → List ℕ → Refusal → Type 0
+RefusesAs Wcsp bytes refusal = Refuses bytes refusal
+
+-- The calls after the file of that name was loaded, and had these bytes.
+abbrev pub loaded : List ℕ → List ℕ → List Call → List Call
+loaded name bytes calls = Load name (Bytes bytes) ∷ calls
+
+-- How a run ends, after these calls, that could not load the file of that name.
+pub data Unloaded (name : List ℕ) (calls now : List Call) (status : Status) : Type 0 where
+  unread : Ends (record { calls = Load name Unreadable ∷ calls; text = read_fault_text; status = statuses.Fault }) now status → Unloaded name calls now status
+  no_memory : Ends (record { calls = Load name NoMemory ∷ calls; text = memory_fault_text; status = statuses.NoMemory }) now status → Unloaded name calls now status
+
+-- How a run ends, after these calls, whose bytes were not read as a network.
+pub data Unread (format : Format) (bytes : List ℕ) (calls now : List Call) (status : Status) : Type 0 where
+  refused : (refusal : Refusal) → RefusesAs format bytes refusal → Ends (record { calls = calls; text = refusal_text refusal; status = statuses.Refused }) now status → Unread format bytes calls now status
+  no_memory : Ends (record { calls = calls; text = memory_fault_text; status = statuses.NoMemory }) now status → Unread format bytes calls now status
+
+-- The desk tells its files, and that the file of this name has these bytes.
+abbrev pub Tells : Outside → List ℕ → List ℕ → Type 0
+Tells old name bytes = IsSomeAnd old.files (λ files. files name ≡ Some bytes)
