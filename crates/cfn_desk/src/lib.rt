@@ -30,3 +30,6 @@ pub use names::NameRoom;
 pub use read::FILE_LIMIT;
 pub use storage::{Entry, ReadFault, Storage};
 pub use sure::SureDesk;
+
+#[cfg(test)]
+mod tests;
