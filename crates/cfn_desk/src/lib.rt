@@ -9,13 +9,27 @@
 //! - `trace` is the list of calls, `named` keeps files by their names, and `room` bytes in room that is taken once.
 #![tactic(auto)]
 
+mod file_desk;
+mod host;
 mod interface;
 mod memory;
 mod named;
+mod names;
+mod out_file;
+mod read;
 mod room;
+mod storage;
 mod sure;
 mod trace;
 
+pub use file_desk::FileDesk;
+pub use host::{HostDesk, HostOutput, HostStorage};
 pub use interface::{Desk, Failed, LoadFault};
 pub use memory::{MemoryDesk, NAME_ROOM};
+pub use names::NameRoom;
+pub use read::FILE_LIMIT;
+pub use storage::{Entry, ReadFault, Storage};
 pub use sure::SureDesk;
+
+#[cfg(test)]
+mod tests;
