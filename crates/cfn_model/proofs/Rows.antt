@@ -14,7 +14,7 @@ use Rattle.cfn_model.specs.Steps.{CanProject, CanLift}
 use Rattle.cfn_model.specs.Tree.{Open, Closed}
 use Rattle.cfn_model.specs.Certificate.{Certificate, Good}
 use Rattle.cfn_model.specs.Text.{spelling, IsSpelledStep, Spells}
-use Rattle.cfn_model.specs.Reading.{Reads, Refuses, check_default, natural_at, sizes_at, scope_from, tuple_at, listing_at, listings_at, function_from, functions_from, network_at}
+use Rattle.cfn_model.specs.Reading.{Reads, Refuses, check_variable, check_default, check_count, natural_at, sizes_at, scope_from, tuple_at, listing_at, listings_at, function_from, functions_from, network_at}
 
 -- a number is not a smaller one
 apart : (m n : ℕ) → m ≡ n → n < m → ⊥
@@ -205,6 +205,10 @@ pub many_tuples_refused : Refuses (codes "n 1 2 1 10\n2\n1 0 3 67108865\n") (rec
 unfolding natural_at sizes_at scope_from tuple_at listing_at listings_at function_from functions_from network_at
 many_tuples_refused = refl
 
+pub most_functions_taken : Refuses (codes "n 1 2 1048576 10\n2") (record { kind = Short; ordinal = 7 })
+unfolding natural_at sizes_at scope_from tuple_at listing_at listings_at function_from functions_from network_at
+most_functions_taken = refl
+
 pub largest_domain_reads : Reads (codes "n 1 2 0 10\n4096\n") (record { name = codes "n"; sizes = 4096 ∷ []; upper = 10; functions = [] })
 unfolding natural_at sizes_at scope_from tuple_at listing_at listings_at function_from functions_from network_at
 largest_domain_reads = refl
@@ -218,7 +222,17 @@ pub capped_reads : Reads (codes "cap 1 2 1 10\n2\n1 0 11 1\n1 12\n") (record { n
 unfolding natural_at sizes_at scope_from tuple_at listing_at listings_at function_from functions_from network_at
 capped_reads = refl
 
--- the cells of all functions, this one's with them
+-- the tuples of one function, of 2,048 times 2,048 and of 2,048 times 2,049 values
+pub most_tuples_taken : check_variable (2048 ∷ 2048 ∷ []) (0 ∷ []) (pos 1) ≡ None
+most_tuples_taken = refl
+
+pub one_row_more_refused : check_variable (2048 ∷ 2049 ∷ []) (0 ∷ []) (pos 1) ≡ Some TableTooWide
+one_row_more_refused = refl
+
+-- the tuples that are listed, and the cells of all functions, this one's with them
+pub most_listings_taken : check_count (pos 67108864) ≡ None
+most_listings_taken = refl
+
 pub many_cells_refused : check_default 67108865 (pos 0) ≡ Some TooMany
 many_cells_refused = refl
 
