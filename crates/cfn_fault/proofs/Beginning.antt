@@ -136,8 +136,8 @@ pub text_fails : (bytes rest : List ℕ) (ls : List Line) (s : State) → Runs A
 text_fails bytes rest ls s run spelled is never = record {
   none = never;
   some = λ fewer lt.
-    let c = begun ls s run spelled in
-    (c.certificate, c.spelled, λ i below. begins_with c.certificate bytes rest ls c.rest c.spelled c.lines is i (omega arith));
+      let c = begun ls s run spelled in
+      (c.certificate, c.spelled, λ i below. begins_with c.certificate bytes rest ls c.rest c.spelled c.lines is i (omega arith));
 }
 
 -- the text of one line more

@@ -241,7 +241,7 @@ pub record Next (rest : List ℕ) (s : State) : Type 0 where
 abbrev pub NoNext : List ℕ → State → Type 0
 NoNext rest s = (l : Line) (t : State) → IsSpelledLine l → Follows s l t → line_at rest 0 ≡ bytes_of l → ⊥
 
-never_next : (rest : List ℕ) (s : State) → HasNoEnd rest → NoNext rest s
+pub never_next : (rest : List ℕ) (s : State) → HasNoEnd rest → NoNext rest s
 never_next [] s inside l t spelled follows is = some_bytes l spelled (sym is)
 never_next (b ∷ rest) s inside l t spelled follows is =
     let f = fronted l spelled in
@@ -249,20 +249,21 @@ never_next (b ∷ rest) s inside l t spelled follows is =
     let P : List ℕ → Type 0 = HasNoEnd in
     no_end_in f.front (subst P same inside)
 
+-- a line of a certificate is what its words say
+pub decoded : (rest front others : List ℕ) → HasNoEnd front → rest ≡ front ++ 10 ∷ others → (l : Line) → IsSpelledLine l → line_at rest 0 ≡ bytes_of l → line_of (words_in front) ≡ Some l
+decoded rest front others inside is l spelled same =
+    let first : line_at rest 0 ≡ front ++ 10 ∷ [] = first_line (lines rest) (front ++ 10 ∷ []) (lines others) (ap lines is ∙ lines_first front others inside) in
+    ap line_of (same_words l front spelled (sym same ∙ first)) ∙ says l spelled
+
 next_by : (rest front others : List ℕ) (s : State) → HasNoEnd front → rest ≡ front ++ 10 ∷ others → Next rest s ⊎ NoNext rest s
 unfolding Followed
 next_by rest front others s inside is = by_line (line_of (words_in front)) refl
   where
-    here : (l : Line) → IsSpelledLine l → line_at rest 0 ≡ bytes_of l → line_of (words_in front) ≡ Some l
-    here l spelled same =
-        let first : line_at rest 0 ≡ front ++ 10 ∷ [] = first_line (lines rest) (front ++ 10 ∷ []) (lines others) (ap lines is ∙ lines_first front others inside) in
-        ap line_of (same_words l front spelled (sym same ∙ first)) ∙ says l spelled
-
     one_line : {a b : Line} → Some a ≡ Some b → a ≡ b
     one_line e = cc
 
     by_line : (o : Option Line) → line_of (words_in front) ≡ o → Next rest s ⊎ NoNext rest s
-    by_line None none = inr (λ l t spelled follows same. absurd (let both = sym none ∙ here l spelled same in cc))
+    by_line None none = inr (λ l t spelled follows same. absurd (let both = sym none ∙ decoded rest front others inside is l spelled same in cc))
     by_line (Some m) some = elim (may_follow s m) [
       | inl follows ↦
           let of = said_by (words_in front) m some in
@@ -278,7 +279,7 @@ next_by rest front others s inside is = by_line (line_of (words_in front)) refl
             less = omega (arith, ap length is, length-append front (10 ∷ others));
           })
       | inr never ↦
-          inr (λ l t spelled follows same. let Q : Line → Type 0 = λ x. Follows s x t in never t (subst Q (sym (one_line (sym some ∙ here l spelled same))) follows))
+          inr (λ l t spelled follows same. let Q : Line → Type 0 = λ x. Follows s x t in never t (subst Q (sym (one_line (sym some ∙ decoded rest front others inside is l spelled same))) follows))
     ]
 
 pub next : (rest : List ℕ) (s : State) → Next rest s ⊎ NoNext rest s

@@ -9,8 +9,7 @@ use Rattle.cfn_model.specs.declared.step.Step.TheVariants.{Project, Extend, Lift
 use Rattle.cfn_model.specs.declared.step.Event.{Event}
 use Rattle.cfn_model.specs.Network.{Network, cost}
 use Rattle.cfn_model.specs.Steps.{InRange, Allowed}
-use Rattle.cfn_model.specs.Certificate.{Certificate}
-use Rattle.cfn_model.specs.Text.{IsSpelled, spelling}
+use Rattle.cfn_model.specs.Text.{spelling}
 use Rattle.cfn_fault.specs.declared.kind.FaultKind.{FaultKind}
 use Rattle.cfn_fault.specs.declared.kind.FaultKind.TheVariants as kinds
 use Rattle.cfn_fault.specs.Fault.{Begins, NoneBeginsWith, Item, Makes, LeavesOpen, Closes, Splits, FailsStep, OutOfRange, NotAllowed, FailsPlace, Fails, AsText, InCertificate, Fault, First}

@@ -13,7 +13,7 @@ use Rattle.cfn_model.specs.Steps.{CanLift, CanCutValue}
 use Rattle.cfn_model.specs.Tree.{Closed}
 use Rattle.cfn_model.specs.Certificate.{Certificate}
 use Rattle.cfn_model.specs.Text.{certificate_lines, line, spelling, IsSpelled}
-use Rattle.cfn_model.proofs.Rows.{tiny_is_good}
+use Rattle.cfn_model.proofs.CallerLemmas.{tiny_is_good}
 use Rattle.cfn_fault.specs.declared.kind.FaultKind.{FaultKind}
 use Rattle.cfn_fault.specs.declared.kind.FaultKind.TheVariants as kinds
 use Rattle.cfn_fault.specs.Fault.{lines, line_at, places, place, Makes, LeavesOpen, Closes, NotAllowed, Fault}

@@ -5,7 +5,7 @@ use Rattle.cfn_model.specs.declared.step.Step.{Step}
 use Rattle.cfn_model.specs.Tree.{Tree, Open, Closed, Split}
 use Rattle.cfn_model.specs.Certificate.{Solution, Certificate}
 use Rattle.cfn_fault.specs.Fault.{Item, Makes, LeavesOpen, Closes, Splits}
-use Rattle.cfn_fault.specs.Lines.{Line, Version, Numbers, Lower, NoBest, Best, Values, Root, Node, End, lines_of_tree, lines_of_best, lines_of}
+use Rattle.cfn_fault.specs.Lines.{Line, Numbers, Lower, NoBest, Best, Values, Root, Node, End, lines_of_tree, lines_of_best, lines_of}
 use Rattle.cfn_fault.specs.Laws.{OneCertificate}
 use Rattle.cfn_fault.proofs.Judging.{same_head, same_tail}
 use Rattle.cfn_fault.proofs.Faults.{front_whole}

@@ -1,5 +1,5 @@
 -- Every text spells a certificate, or fails at one line, whatever the network: its lines are read one by one.
-use Rattle.std.proofs.Common.{◌≡◌, ℕ, zero, suc, ◌<◌, ◌+◌, ◌⊎◌, inl, inr, List, [], ◌∷◌, ◌++◌, length, refl, subst, ◌∙◌, arith}
+use Rattle.std.proofs.Common.{◌≡◌, ℕ, zero, suc, ◌<◌, ◌+◌, ◌⊎◌, inl, inr, List, [], ◌∷◌, ◌++◌, length, refl, subst, arith}
 use Rattle.std.proofs.lemmas.Bool.{cases_order}
 use Rattle.cfn_model.specs.declared.step.Step.{Step}
 use Rattle.cfn_model.specs.declared.step.Event.{Event}
@@ -7,9 +7,8 @@ use Rattle.cfn_model.specs.declared.step.Step.TheVariants.{Project, Extend, Lift
 use Rattle.cfn_model.specs.Network.{Network}
 use Rattle.cfn_model.specs.Certificate.{Certificate, threshold}
 use Rattle.cfn_model.specs.Text.{Spells}
-use Rattle.cfn_fault.specs.declared.kind.FaultKind.{FaultKind}
 use Rattle.cfn_fault.specs.declared.kind.FaultKind.TheVariants as kinds
-use Rattle.cfn_fault.specs.Fault.{line_at, Item, Makes, LeavesOpen, Closes, Splits, refusal_of, FailsStep, OutOfRange, NotAllowed, FailsPlace, FailsLine, OtherNetwork, NotBelow, NoSolution, AtPlace, TextFault, AsText, InCertificate, First, LowerAbove}
+use Rattle.cfn_fault.specs.Fault.{line_at, Item, Makes, LeavesOpen, Closes, Splits, refusal_of, OutOfRange, NotAllowed, FailsPlace, FailsLine, OtherNetwork, NotBelow, NoSolution, AtPlace, TextFault, AsText, InCertificate, First, LowerAbove}
 use Rattle.cfn_fault.specs.Lines.{Line, State, AtVersion, AtOver}
 use Rattle.cfn_fault.specs.Laws.{Fronts, SpellsOrTextFault, NoTextFaultWhereSpelled, OneTextFault, FaultOfText}
 use Rattle.cfn_fault.proofs.Beginning.{some_rest, none_begins, text_fails}

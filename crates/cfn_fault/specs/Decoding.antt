@@ -24,7 +24,7 @@ has_one_form [] = false
 has_one_form (b ∷ []) = true
 has_one_form (b ∷ c ∷ bytes) = not (b == 48)
 
--- The number that a word is: `0`, or digits that begin with 1 to 9, at most 2^63 - 1.
+-- The number that a word is: `0`, or digits that begin with 1 to 9, at most the greatest.
 unfoldable pub numeral : List ℕ → Option ℕ
 numeral word =
     if has_one_form word && list_all is_digit word then (if nat_lt greatest (digits_behind 0 word) then None else Some (digits_behind 0 word)) else None

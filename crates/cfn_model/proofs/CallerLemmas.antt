@@ -5,4 +5,4 @@ pub use Rattle.cfn_model.proofs.Lowering.{close_lower, run_lower, valid_lower}
 pub use Rattle.cfn_model.proofs.KeptLimits.{read_networks}
 pub use Rattle.cfn_model.proofs.Trying.{at_most}
 pub use Rattle.cfn_model.proofs.Rows.{tiny, tiny_is_good, tri}
-pub use Rattle.cfn_model.proofs.TreeRows.{first_side, second_side, tri_certificate, tri_is_good, tri_text}
+pub use Rattle.cfn_model.proofs.TreeRows.{first_runs, first_side, second_side, second_side_is_open, tri_certificate, tri_is_good, tri_text}

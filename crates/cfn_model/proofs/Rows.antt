@@ -1,5 +1,5 @@
 -- Small networks whose reading, refusals, costs, sums and certificates are known, as theorems that compute.
-use Rattle.std.proofs.Common.{◌≡◌, ℕ, suc, List, [], ◌∷◌, refl, arith, lit<, lit≤, inl}
+use Rattle.std.proofs.Common.{◌≡◌, ℕ, suc, sym, ap, length, List, [], ◌∷◌, refl, arith, lit<, lit≤, inl}
 use Rattle.std.proofs.lemmas.Int.{ints}
 use Rattle.std.specs.Fmt.{digits}
 use Rattle.std.specs.Prelude.{codes, Some, None, pos, ◌≤ℤ◌, ◌≤◌, ◌<◌, zero}
@@ -13,8 +13,12 @@ use Rattle.cfn_model.specs.Sums.{floor, unary, residual}
 use Rattle.cfn_model.specs.Steps.{CanProject, CanLift}
 use Rattle.cfn_model.specs.Tree.{Open, Closed}
 use Rattle.cfn_model.specs.Certificate.{Certificate, Good}
-use Rattle.cfn_model.specs.Text.{spelling}
-use Rattle.cfn_model.specs.Reading.{Reads, Refuses, check_default, natural_at, sizes_at, scope_from, tuple_at, listing_at, listings_at, function_from, functions_from, network_at}
+use Rattle.cfn_model.specs.Text.{spelling, IsSpelledStep, Spells}
+use Rattle.cfn_model.specs.Reading.{Reads, Refuses, check_variable, check_default, check_count, natural_at, sizes_at, scope_from, tuple_at, listing_at, listings_at, function_from, functions_from, network_at}
+
+-- a number is not a smaller one
+apart : (m n : ℕ) → m ≡ n → n < m → ⊥
+apart m n e lt = absurd (omega arith)
 
 -- a function as a row of its scope, its default and its entries
 abbrev pub row : List ℕ → ℕ → List ℕ → Function
@@ -60,8 +64,8 @@ tiny_least_is_not_0 least = each least.reached.0 least.reached.1 least.reached.2
   where
     each : (values : List ℕ) → Fits (2 ∷ []) values → cost tiny values ≡ 0 → ⊥
     each [] fits e = absurd fits
-    each (zero ∷ []) fits e = let h : 3 ≡ 0 = e in absurd (omega arith)
-    each (suc zero ∷ []) fits e = let h : 1 ≡ 0 = e in absurd (omega arith)
+    each (zero ∷ []) fits e = apart 3 0 e (lit< tt)
+    each (suc zero ∷ []) fits e = apart 1 0 e (lit< tt)
     each (suc (suc v) ∷ []) fits e = absurd (omega (arith, fits.0))
     each (v ∷ w ∷ values) fits e = absurd fits.1
 
@@ -201,6 +205,10 @@ pub many_tuples_refused : Refuses (codes "n 1 2 1 10\n2\n1 0 3 67108865\n") (rec
 unfolding natural_at sizes_at scope_from tuple_at listing_at listings_at function_from functions_from network_at
 many_tuples_refused = refl
 
+pub most_functions_taken : Refuses (codes "n 1 2 1048576 10\n2") (record { kind = Short; ordinal = 7 })
+unfolding natural_at sizes_at scope_from tuple_at listing_at listings_at function_from functions_from network_at
+most_functions_taken = refl
+
 pub largest_domain_reads : Reads (codes "n 1 2 0 10\n4096\n") (record { name = codes "n"; sizes = 4096 ∷ []; upper = 10; functions = [] })
 unfolding natural_at sizes_at scope_from tuple_at listing_at listings_at function_from functions_from network_at
 largest_domain_reads = refl
@@ -214,7 +222,17 @@ pub capped_reads : Reads (codes "cap 1 2 1 10\n2\n1 0 11 1\n1 12\n") (record { n
 unfolding natural_at sizes_at scope_from tuple_at listing_at listings_at function_from functions_from network_at
 capped_reads = refl
 
--- the cells of all functions, this one's with them
+-- the tuples of one function, of 2,048 times 2,048 and of 2,048 times 2,049 values
+pub most_tuples_taken : check_variable (2048 ∷ 2048 ∷ []) (0 ∷ []) (pos 1) ≡ None
+most_tuples_taken = refl
+
+pub one_row_more_refused : check_variable (2048 ∷ 2049 ∷ []) (0 ∷ []) (pos 1) ≡ Some TableTooWide
+one_row_more_refused = refl
+
+-- the tuples that are listed, and the cells of all functions, this one's with them
+pub most_listings_taken : check_count (pos 67108864) ≡ None
+most_listings_taken = refl
+
 pub many_cells_refused : check_default 67108865 (pos 0) ≡ Some TooMany
 many_cells_refused = refl
 
@@ -255,6 +273,34 @@ pub tiny_text : spelling (tiny_certificate 10 1 1) ≡ codes "wcspcert 1\nnetwor
 unfolding digits
 tiny_text = refl
 
+-- its spelling is the one text that spells it: not with a byte behind it, and no amount of 0 or number past the greatest
+pub tiny_spelled : Spells (tiny_certificate 10 1 1) (codes "wcspcert 1\nnetwork 1 1 10\nlower 1\nbest 1\nvalues 1\ntree\np 0 0 0 3\np 0 0 1 1\nu 0 1\nclosed\nend\n")
+unfolding digits
+tiny_spelled = record {
+  spelled = record {
+    variables = lit≤ tt;
+    functions = lit≤ tt;
+    upper = lit≤ tt;
+    best = (lit≤ tt, lit< tt, (lit≤ tt, tt));
+    lower = lit≤ tt;
+    tree = ((lit≤ tt, lit≤ tt, lit≤ tt, lit< tt, lit≤ tt), ((lit≤ tt, lit≤ tt, lit≤ tt, lit< tt, lit≤ tt), ((lit≤ tt, lit< tt, lit≤ tt), tt)));
+  };
+  exact = refl;
+}
+
+pub byte_behind_end : Spells (record { variables = 1; functions = 1; upper = 10; best = None; lower = 4; tree = Open [] }) (codes "wcspcert 1\nnetwork 1 1 10\nlower 4\nbest none\ntree\nopen\nend\n\n") → ⊥
+unfolding digits
+byte_behind_end spells = apart 59 58 (ap length spells.exact) (lit< tt)
+
+pub amount_of_0_has_no_spelling : IsSpelledStep (Project 0 0 0 0) → ⊥
+amount_of_0_has_no_spelling spelled = let h : 0 < 0 = spelled.3 in absurd (omega arith)
+
+pub greatest_has_a_spelling : IsSpelledStep (Lift 0 9223372036854775807)
+greatest_has_a_spelling = (lit≤ tt, lit< tt, lit≤ tt)
+
+pub more_has_no_spelling : IsSpelledStep (Lift 0 9223372036854775808) → ⊥
+more_has_no_spelling spelled = let h : 9223372036854775808 ≤ 9223372036854775807 = spelled.2 in absurd (omega arith)
+
 -- each step of that certificate is allowed: the two values' costs become unary, and 1 of each is lifted
 first_project : CanProject tiny [] 0 0 0 3
 first_project [] fits is live = absurd fits
@@ -292,4 +338,4 @@ pub larger_lower_is_bad : Good tiny (tiny_certificate 10 2 1) → ⊥
 larger_lower_is_bad good = let h : 2 ≤ 1 = good.lower in absurd (omega arith)
 
 pub other_network_is_bad : Good tiny (tiny_certificate 9 1 1) → ⊥
-other_network_is_bad good = let h : 9 ≡ 10 = good.upper in absurd (omega arith)
+other_network_is_bad good = apart 10 9 (sym good.upper) (lit< tt)

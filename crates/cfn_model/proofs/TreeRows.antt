@@ -161,7 +161,7 @@ pub tri_text : spelling (tri_certificate second_side) ≡ codes "wcspcert 1\nnet
 unfolding digits
 tri_text = refl
 
-first_runs : Run tri (Is 0 0 ∷ []) first_side 1
+pub first_runs : Run tri (Is 0 0 ∷ []) first_side 1
 first_runs = (
   (record { function = lit< tt; place = lit< tt; value = lit< tt }, lit< tt, can_project tri (Is 0 0 ∷ []) 0 1 0 1 refl refl),
   (
@@ -227,18 +227,18 @@ pub tri_not_at_2 : Valid tri [] (tri_tree second_side) 2 → ⊥
 tri_not_at_2 valid = valid.2.0.1.0.1.le
 
 -- the second side may not be closed without its steps, nor without the first of them
-pub tri_without_steps : Good tri (tri_certificate []) → ⊥
-tri_without_steps good = not_closed good.valid.3.1
+pub second_side_is_open : CanClose tri (IsNot 0 0 ∷ []) 1 → ⊥
+second_side_is_open (inl reached) = let h : 1 ≤ 0 = reached in absurd (omega arith)
+second_side_is_open (inr wiped) = by_variable wiped.0 wiped.1 wiped.2
   where
-    not_closed : CanClose tri (IsNot 0 0 ∷ []) 1 → ⊥
-    not_closed (inl reached) = let h : 1 ≤ 0 = reached in absurd (omega arith)
-    not_closed (inr wiped) = by_variable wiped.0 wiped.1 wiped.2
-      where
-        by_variable : (x : ℕ) → x < 3 → ((a : ℕ) → a < slice_index tri.sizes x → is_live (IsNot 0 0 ∷ []) x a ≡ false) → ⊥
-        by_variable zero lt dead = let h : true ≡ false = dead 1 (lit< tt) in absurd cc
-        by_variable (suc zero) lt dead = let h : true ≡ false = dead 0 (lit< tt) in absurd cc
-        by_variable (suc (suc zero)) lt dead = let h : true ≡ false = dead 0 (lit< tt) in absurd cc
-        by_variable (suc (suc (suc x))) lt dead = absurd (omega arith)
+    by_variable : (x : ℕ) → x < 3 → ((a : ℕ) → a < slice_index tri.sizes x → is_live (IsNot 0 0 ∷ []) x a ≡ false) → ⊥
+    by_variable zero lt dead = let h : true ≡ false = dead 1 (lit< tt) in absurd cc
+    by_variable (suc zero) lt dead = let h : true ≡ false = dead 0 (lit< tt) in absurd cc
+    by_variable (suc (suc zero)) lt dead = let h : true ≡ false = dead 0 (lit< tt) in absurd cc
+    by_variable (suc (suc (suc x))) lt dead = absurd (omega arith)
+
+pub tri_without_steps : Good tri (tri_certificate []) → ⊥
+tri_without_steps good = second_side_is_open good.valid.3.1
 
 pub tri_without_first_step : Good tri (tri_certificate (CutValue 1 1 ∷ Project 1 1 1 1 ∷ CutValue 2 1 ∷ Project 2 0 0 1 ∷ Lift 1 1 ∷ [])) → ⊥
 tri_without_first_step good = good.valid.3.0.0.1.le

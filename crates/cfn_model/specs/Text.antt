@@ -60,7 +60,7 @@ certificate_lines c = head_lines c ++ (codes "tree" ∷ []) ∷ (tree_lines c.tr
 abbrev pub spelling : Certificate → List ℕ
 spelling c = text (certificate_lines c)
 
--- A step whose numbers have a spelling: none is above 2^63 - 1, and an amount is at least 1.
+-- A step whose numbers have a spelling: none is above the greatest, and an amount is at least 1.
 abbrev pub IsSpelledStep : Step → Type 0
 IsSpelledStep (Project f i a m) = (f ≤ greatest) × (i ≤ greatest) × (a ≤ greatest) × (0 < m) × (m ≤ greatest)
 IsSpelledStep (Extend f i a m) = (f ≤ greatest) × (i ≤ greatest) × (a ≤ greatest) × (0 < m) × (m ≤ greatest)

@@ -50,7 +50,7 @@ abbrev pub digits_behind : ℕ → List ℕ → ℕ
 digits_behind n [] = n
 digits_behind n (b ∷ bytes) = digits_behind (10 * n + (b - 48)) bytes
 
--- The greatest number that is read: 2^63 - 1.
+-- The greatest number that is read.
 abbrev pub greatest : ℕ
 greatest = GREATEST
 
