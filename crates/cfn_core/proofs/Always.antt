@@ -12,12 +12,12 @@ use Rattle.cfn_model.specs.Tree.{Tree, Open, Closed, Split, IsClosed, leaf, boun
 use Rattle.cfn_model.proofs.Bounding.{bounds, closed_leaves}
 use Rattle.cfn_core.specs.Pool.{Mark, Free, Out, leaf_of, PoolTree, Leaf, Shut, Fork, tree_of, IsLeaf, View}
 use Rattle.cfn_core.specs.World.{World, price, view_at, least_price, KeepsFitting, opening}
-use Rattle.cfn_core.specs.Laws.{IsWorld, IsHanded, IsCovered, Always, Holds, IsFound, Solves}
+use Rattle.cfn_core.specs.Laws.{IsWorld, AreNumbered, IsHanded, IsCovered, Always, Holds, IsFound, Solves}
 use Rattle.cfn_core.proofs.Views.{least_low}
 use Rattle.cfn_core.proofs.Keeping.{opens, valid_at_word}
 use Rattle.cfn_core.proofs.Keeping as keeping
 use Rattle.cfn_core.proofs.Handing as handing
-use Rattle.cfn_core.proofs.Handing.{opens_handed}
+use Rattle.cfn_core.proofs.Handing.{opens_numbered, opens_handed}
 
 -- the floor only rises along a path
 after_rises : (P : Network) (block : List Step) (history : List Event) → floor P history ≤ floor P (after block history)
@@ -65,21 +65,23 @@ covered P w network world handed values fits = leaf_cases values (IsCovered P w 
       | inr dear ↦ dear
     ]
 
-pub always : (P : Network) (w : World) → IsNetwork P → IsWorld P w → IsHanded P w → Always P w
-always P w network world handed = record {
+pub always : (P : Network) (w : World) → IsNetwork P → IsWorld P w → AreNumbered w.pool → IsHanded P w → Always P w
+always P w network world numbers handed = record {
   world = world;
   covered = covered P w network world handed;
   valid = valid_at_word P w world;
   bound = bound_at_word P w network world;
   row = λ values fits. bounds P (Open []) P.upper values network (omega arith) tt fits;
   floors = λ n mark path at. omega (arith, leaf_rises P w.pool.tree [] n mark path at);
+  numbered = numbers;
   handed = handed;
 }
 
 pub holds : Holds
 holds P workers budget actions replies w network few are runs =
     always P w network (keeping.runs_keep P actions replies (opening P workers budget) w are (opens P workers budget network few) runs)
-    (handing.runs_keep P actions replies (opening P workers budget) w (opens_handed P workers budget) runs)
+    (handing.runs_numbered P actions replies (opening P workers budget) w (opens_numbered P workers budget) runs)
+    (handing.runs_keep P actions replies (opening P workers budget) w (opens_numbered P workers budget) (opens_handed P workers budget) runs)
 
 -- the least of the prices that are kept is one of them
 price_found : (P : Network) (best : Option (List ℕ)) (k : ℕ) → KeepsFitting P best → price P best ≡ k → k < P.upper → (values : List ℕ) × Fits P.sizes values × (cost P values ≡ k)

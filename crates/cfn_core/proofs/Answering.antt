@@ -9,9 +9,9 @@ use Rattle.cfn_model.specs.Tree.{open_leaves}
 use Rattle.cfn_core.specs.Pool.{Mark, Free, Out, PoolTree, Leaf, Shut, Fork, tree_of, IsLeaf, Replaced, granted, numbered, Task, Piece}
 use Rattle.cfn_core.specs.World.{World, view_at, note_at, opening}
 use Rattle.cfn_core.specs.Actions.{Action, Runs, Look, Lower, Note, Meet, Take, Give, Back, Recall, Sweep, Reply, Idle, Given, Empty, Spent, Again, Gone, NotOut, Done, Answers, IsThere, CanTake, CanGive, task_for, taken, Takes, take_idle, take_empty, take_spent, take_again, take_task, given, Gives, give_idle, give_gone, give_done, returned, Returns, back_idle, back_not, back_done}
-use Rattle.cfn_core.specs.Laws.{leaves_with, IsHanded, AnswersAll, AnswersOnce, AnswersNobody, RunsAll, RunsOnce}
+use Rattle.cfn_core.specs.Laws.{leaves_with, AreNumbered, AnswersAll, AnswersOnce, AnswersNobody, RunsAll, RunsOnce}
 use Rattle.cfn_core.proofs.Deciding.{Precedes, find_some, find_this, can_replace, find_first}
-use Rattle.cfn_core.proofs.Handing.{leaf_counts, replaced_leaf, keeps_handed, opens_handed}
+use Rattle.cfn_core.proofs.Handing.{leaf_counts, replaced_leaf, keeps_numbered, opens_numbered}
 
 -- an answer by cases on an option
 some_answer : {X : Type 0} (o : Option X) (due : X → Reply) (idle : World) (left : X → World) →
@@ -143,91 +143,91 @@ both_first P n m path other (inl h) (inr k) = absurd (omega (arith, k.0))
 both_first P n m path other (inr h) (inl k) = absurd (omega (arith, h.0))
 both_first P n m path other (inr h) (inr k) = omega (arith, h.1, k.1)
 
-takes_once : (P : Network) (w : World) (worker want : ℕ) (r other : Reply) (new another : World) → IsHanded P w → Takes P w worker want r new → Takes P w worker want other another → Same r other new another
-takes_once P w worker want r other new another handed (take_idle h a) (take_idle k b) = same a b
-takes_once P w worker want r other new another handed (take_idle h a) (take_empty c k b) = absurd (h c)
-takes_once P w worker want r other new another handed (take_idle h a) (take_spent c k l b) = absurd (h c)
-takes_once P w worker want r other new another handed (take_idle h a) (take_again c k l m b) = absurd (h c)
-takes_once P w worker want r other new another handed (take_idle h a) (take_task n path task tree c k l m is at b) = absurd (h c)
-takes_once P w worker want r other new another handed (take_empty c h a) (take_idle k b) = absurd (k c)
-takes_once P w worker want r other new another handed (take_empty c h a) (take_empty d k b) = same a b
-takes_once P w worker want r other new another handed (take_empty c h a) (take_spent d k l b) = absurd (omega arith)
-takes_once P w worker want r other new another handed (take_empty c h a) (take_again d k l m b) = absurd (omega arith)
-takes_once P w worker want r other new another handed (take_empty c h a) (take_task n path task tree d k l m is at b) =
+takes_once : (P : Network) (w : World) (worker want : ℕ) (r other : Reply) (new another : World) → AreNumbered w.pool → Takes P w worker want r new → Takes P w worker want other another → Same r other new another
+takes_once P w worker want r other new another own (take_idle h a) (take_idle k b) = same a b
+takes_once P w worker want r other new another own (take_idle h a) (take_empty c k b) = absurd (h c)
+takes_once P w worker want r other new another own (take_idle h a) (take_spent c k l b) = absurd (h c)
+takes_once P w worker want r other new another own (take_idle h a) (take_again c k l m b) = absurd (h c)
+takes_once P w worker want r other new another own (take_idle h a) (take_task n path task tree c k l m is at b) = absurd (h c)
+takes_once P w worker want r other new another own (take_empty c h a) (take_idle k b) = absurd (k c)
+takes_once P w worker want r other new another own (take_empty c h a) (take_empty d k b) = same a b
+takes_once P w worker want r other new another own (take_empty c h a) (take_spent d k l b) = absurd (omega arith)
+takes_once P w worker want r other new another own (take_empty c h a) (take_again d k l m b) = absurd (omega arith)
+takes_once P w worker want r other new another own (take_empty c h a) (take_task n path task tree d k l m is at b) =
     absurd (let o = leaf_open w.pool.tree [] n Free path m.leaf in omega (arith, o))
-takes_once P w worker want r other new another handed (take_spent c h i a) (take_idle k b) = absurd (k c)
-takes_once P w worker want r other new another handed (take_spent c h i a) (take_empty d k b) = absurd (omega arith)
-takes_once P w worker want r other new another handed (take_spent c h i a) (take_spent d k l b) = same a b
-takes_once P w worker want r other new another handed (take_spent c h i a) (take_again d k l m b) = absurd (l i)
-takes_once P w worker want r other new another handed (take_spent c h i a) (take_task n path task tree d k l m is at b) = absurd (k i)
-takes_once P w worker want r other new another handed (take_again c h i j a) (take_idle k b) = absurd (k c)
-takes_once P w worker want r other new another handed (take_again c h i j a) (take_empty d k b) = absurd (omega arith)
-takes_once P w worker want r other new another handed (take_again c h i j a) (take_spent d k l b) = absurd (i l)
-takes_once P w worker want r other new another handed (take_again c h i j a) (take_again d k l m b) = same a b
-takes_once P w worker want r other new another handed (take_again c h i (inl none) a) (take_task n path task tree d k l m is at b) = absurd (none n path m.leaf)
-takes_once P w worker want r other new another handed (take_again c h i (inr granted_all) a) (take_task n path task tree d k l m is at b) = absurd (l granted_all)
-takes_once P w worker want r other new another handed (take_task n path task tree c h i j is at a) (take_idle k b) = absurd (k c)
-takes_once P w worker want r other new another handed (take_task n path task tree c h i j is at a) (take_empty d k b) =
+takes_once P w worker want r other new another own (take_spent c h i a) (take_idle k b) = absurd (k c)
+takes_once P w worker want r other new another own (take_spent c h i a) (take_empty d k b) = absurd (omega arith)
+takes_once P w worker want r other new another own (take_spent c h i a) (take_spent d k l b) = same a b
+takes_once P w worker want r other new another own (take_spent c h i a) (take_again d k l m b) = absurd (l i)
+takes_once P w worker want r other new another own (take_spent c h i a) (take_task n path task tree d k l m is at b) = absurd (k i)
+takes_once P w worker want r other new another own (take_again c h i j a) (take_idle k b) = absurd (k c)
+takes_once P w worker want r other new another own (take_again c h i j a) (take_empty d k b) = absurd (omega arith)
+takes_once P w worker want r other new another own (take_again c h i j a) (take_spent d k l b) = absurd (i l)
+takes_once P w worker want r other new another own (take_again c h i j a) (take_again d k l m b) = same a b
+takes_once P w worker want r other new another own (take_again c h i (inl none) a) (take_task n path task tree d k l m is at b) = absurd (none n path m.leaf)
+takes_once P w worker want r other new another own (take_again c h i (inr granted_all) a) (take_task n path task tree d k l m is at b) = absurd (l granted_all)
+takes_once P w worker want r other new another own (take_task n path task tree c h i j is at a) (take_idle k b) = absurd (k c)
+takes_once P w worker want r other new another own (take_task n path task tree c h i j is at a) (take_empty d k b) =
     absurd (let o = leaf_open w.pool.tree [] n Free path j.leaf in omega (arith, o))
-takes_once P w worker want r other new another handed (take_task n path task tree c h i j is at a) (take_spent d k l b) = absurd (h l)
-takes_once P w worker want r other new another handed (take_task n path task tree c h i j is at a) (take_again d k l (inl none) b) = absurd (none n path j.leaf)
-takes_once P w worker want r other new another handed (take_task n path task tree c h i j is at a) (take_again d k l (inr granted_all) b) = absurd (i granted_all)
-takes_once P w worker want r other new another handed (take_task n path task tree c h i j is at a) (take_task m path' task' tree' d k l o is' at' b) =
+takes_once P w worker want r other new another own (take_task n path task tree c h i j is at a) (take_spent d k l b) = absurd (h l)
+takes_once P w worker want r other new another own (take_task n path task tree c h i j is at a) (take_again d k l (inl none) b) = absurd (none n path j.leaf)
+takes_once P w worker want r other new another own (take_task n path task tree c h i j is at a) (take_again d k l (inr granted_all) b) = absurd (i granted_all)
+takes_once P w worker want r other new another own (take_task n path task tree c h i j is at a) (take_task m path' task' tree' d k l o is' at' b) =
     let numbers : m ≡ n = both_first P m n path' path (o.first n path j.leaf) (j.first m path' o.leaf) in
     let leaf' : IsLeaf w.pool.tree [] n Free path' = subst (λ x. IsLeaf w.pool.tree [] x Free path') numbers o.leaf in
-    let paths : path' ≡ path = (one_path n Free Free path' path w.pool.tree [] (handed.different n) leaf' j.leaf).1 in
+    let paths : path' ≡ path = (one_path n Free Free path' path w.pool.tree [] (own.different n) leaf' j.leaf).1 in
     let tasks : task' ≡ task = is' ∙ ap (λ x. task_for P w worker want x path') numbers ∙ ap (task_for P w worker want n) paths ∙ sym is in
     let moved : Replaced w.pool.tree [] n Free path (Leaf n (Out worker task.grant)) tree' =
     subst (λ (t : Task). Replaced w.pool.tree [] n Free path (Leaf n (Out worker t.grant)) tree') tasks
     (subst (λ p. Replaced w.pool.tree [] n Free p (Leaf n (Out worker task'.grant)) tree') paths
     (subst (λ x. Replaced w.pool.tree [] x Free path' (Leaf x (Out worker task'.grant)) tree') numbers at')) in
-    let trees : tree' ≡ tree = one_tree n Free path (Leaf n (Out worker task.grant)) w.pool.tree [] tree' tree (handed.different n) moved at in
+    let trees : tree' ≡ tree = one_tree n Free path (Leaf n (Out worker task.grant)) w.pool.tree [] tree' tree (own.different n) moved at in
     (a.reply ∙ ap Given (sym tasks) ∙ sym b.reply, a.world ∙ ap₂ (taken w) (sym tasks) (sym trees) ∙ sym b.world)
 
-gives_once : (P : Network) (w : World) (piece : Piece) (note : ℕ) (r other : Reply) (new another : World) → IsHanded P w → Gives w piece note r new → Gives w piece note other another → Same r other new another
-gives_once P w piece note r other new another handed (give_idle h a) (give_idle k b) = same a b
-gives_once P w piece note r other new another handed (give_idle h a) (give_gone c k b) = absurd (h c)
-gives_once P w piece note r other new another handed (give_idle h a) (give_done tree c at b) = absurd (h c)
-gives_once P w piece note r other new another handed (give_gone c h a) (give_idle k b) = absurd (k c)
-gives_once P w piece note r other new another handed (give_gone c h a) (give_gone d k b) = same a b
-gives_once P w piece note r other new another handed (give_gone c h a) (give_done tree d at b) =
+gives_once : (P : Network) (w : World) (piece : Piece) (note : ℕ) (r other : Reply) (new another : World) → AreNumbered w.pool → Gives w piece note r new → Gives w piece note other another → Same r other new another
+gives_once P w piece note r other new another own (give_idle h a) (give_idle k b) = same a b
+gives_once P w piece note r other new another own (give_idle h a) (give_gone c k b) = absurd (h c)
+gives_once P w piece note r other new another own (give_idle h a) (give_done tree c at b) = absurd (h c)
+gives_once P w piece note r other new another own (give_gone c h a) (give_idle k b) = absurd (k c)
+gives_once P w piece note r other new another own (give_gone c h a) (give_gone d k b) = same a b
+gives_once P w piece note r other new another own (give_gone c h a) (give_done tree d at b) =
     absurd (h (replaced_leaf piece.task.leaf (Out piece.task.worker piece.task.grant) piece.task.path (numbered w.pool.next piece.tree) w.pool.tree [] tree at))
-gives_once P w piece note r other new another handed (give_done tree c at a) (give_idle k b) = absurd (k c)
-gives_once P w piece note r other new another handed (give_done tree c at a) (give_gone d k b) =
+gives_once P w piece note r other new another own (give_done tree c at a) (give_idle k b) = absurd (k c)
+gives_once P w piece note r other new another own (give_done tree c at a) (give_gone d k b) =
     absurd (k (replaced_leaf piece.task.leaf (Out piece.task.worker piece.task.grant) piece.task.path (numbered w.pool.next piece.tree) w.pool.tree [] tree at))
-gives_once P w piece note r other new another handed (give_done tree c at a) (give_done tree' d at' b) =
-    let trees = one_tree piece.task.leaf (Out piece.task.worker piece.task.grant) piece.task.path (numbered w.pool.next piece.tree) w.pool.tree [] tree tree' (handed.different piece.task.leaf) at at' in
+gives_once P w piece note r other new another own (give_done tree c at a) (give_done tree' d at' b) =
+    let trees = one_tree piece.task.leaf (Out piece.task.worker piece.task.grant) piece.task.path (numbered w.pool.next piece.tree) w.pool.tree [] tree tree' (own.different piece.task.leaf) at at' in
     (a.reply ∙ sym b.reply, a.world ∙ ap (given w piece note) trees ∙ sym b.world)
 
-returns_once : (P : Network) (w : World) (task : Task) (r other : Reply) (new another : World) → IsHanded P w → Returns w task r new → Returns w task other another → Same r other new another
-returns_once P w task r other new another handed (back_idle h a) (back_idle k b) = same a b
-returns_once P w task r other new another handed (back_idle h a) (back_not c k b) = absurd (h c)
-returns_once P w task r other new another handed (back_idle h a) (back_done path tree c at b) = absurd (h c)
-returns_once P w task r other new another handed (back_not c h a) (back_idle k b) = absurd (k c)
-returns_once P w task r other new another handed (back_done path tree c at a) (back_idle k b) = absurd (k c)
-returns_once P w task r other new another handed (back_not c h a) (back_not d k b) = same a b
-returns_once P w task r other new another handed (back_not c h a) (back_done path tree d at b) =
+returns_once : (P : Network) (w : World) (task : Task) (r other : Reply) (new another : World) → AreNumbered w.pool → Returns w task r new → Returns w task other another → Same r other new another
+returns_once P w task r other new another own (back_idle h a) (back_idle k b) = same a b
+returns_once P w task r other new another own (back_idle h a) (back_not c k b) = absurd (h c)
+returns_once P w task r other new another own (back_idle h a) (back_done path tree c at b) = absurd (h c)
+returns_once P w task r other new another own (back_not c h a) (back_idle k b) = absurd (k c)
+returns_once P w task r other new another own (back_done path tree c at a) (back_idle k b) = absurd (k c)
+returns_once P w task r other new another own (back_not c h a) (back_not d k b) = same a b
+returns_once P w task r other new another own (back_not c h a) (back_done path tree d at b) =
     absurd (h path (replaced_leaf task.leaf (Out task.worker task.grant) path (Leaf task.leaf Free) w.pool.tree [] tree at))
-returns_once P w task r other new another handed (back_done path tree c at a) (back_not d k b) =
+returns_once P w task r other new another own (back_done path tree c at a) (back_not d k b) =
     absurd (k path (replaced_leaf task.leaf (Out task.worker task.grant) path (Leaf task.leaf Free) w.pool.tree [] tree at))
-returns_once P w task r other new another handed (back_done path tree c at a) (back_done path' tree' d at' b) =
+returns_once P w task r other new another own (back_done path tree c at a) (back_done path' tree' d at' b) =
     let mark = Out task.worker task.grant in
-    let paths : path' ≡ path = (one_path task.leaf mark mark path' path w.pool.tree [] (handed.different task.leaf)
+    let paths : path' ≡ path = (one_path task.leaf mark mark path' path w.pool.tree [] (own.different task.leaf)
     (replaced_leaf task.leaf mark path' (Leaf task.leaf Free) w.pool.tree [] tree' at') (replaced_leaf task.leaf mark path (Leaf task.leaf Free) w.pool.tree [] tree at)).1 in
-    let trees = one_tree task.leaf mark path (Leaf task.leaf Free) w.pool.tree [] tree tree' (handed.different task.leaf) at
+    let trees = one_tree task.leaf mark path (Leaf task.leaf Free) w.pool.tree [] tree tree' (own.different task.leaf) at
     (subst (λ p. Replaced w.pool.tree [] task.leaf mark p (Leaf task.leaf Free) tree') paths at') in
     (a.reply ∙ sym b.reply, a.world ∙ ap (returned w task) trees ∙ sym b.world)
 
 pub answers_once : AnswersOnce
-answers_once P w (Look i) r other new another handed a b = same_by_option (view_at w.views i) _ w _ a b
-answers_once P w (Lower i found) r other new another handed a b = same_by_option (view_at w.views i) _ w _ a b
-answers_once P w (Note i) r other new another handed a b = same_by_option (view_at w.views i) _ w _ a b
-answers_once P w (Meet i) r other new another handed a b = same_by_option (view_at w.views i) _ w _ a b
-answers_once P w (Take i want) r other new another handed a b = takes_once P w i want r other new another handed a b
-answers_once P w (Give piece note) r other new another handed a b = gives_once P w piece note r other new another handed a b
-answers_once P w (Back task) r other new another handed a b = returns_once P w task r other new another handed a b
-answers_once P w Recall r other new another handed a b = same a b
-answers_once P w Sweep r other new another handed a b = same a b
+answers_once P w (Look i) r other new another own a b = same_by_option (view_at w.views i) _ w _ a b
+answers_once P w (Lower i found) r other new another own a b = same_by_option (view_at w.views i) _ w _ a b
+answers_once P w (Note i) r other new another own a b = same_by_option (view_at w.views i) _ w _ a b
+answers_once P w (Meet i) r other new another own a b = same_by_option (view_at w.views i) _ w _ a b
+answers_once P w (Take i want) r other new another own a b = takes_once P w i want r other new another own a b
+answers_once P w (Give piece note) r other new another own a b = gives_once P w piece note r other new another own a b
+answers_once P w (Back task) r other new another own a b = returns_once P w task r other new another own a b
+answers_once P w Recall r other new another own a b = same a b
+answers_once P w Sweep r other new another own a b = same a b
 
 -- an action that names a worker that is not there
 none_there : {X : Type 0} (items : List (Option X)) (i : ℕ) → (i < length items → ⊥) → slice_index_or items i None ≡ None
@@ -279,18 +279,18 @@ runs_all_from P w (action ∷ actions) =
 pub runs_all : RunsAll
 runs_all P workers budget actions = runs_all_from P (opening P workers budget) actions
 
-runs_once_from : (P : Network) (actions : List Action) (w : World) (replies others : List Reply) (new another : World) → IsHanded P w →
+runs_once_from : (P : Network) (actions : List Action) (w : World) (replies others : List Reply) (new another : World) → AreNumbered w.pool →
     Runs P w actions replies new → Runs P w actions others another → (replies ≡ others) × (new ≡ another)
-runs_once_from P [] w [] [] new another handed a b = (refl, a ∙ sym b)
-runs_once_from P [] w [] (s ∷ others) new another handed a b = absurd b
-runs_once_from P [] w (r ∷ replies) others new another handed a b = absurd a
-runs_once_from P (action ∷ actions) w [] others new another handed a b = absurd a
-runs_once_from P (action ∷ actions) w (r ∷ replies) [] new another handed a b = absurd b
-runs_once_from P (action ∷ actions) w (r ∷ replies) (s ∷ others) new another handed a b =
-    let step = answers_once P w action r s a.0 b.0 handed a.1 b.1 in
-    let rest = runs_once_from P actions a.0 replies others new another (keeps_handed P w a.0 action r handed a.1) a.2 (subst (λ u. Runs P u actions others another) (sym step.1) b.2) in
+runs_once_from P [] w [] [] new another own a b = (refl, a ∙ sym b)
+runs_once_from P [] w [] (s ∷ others) new another own a b = absurd b
+runs_once_from P [] w (r ∷ replies) others new another own a b = absurd a
+runs_once_from P (action ∷ actions) w [] others new another own a b = absurd a
+runs_once_from P (action ∷ actions) w (r ∷ replies) [] new another own a b = absurd b
+runs_once_from P (action ∷ actions) w (r ∷ replies) (s ∷ others) new another own a b =
+    let step = answers_once P w action r s a.0 b.0 own a.1 b.1 in
+    let rest = runs_once_from P actions a.0 replies others new another (keeps_numbered P w a.0 action r own a.1) a.2 (subst (λ u. Runs P u actions others another) (sym step.1) b.2) in
     (ap₂ (λ x y. x ∷ y) step.0 rest.0, rest.1)
 
 pub runs_once : RunsOnce
 runs_once P workers budget actions replies others w another a b =
-    runs_once_from P actions (opening P workers budget) replies others w another (opens_handed P workers budget) a b
+    runs_once_from P actions (opening P workers budget) replies others w another (opens_numbered P workers budget) a b

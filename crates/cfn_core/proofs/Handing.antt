@@ -10,8 +10,8 @@ use Rattle.cfn_model.specs.Steps.{after}
 use Rattle.cfn_model.specs.Tree.{Tree, Open, Closed, Split, open_leaves}
 use Rattle.cfn_core.specs.Pool.{Mark, Free, Out, PoolTree, Leaf, Shut, Fork, IsLeaf, Replaced, numbered, recalled, swept, Task, Piece}
 use Rattle.cfn_core.specs.World.{World, view_at}
-use Rattle.cfn_core.specs.Actions.{Action, Look, Lower, Note, Meet, Take, Give, Back, Recall, Sweep, Reply, Answers, CanTake, without, task_for, taken, Takes, take_idle, take_empty, take_spent, take_again, take_task, given, Gives, give_idle, give_gone, give_done, returned, Returns, back_idle, back_not, back_done, all_back, cleared, Runs}
-use Rattle.cfn_core.specs.Laws.{leaves_with, IsInHand, IsHanded, OpensHanded, KeepsHanded}
+use Rattle.cfn_core.specs.Actions.{Action, Look, Lower, Note, Meet, Take, Give, Back, Recall, Sweep, Reply, Answers, looked, lowered, noted, met, CanTake, without, task_for, taken, Takes, take_idle, take_empty, take_spent, take_again, take_task, given, Gives, give_idle, give_gone, give_done, returned, Returns, back_idle, back_not, back_done, all_back, cleared, Runs}
+use Rattle.cfn_core.specs.Laws.{leaves_with, IsInHand, AreNumbered, IsHanded, OpensNumbered, KeepsNumbered, OpensHanded, KeepsHanded}
 use Rattle.cfn_core.proofs.Views.{by_option}
 
 -- a leaf counts under its number
@@ -206,17 +206,95 @@ module _ (n : ℕ) where
   without_back task [] at = absurd at
   without_back task (other ∷ hands) at = back_by (other.leaf == n) task other hands refl at (without_back task hands)
 
--- what an action that changes neither tree nor hands keeps
-module _ (P : Network) (w : World) (handed : IsHanded P w) where
+-- each action keeps the numbers of the leaves
+module _ (w : World) (numbers : AreNumbered w.pool) where
+  -- a leaf gets another mark
+  mark_numbered : (n : ℕ) (mark other : Mark) (path : List Event) (tree : PoolTree) → Replaced w.pool.tree [] n mark path (Leaf n other) tree → AreNumbered (record w.pool { tree = tree })
+  mark_numbered n mark other path tree at =
+      let same : (m : ℕ) → leaves_with m tree ≡ leaves_with m w.pool.tree = λ m. (let e = replaced_numbers n mark path (Leaf n other) m w.pool.tree [] tree at in omega (arith, e)) in
+      record {
+        different = λ m. omega (arith, same m, numbers.different m);
+        fresh = λ m h. omega (arith, same m, numbers.fresh m h);
+      }
+
+  give_numbered : (piece : Piece) (note : ℕ) (tree : PoolTree) →
+      Replaced w.pool.tree [] piece.task.leaf (Out piece.task.worker piece.task.grant) piece.task.path (numbered w.pool.next piece.tree) tree → AreNumbered (given w piece note tree).pool
+  give_numbered piece note tree at =
+      let place = numbered w.pool.next piece.tree in
+      let more : (m : ℕ) → leaves_with m tree ≤ leaves_with m w.pool.tree + leaves_with m place =
+      λ m. (let e = replaced_numbers piece.task.leaf (Out piece.task.worker piece.task.grant) piece.task.path place m w.pool.tree [] tree at in omega (arith, e)) in
+      record {
+        different = λ m. elim (cases_lt m w.pool.next) [
+          | inl low ↦ omega (arith, more m, numbers.different m, numbered_before piece.tree w.pool.next m low)
+          | inr high ↦ omega (arith, more m, numbers.fresh m high, numbered_once piece.tree w.pool.next m)
+        ];
+        fresh = λ m h. omega (arith, more m, numbers.fresh m (omega (arith, h)), numbered_behind piece.tree w.pool.next m h);
+      }
+
+  recall_numbered : AreNumbered (all_back w).pool
+  recall_numbered = record {
+    different = λ m. omega (arith, recalled_numbers w.pool.tree m, numbers.different m);
+    fresh = λ m h. omega (arith, recalled_numbers w.pool.tree m, numbers.fresh m h);
+  }
+
+  sweep_numbered : (P : Network) → AreNumbered (cleared P w).pool
+  sweep_numbered P = record {
+    different = λ m. omega (arith, swept_numbers P w.word w.pool.tree m [], numbers.different m);
+    fresh = λ m h. omega (arith, swept_numbers P w.word w.pool.tree m [], numbers.fresh m h);
+  }
+
+  -- an action that does not change the tree
+  other_numbered : (new : World) → new.pool.tree ≡ w.pool.tree → new.pool.next ≡ w.pool.next → AreNumbered new.pool
+  other_numbered new tree next = record {
+    different = λ m. subst (λ t. leaves_with m t ≤ 1) (sym tree) (numbers.different m);
+    fresh = λ m h. subst (λ t. leaves_with m t ≡ 0) (sym tree) (numbers.fresh m (omega (arith, next, h)));
+  }
+
+left_numbered : {due : Reply} {left : World} {r : Reply} {new : World} → AreNumbered left.pool → Answers due left r new → AreNumbered new.pool
+left_numbered numbers answers = subst (λ (w : World). AreNumbered w.pool) (sym answers.world) numbers
+
+takes_numbered : (P : Network) (w new : World) (worker want : ℕ) (r : Reply) → AreNumbered w.pool → Takes P w worker want r new → AreNumbered new.pool
+takes_numbered P w new worker want r numbers (take_idle h answers) = left_numbered numbers answers
+takes_numbered P w new worker want r numbers (take_empty c h answers) = left_numbered numbers answers
+takes_numbered P w new worker want r numbers (take_spent c h k answers) = left_numbered numbers answers
+takes_numbered P w new worker want r numbers (take_again c h k l answers) = left_numbered numbers answers
+takes_numbered P w new worker want r numbers (take_task n path task tree c h k l is at answers) = left_numbered (mark_numbered w numbers n Free (Out worker task.grant) path tree at) answers
+
+gives_numbered : (w new : World) (piece : Piece) (note : ℕ) (r : Reply) → AreNumbered w.pool → Gives w piece note r new → AreNumbered new.pool
+gives_numbered w new piece note r numbers (give_idle h answers) = left_numbered numbers answers
+gives_numbered w new piece note r numbers (give_gone h k answers) = left_numbered numbers answers
+gives_numbered w new piece note r numbers (give_done tree can at answers) = left_numbered (give_numbered w numbers piece note tree at) answers
+
+returns_numbered : (w new : World) (task : Task) (r : Reply) → AreNumbered w.pool → Returns w task r new → AreNumbered new.pool
+returns_numbered w new task r numbers (back_idle h answers) = left_numbered numbers answers
+returns_numbered w new task r numbers (back_not c h answers) = left_numbered numbers answers
+returns_numbered w new task r numbers (back_done path tree c at answers) = left_numbered (mark_numbered w numbers task.leaf (Out task.worker task.grant) Free path tree at) answers
+
+pub keeps_numbered : KeepsNumbered
+keeps_numbered P w new (Look i) r numbers acts = by_option (view_at w.views i) acts (λ idle. left_numbered numbers idle) (λ view is answers. left_numbered (other_numbered w numbers (looked w i view) refl refl) answers)
+keeps_numbered P w new (Lower i found) r numbers acts = by_option (view_at w.views i) acts (λ idle. left_numbered numbers idle) (λ view is answers. left_numbered (other_numbered w numbers (lowered P w i found view) refl refl) answers)
+keeps_numbered P w new (Note i) r numbers acts = by_option (view_at w.views i) acts (λ idle. left_numbered numbers idle) (λ view is answers. left_numbered (other_numbered w numbers (noted w view) refl refl) answers)
+keeps_numbered P w new (Meet i) r numbers acts = by_option (view_at w.views i) acts (λ idle. left_numbered numbers idle) (λ view is answers. left_numbered (other_numbered w numbers (met P w i view) refl refl) answers)
+keeps_numbered P w new (Take i want) r numbers acts = takes_numbered P w new i want r numbers acts
+keeps_numbered P w new (Give piece note) r numbers acts = gives_numbered w new piece note r numbers acts
+keeps_numbered P w new (Back task) r numbers acts = returns_numbered w new task r numbers acts
+keeps_numbered P w new Recall r numbers acts = left_numbered (recall_numbered w numbers) acts
+keeps_numbered P w new Sweep r numbers acts = left_numbered (sweep_numbered w numbers P) acts
+
+pub opens_numbered : OpensNumbered
+opens_numbered P workers budget = record {
+  different = λ m. few_by (0 == m);
+  fresh = λ m h. none_at 0 m (λ e. omega (arith, e, h));
+}
+
+-- each action keeps the tasks in hand
+module _ (P : Network) (w : World) (numbers : AreNumbered w.pool) (handed : IsHanded P w) where
   take_handed : (worker want n : ℕ) (path : List Event) (task : Task) (tree : PoolTree) → CanTake w worker want → task ≡ task_for P w worker want n path →
       Replaced w.pool.tree [] n Free path (Leaf n (Out worker task.grant)) tree → IsHanded P (taken w task tree)
   take_handed worker want n path task tree can is at =
       let place = Leaf n (Out worker task.grant) in
-      let numbers : (m : ℕ) → leaves_with m tree ≡ leaves_with m w.pool.tree = λ m. (let e = replaced_numbers n Free path place m w.pool.tree [] tree at in omega (arith, e)) in
       record {
-        different = λ m. omega (arith, numbers m, handed.different m);
-        fresh = λ m h. omega (arith, numbers m, handed.fresh m h);
-        in_hand = λ m k g p leaf. elim (replaced_back n Free path place m (Out k g) p w.pool.tree [] tree at (handed.different n) leaf) [
+        in_hand = λ m k g p leaf. elim (replaced_back n Free path place m (Out k g) p w.pool.tree [] tree at (numbers.different n) leaf) [
           | inl here ↦ inl (new_task m k g p here)
           | inr old ↦ inr (handed.in_hand m k g p old.0)
         ];
@@ -243,14 +321,8 @@ module _ (P : Network) (w : World) (handed : IsHanded P w) where
       let n = piece.task.leaf in
       let mark = Out piece.task.worker piece.task.grant in
       let place = numbered w.pool.next piece.tree in
-      let numbers : (m : ℕ) → leaves_with m tree ≤ leaves_with m w.pool.tree + leaves_with m place = λ m. (let e = replaced_numbers n mark piece.task.path place m w.pool.tree [] tree at in omega (arith, e)) in
       record {
-        different = λ m. elim (cases_lt m w.pool.next) [
-          | inl low ↦ omega (arith, numbers m, handed.different m, numbered_before piece.tree w.pool.next m low)
-          | inr high ↦ omega (arith, numbers m, handed.fresh m high, numbered_once piece.tree w.pool.next m)
-        ];
-        fresh = λ m h. omega (arith, numbers m, handed.fresh m (omega (arith, h)), numbered_behind piece.tree w.pool.next m h);
-        in_hand = λ m k g p leaf. elim (replaced_back n mark piece.task.path place m (Out k g) p w.pool.tree [] tree at (handed.different n) leaf) [
+        in_hand = λ m k g p leaf. elim (replaced_back n mark piece.task.path place m (Out k g) p w.pool.tree [] tree at (numbers.different n) leaf) [
           | inl here ↦ absurd (numbered_free piece.tree w.pool.next m piece.task.path k g p here)
           | inr old ↦ without_stays n (record { leaf = m; worker = k; grant = g; floor = floor P p; path = p }) w.hands old.1 (handed.in_hand m k g p old.0)
         ];
@@ -261,11 +333,8 @@ module _ (P : Network) (w : World) (handed : IsHanded P w) where
   back_handed task path tree at =
       let n = task.leaf in
       let mark = Out task.worker task.grant in
-      let numbers : (m : ℕ) → leaves_with m tree ≡ leaves_with m w.pool.tree = λ m. (let e = replaced_numbers n mark path (Leaf n Free) m w.pool.tree [] tree at in omega (arith, e)) in
       record {
-        different = λ m. omega (arith, numbers m, handed.different m);
-        fresh = λ m h. omega (arith, numbers m, handed.fresh m h);
-        in_hand = λ m k g p leaf. elim (replaced_back n mark path (Leaf n Free) m (Out k g) p w.pool.tree [] tree at (handed.different n) leaf) [
+        in_hand = λ m k g p leaf. elim (replaced_back n mark path (Leaf n Free) m (Out k g) p w.pool.tree [] tree at (numbers.different n) leaf) [
           | inl here ↦ free_not_out here.1
           | inr old ↦ without_stays n (record { leaf = m; worker = k; grant = g; floor = floor P p; path = p }) w.hands old.1 (handed.in_hand m k g p old.0)
         ];
@@ -274,25 +343,19 @@ module _ (P : Network) (w : World) (handed : IsHanded P w) where
 
   recall_handed : IsHanded P (all_back w)
   recall_handed = record {
-    different = λ m. omega (arith, recalled_numbers w.pool.tree m, handed.different m);
-    fresh = λ m h. omega (arith, recalled_numbers w.pool.tree m, handed.fresh m h);
     in_hand = λ m k g p leaf. absurd (recalled_free w.pool.tree m [] k g p leaf);
     there = λ other hand. handed.there other hand;
   }
 
   sweep_handed : IsHanded P (cleared P w)
   sweep_handed = record {
-    different = λ m. omega (arith, swept_numbers P w.word w.pool.tree m [], handed.different m);
-    fresh = λ m h. omega (arith, swept_numbers P w.word w.pool.tree m [], handed.fresh m h);
     in_hand = λ m k g p leaf. handed.in_hand m k g p (swept_back P w.word w.pool.tree m [] k g p leaf);
     there = λ other hand. handed.there other hand;
   }
 
   -- an action that changes neither the tree nor the hands
-  other_handed : (new : World) → new.pool.tree ≡ w.pool.tree → new.pool.next ≡ w.pool.next → new.hands ≡ w.hands → length new.views ≡ length w.views → IsHanded P new
-  other_handed new tree next hands views = record {
-    different = λ m. subst (λ t. leaves_with m t ≤ 1) (sym tree) (handed.different m);
-    fresh = λ m h. subst (λ t. leaves_with m t ≡ 0) (sym tree) (handed.fresh m (omega (arith, next, h)));
+  other_handed : (new : World) → new.pool.tree ≡ w.pool.tree → new.hands ≡ w.hands → length new.views ≡ length w.views → IsHanded P new
+  other_handed new tree hands views = record {
     in_hand = λ m k g p leaf. subst (IsInHand _) (sym hands) (handed.in_hand m k g p (subst (λ t. IsLeaf t [] m (Out k g) p) tree leaf));
     there = λ other hand. omega (arith, handed.there other (subst (IsInHand other) hands hand), views);
   }
@@ -300,44 +363,49 @@ module _ (P : Network) (w : World) (handed : IsHanded P w) where
 left_as : {P : Network} {due : Reply} {left : World} {r : Reply} {new : World} → IsHanded P left → Answers due left r new → IsHanded P new
 left_as {P} handed answers = subst (IsHanded P) (sym answers.world) handed
 
-takes_keeps : (P : Network) (w new : World) (worker want : ℕ) (r : Reply) → IsHanded P w → Takes P w worker want r new → IsHanded P new
-takes_keeps P w new worker want r handed (take_idle h answers) = left_as handed answers
-takes_keeps P w new worker want r handed (take_empty c h answers) = left_as handed answers
-takes_keeps P w new worker want r handed (take_spent c h k answers) = left_as handed answers
-takes_keeps P w new worker want r handed (take_again c h k l answers) = left_as handed answers
-takes_keeps P w new worker want r handed (take_task n path task tree c h k l is at answers) = left_as (take_handed P w handed worker want n path task tree c is at) answers
+takes_keeps : (P : Network) (w new : World) (worker want : ℕ) (r : Reply) → AreNumbered w.pool → IsHanded P w → Takes P w worker want r new → IsHanded P new
+takes_keeps P w new worker want r numbers handed (take_idle h answers) = left_as handed answers
+takes_keeps P w new worker want r numbers handed (take_empty c h answers) = left_as handed answers
+takes_keeps P w new worker want r numbers handed (take_spent c h k answers) = left_as handed answers
+takes_keeps P w new worker want r numbers handed (take_again c h k l answers) = left_as handed answers
+takes_keeps P w new worker want r numbers handed (take_task n path task tree c h k l is at answers) = left_as (take_handed P w numbers handed worker want n path task tree c is at) answers
 
-gives_keeps : (P : Network) (w new : World) (piece : Piece) (note : ℕ) (r : Reply) → IsHanded P w → Gives w piece note r new → IsHanded P new
-gives_keeps P w new piece note r handed (give_idle h answers) = left_as handed answers
-gives_keeps P w new piece note r handed (give_gone h k answers) = left_as handed answers
-gives_keeps P w new piece note r handed (give_done tree can at answers) = left_as (give_handed P w handed piece note tree at) answers
+gives_keeps : (P : Network) (w new : World) (piece : Piece) (note : ℕ) (r : Reply) → AreNumbered w.pool → IsHanded P w → Gives w piece note r new → IsHanded P new
+gives_keeps P w new piece note r numbers handed (give_idle h answers) = left_as handed answers
+gives_keeps P w new piece note r numbers handed (give_gone h k answers) = left_as handed answers
+gives_keeps P w new piece note r numbers handed (give_done tree can at answers) = left_as (give_handed P w numbers handed piece note tree at) answers
 
-returns_keeps : (P : Network) (w new : World) (task : Task) (r : Reply) → IsHanded P w → Returns w task r new → IsHanded P new
-returns_keeps P w new task r handed (back_idle h answers) = left_as handed answers
-returns_keeps P w new task r handed (back_not c h answers) = left_as handed answers
-returns_keeps P w new task r handed (back_done path tree c at answers) = left_as (back_handed P w handed task path tree at) answers
+returns_keeps : (P : Network) (w new : World) (task : Task) (r : Reply) → AreNumbered w.pool → IsHanded P w → Returns w task r new → IsHanded P new
+returns_keeps P w new task r numbers handed (back_idle h answers) = left_as handed answers
+returns_keeps P w new task r numbers handed (back_not c h answers) = left_as handed answers
+returns_keeps P w new task r numbers handed (back_done path tree c at answers) = left_as (back_handed P w numbers handed task path tree at) answers
 
 pub keeps_handed : KeepsHanded
-keeps_handed P w new (Look i) r handed acts = by_option (view_at w.views i) acts (λ idle. left_as handed idle) (λ view is answers. left_as (other_handed P w handed _ refl refl refl (length-set w.views i _)) answers)
-keeps_handed P w new (Lower i found) r handed acts = by_option (view_at w.views i) acts (λ idle. left_as handed idle) (λ view is answers. left_as (other_handed P w handed _ refl refl refl (length-set w.views i _)) answers)
-keeps_handed P w new (Note i) r handed acts = by_option (view_at w.views i) acts (λ idle. left_as handed idle) (λ view is answers. left_as (other_handed P w handed _ refl refl refl refl) answers)
-keeps_handed P w new (Meet i) r handed acts = by_option (view_at w.views i) acts (λ idle. left_as handed idle) (λ view is answers. left_as (other_handed P w handed _ refl refl refl (length-set w.views i _)) answers)
-keeps_handed P w new (Take i want) r handed acts = takes_keeps P w new i want r handed acts
-keeps_handed P w new (Give piece note) r handed acts = gives_keeps P w new piece note r handed acts
-keeps_handed P w new (Back task) r handed acts = returns_keeps P w new task r handed acts
-keeps_handed P w new Recall r handed acts = left_as (recall_handed P w handed) acts
-keeps_handed P w new Sweep r handed acts = left_as (sweep_handed P w handed) acts
+keeps_handed P w new (Look i) r numbers handed acts = by_option (view_at w.views i) acts (λ idle. left_as handed idle) (λ view is answers. left_as (other_handed P w numbers handed _ refl refl (length-set w.views i _)) answers)
+keeps_handed P w new (Lower i found) r numbers handed acts = by_option (view_at w.views i) acts (λ idle. left_as handed idle) (λ view is answers. left_as (other_handed P w numbers handed _ refl refl (length-set w.views i _)) answers)
+keeps_handed P w new (Note i) r numbers handed acts = by_option (view_at w.views i) acts (λ idle. left_as handed idle) (λ view is answers. left_as (other_handed P w numbers handed _ refl refl refl) answers)
+keeps_handed P w new (Meet i) r numbers handed acts = by_option (view_at w.views i) acts (λ idle. left_as handed idle) (λ view is answers. left_as (other_handed P w numbers handed _ refl refl (length-set w.views i _)) answers)
+keeps_handed P w new (Take i want) r numbers handed acts = takes_keeps P w new i want r numbers handed acts
+keeps_handed P w new (Give piece note) r numbers handed acts = gives_keeps P w new piece note r numbers handed acts
+keeps_handed P w new (Back task) r numbers handed acts = returns_keeps P w new task r numbers handed acts
+keeps_handed P w new Recall r numbers handed acts = left_as (recall_handed P w numbers handed) acts
+keeps_handed P w new Sweep r numbers handed acts = left_as (sweep_handed P w numbers handed) acts
 
 pub opens_handed : OpensHanded
 opens_handed P workers budget = record {
-  different = λ m. few_by (0 == m);
-  fresh = λ m h. none_at 0 m (λ e. omega (arith, e, h));
   in_hand = λ m k g p leaf. free_not_out leaf.1;
   there = λ task hand. absurd hand;
 }
 
-pub runs_keep : (P : Network) (actions : List Action) (replies : List Reply) (w new : World) → IsHanded P w → Runs P w actions replies new → IsHanded P new
-runs_keep P [] [] w new handed runs = subst (IsHanded P) (sym runs) handed
-runs_keep P [] (r ∷ replies) w new handed runs = absurd runs
-runs_keep P (action ∷ actions) [] w new handed runs = absurd runs
-runs_keep P (action ∷ actions) (r ∷ replies) w new handed runs = runs_keep P actions replies runs.0 new (keeps_handed P w runs.0 action r handed runs.1) runs.2
+pub runs_numbered : (P : Network) (actions : List Action) (replies : List Reply) (w new : World) → AreNumbered w.pool → Runs P w actions replies new → AreNumbered new.pool
+runs_numbered P [] [] w new numbers runs = subst (λ (w : World). AreNumbered w.pool) (sym runs) numbers
+runs_numbered P [] (r ∷ replies) w new numbers runs = absurd runs
+runs_numbered P (action ∷ actions) [] w new numbers runs = absurd runs
+runs_numbered P (action ∷ actions) (r ∷ replies) w new numbers runs = runs_numbered P actions replies runs.0 new (keeps_numbered P w runs.0 action r numbers runs.1) runs.2
+
+pub runs_keep : (P : Network) (actions : List Action) (replies : List Reply) (w new : World) → AreNumbered w.pool → IsHanded P w → Runs P w actions replies new → IsHanded P new
+runs_keep P [] [] w new numbers handed runs = subst (IsHanded P) (sym runs) handed
+runs_keep P [] (r ∷ replies) w new numbers handed runs = absurd runs
+runs_keep P (action ∷ actions) [] w new numbers handed runs = absurd runs
+runs_keep P (action ∷ actions) (r ∷ replies) w new numbers handed runs =
+    runs_keep P actions replies runs.0 new (keeps_numbered P w runs.0 action r numbers runs.1) (keeps_handed P w runs.0 action r numbers handed runs.1) runs.2

@@ -7,13 +7,13 @@ use Rattle.cfn_model.specs.declared.step.Event.TheVariants.{Is, IsNot}
 use Rattle.cfn_model.specs.Network.{Network, IsNetwork, arity, entry_at, cell, dims, function_at}
 use Rattle.cfn_model.specs.Sums.{when}
 use Rattle.cfn_model.specs.Steps.{after}
-use Rattle.cfn_model.specs.Tree.{count, Valid, Strict}
+use Rattle.cfn_model.specs.Tree.{count, splits, Valid, Strict}
 use Rattle.cfn_model.proofs.Lowering.{valid_lower}
 use Rattle.cfn_core.specs.Pool.{Mark, Free, Out, PoolTree, Leaf, Shut, Fork, tree_of, Replaced, grant_of, granted, numbered, recalled, HasSmallCosts, Tame, Task, Piece, IsPiece, View, Pool, IsSound}
 use Rattle.cfn_core.specs.World.{World, price, cheaper, view_at, note_at, least_price, shares_of, KeepsFitting, IsView, HasWordRule, new_view}
 use Rattle.cfn_core.specs.Actions.{Action, Look, Lower, Note, Meet, Take, Give, Back, Recall, Sweep, Reply, Answers, looked, lowered, noted, joined, met, task_for, taken, Takes, take_idle, take_empty, take_spent, take_again, take_task, CanGive, given, Gives, give_idle, give_gone, give_done, returned, Returns, back_idle, back_not, back_done, all_back, cleared, Runs, AreActions}
 use Rattle.cfn_core.specs.Laws.{IsWorld, Opens, Keeps}
-use Rattle.cfn_core.proofs.Placing.{replaced_valid, replaced_strict, replaced_tame, replaced_count, replaced_granted, numbered_is, numbered_granted, recalled_is, recalled_granted, swept_valid, swept_strict, swept_tame, swept_granted, swept_count}
+use Rattle.cfn_core.proofs.Placing.{replaced_valid, replaced_strict, replaced_tame, replaced_count, replaced_splits, replaced_granted, numbered_is, numbered_granted, recalled_is, recalled_granted, swept_valid, swept_strict, swept_tame, swept_granted, swept_count, swept_splits, splits_count}
 use Rattle.cfn_core.proofs.Views.{by_option, set_at, behind_at, nothing, same_some, price_low, cheaper_price, cheaper_keeps, least_lowered, least_same, least_met, shares_set, opening_least, opening_shares, opening_view}
 
 -- a leaf of a tame tree has small costs
@@ -102,6 +102,7 @@ module _ (P : Network) (w : World) (holds : IsWorld P w) where
     valid = valid_lower P [] (tree_of w.pool.tree) w.pool.view.seen view.seen low sound.valid;
     strict = sound.strict;
     tame = sound.tame;
+    expanded = sound.expanded;
     counted = sound.counted;
     within = sound.within;
   }
@@ -132,6 +133,7 @@ module _ (P : Network) (w : World) (holds : IsWorld P w) where
     valid = replaced_valid n mark path (Leaf n other) P w.pool.view.seen w.pool.tree [] tree at tt sound.valid;
     strict = replaced_strict n mark path (Leaf n other) P w.pool.tree [] tree at tt sound.strict;
     tame = replaced_tame n mark path (Leaf n other) P w.pool.tree [] tree at (replaced_small P n mark path (Leaf n other) w.pool.tree [] tree at sound.tame) sound.tame;
+    expanded = omega (arith, sound.expanded, replaced_splits n mark path (Leaf n other) w.pool.tree [] tree at);
     counted = omega (arith, sound.counted, replaced_count n mark path (Leaf n other) w.pool.tree [] tree at);
     within = omega (arith, sound.within, room, replaced_granted n mark path (Leaf n other) w.pool.tree [] tree at);
   }
@@ -191,6 +193,7 @@ module _ (P : Network) (w : World) (holds : IsWorld P w) where
           valid = replaced_valid piece.task.leaf mark path place P w.word w.pool.tree [] tree at piece_valid valid_at_word;
           strict = replaced_strict piece.task.leaf mark path place P w.pool.tree [] tree at (subst (Strict P path) (sym same) is.strict) sound.strict;
           tame = replaced_tame piece.task.leaf mark path place P w.pool.tree [] tree at (subst (Tame P path) (sym same) is.tame) sound.tame;
+          expanded = (let c = replaced_splits piece.task.leaf mark path place w.pool.tree [] tree at in let d : splits (tree_of place) ≡ splits piece.tree = ap splits same in omega (arith, sound.expanded, c, d, splits_count piece.tree));
           counted = (let c = replaced_count piece.task.leaf mark path place w.pool.tree [] tree at in let d : count (tree_of place) ≡ count piece.tree = ap count same in omega (arith, sound.counted, c, d));
           within = omega (arith, sound.within, is.few, replaced_granted piece.task.leaf mark path place w.pool.tree [] tree at, numbered_granted piece.tree w.pool.next);
         };
@@ -204,6 +207,7 @@ module _ (P : Network) (w : World) (holds : IsWorld P w) where
       valid = subst (λ t. Valid P [] t w.pool.view.seen) (sym (recalled_is w.pool.tree)) sound.valid;
       strict = subst (Strict P []) (sym (recalled_is w.pool.tree)) sound.strict;
       tame = subst (Tame P []) (sym (recalled_is w.pool.tree)) sound.tame;
+      expanded = (let c = ap splits (recalled_is w.pool.tree) in omega (arith, sound.expanded, c));
       counted = (let c = ap count (recalled_is w.pool.tree) in omega (arith, sound.counted, c));
       within = omega (arith, sound.within, recalled_granted w.pool.tree);
     };
@@ -217,6 +221,7 @@ module _ (P : Network) (w : World) (holds : IsWorld P w) where
       valid = swept_valid P w.word w.pool.tree [] valid_at_word;
       strict = swept_strict P w.word w.pool.tree [] sound.strict;
       tame = swept_tame P w.word w.pool.tree [] sound.tame;
+      expanded = omega (arith, sound.expanded, swept_splits P w.word w.pool.tree []);
       counted = omega (arith, sound.counted, swept_count P w.word w.pool.tree []);
       within = omega (arith, sound.within, swept_granted P w.word w.pool.tree []);
     };
@@ -268,7 +273,7 @@ opening_small P network = record {
 
 pub opens : Opens
 opens P workers budget network few = record {
-  sound = record { seen = omega arith; valid = tt; strict = tt; tame = opening_small P network; counted = omega arith; within = omega arith };
+  sound = record { seen = omega arith; valid = tt; strict = tt; tame = opening_small P network; expanded = omega arith; counted = omega arith; within = omega arith };
   word = record {
     least = omega (arith, opening_least P (workers + 1) (new_view P 1) refl);
     pool = record { from = omega arith; upto = omega arith; keeps = tt };

@@ -5,11 +5,11 @@ use Rattle.cfn_model.specs.Network.{Network, IsNetwork}
 use Rattle.cfn_core.specs.Pool.{Free, Leaf}
 use Rattle.cfn_core.specs.World.{World, new_view, opening}
 use Rattle.cfn_core.specs.Actions.{Action, Reply, IsAction, Acts, Runs}
-use Rattle.cfn_core.specs.Laws.{IsWorld, IsHanded}
+use Rattle.cfn_core.specs.Laws.{IsWorld, AreNumbered, IsHanded}
 use Rattle.cfn_core.specs.Nodes.{nodes_of, pool_tree, IsListed}
 use Rattle.cfn_core.specs.Machine.{Machine, world_of, IsMachine}
 use Rattle.cfn_core.proofs.Keeping.{opens, keeps}
-use Rattle.cfn_core.proofs.Handing.{opens_handed, keeps_handed}
+use Rattle.cfn_core.proofs.Handing.{opens_numbered, keeps_numbered, opens_handed, keeps_handed}
 use Rattle.cfn_core.proofs.Listing.{tree_read, is_listed}
 
 -- the opening
@@ -23,6 +23,7 @@ pub is_opened : (P : Network) (workers budget : ℕ) (m : Machine) → m.network
 is_opened P workers budget m network nodes next allowed spent world is few small = record {
   network = subst IsNetwork (sym network) is;
   world = subst (λ Q. IsWorld Q (world_of m)) (sym network) (subst (IsWorld P) (sym world) (opens P workers budget is few));
+  numbered = subst (λ (w : World). AreNumbered w.pool) (sym world) (opens_numbered P workers budget);
   handed = subst (λ Q. IsHanded Q (world_of m)) (sym network) (subst (IsHanded P) (sym world) (opens_handed P workers budget));
   listed = subst (λ Q. IsListed Q m.nodes) (sym network) (is_listed P (Leaf 0 Free) m.nodes nodes);
   budget = omega arith;
@@ -35,7 +36,8 @@ pub acted : (m new : Machine) (a : Action) (r : Reply) → IsMachine m → IsAct
 acted m new a r is brings acts network budget listed next = record {
   network = subst IsNetwork (sym network) is.network;
   world = subst (λ P. IsWorld P (world_of new)) (sym network) (keeps m.network (world_of m) (world_of new) a r brings is.world acts);
-  handed = subst (λ P. IsHanded P (world_of new)) (sym network) (keeps_handed m.network (world_of m) (world_of new) a r is.handed acts);
+  numbered = keeps_numbered m.network (world_of m) (world_of new) a r is.numbered acts;
+  handed = subst (λ P. IsHanded P (world_of new)) (sym network) (keeps_handed m.network (world_of m) (world_of new) a r is.numbered is.handed acts);
   listed = subst (λ P. IsListed P new.nodes) (sym network) listed;
   budget = omega (arith, is.budget);
   next = next;

@@ -6,7 +6,7 @@ use Rattle.cfn_model.specs.declared.step.Event.TheVariants.{Is, IsNot}
 use Rattle.cfn_model.specs.Network.{Network}
 use Rattle.cfn_model.specs.Sums.{floor}
 use Rattle.cfn_model.specs.Steps.{after}
-use Rattle.cfn_model.specs.Tree.{Tree, Open, Closed, Split, count, open_leaves, Valid, Strict}
+use Rattle.cfn_model.specs.Tree.{Tree, Open, Closed, Split, count, splits, open_leaves, Valid, Strict}
 use Rattle.cfn_core.specs.Pool.{Mark, Free, Out, PoolTree, Leaf, Shut, Fork, tree_of, Replaced, grant_of, granted, numbered, recalled, swept, HasEmptyOpen, Tame}
 
 -- a tree in the place of one leaf
@@ -49,6 +49,15 @@ module _ (n : ℕ) (mark : Mark) (path : List Event) (place : PoolTree) where
       let below = replaced_count first (Is x a ∷ after block history) at.0 at.1 in rw at.2 (omega (arith, below))
   replaced_count (Fork block x a first second) history new (inr at) =
       let below = replaced_count second (IsNot x a ∷ after block history) at.0 at.1 in rw at.2 (omega (arith, below))
+
+  pub replaced_splits : (tree : PoolTree) (history : List Event) (new : PoolTree) → Replaced tree history n mark path place new →
+      splits (tree_of new) ≡ splits (tree_of tree) + splits (tree_of place)
+  replaced_splits (Leaf number m) history new at = rw at.3 (omega arith)
+  replaced_splits (Shut block) history new at = absurd at
+  replaced_splits (Fork block x a first second) history new (inl at) =
+      let below = replaced_splits first (Is x a ∷ after block history) at.0 at.1 in rw at.2 (omega (arith, below))
+  replaced_splits (Fork block x a first second) history new (inr at) =
+      let below = replaced_splits second (IsNot x a ∷ after block history) at.0 at.1 in rw at.2 (omega (arith, below))
 
   pub replaced_granted : (tree : PoolTree) (history : List Event) (new : PoolTree) → Replaced tree history n mark path place new →
       granted new + grant_of mark ≡ granted tree + granted place
@@ -139,3 +148,20 @@ module _ (P : Network) (k : ℕ) where
   swept_count (Shut block) history = omega arith
   swept_count (Fork block x a first second) history =
       omega (arith, swept_count first (Is x a ∷ after block history), swept_count second (IsNot x a ∷ after block history))
+
+  leaf_splits : (b : Bool) (n : ℕ) → splits (tree_of (if b then Shut [] else Leaf n Free)) ≡ 0
+  leaf_splits true n = refl
+  leaf_splits false n = refl
+
+  pub swept_splits : (tree : PoolTree) (history : List Event) → splits (tree_of (swept P k tree history)) ≡ splits (tree_of tree)
+  swept_splits (Leaf n Free) history = leaf_splits (nat_le k (floor P history)) n
+  swept_splits (Leaf n (Out w g)) history = refl
+  swept_splits (Shut block) history = refl
+  swept_splits (Fork block x a first second) history =
+      omega (arith, swept_splits first (Is x a ∷ after block history), swept_splits second (IsNot x a ∷ after block history))
+
+-- no tree has more splits than splits and closed leaves
+pub splits_count : (tree : Tree) → splits tree ≤ count tree
+splits_count (Open block) = omega arith
+splits_count (Closed block) = omega arith
+splits_count (Split block x a first second) = omega (arith, splits_count first, splits_count second)

@@ -1,6 +1,6 @@
 -- What the workers do: each action is one atomic step of one of them. An action that may not be done, or that names a
 -- worker that is not there, by itself or by its task or piece, is answered Idle and changes nothing.
-use Rattle.std.specs.Prelude.{◌≡◌, ◌≢◌, ℕ, ◌+◌, ◌-◌, ◌<◌, ◌≤◌, ◌⊎◌, min, List, [], ◌∷◌, ◌++◌, length, slice_set, Option, Some, None, MatchOption, filter, not, ◌==◌}
+use Rattle.std.specs.Prelude.{◌≡◌, ◌≢◌, ℕ, ◌+◌, ◌-◌, ◌<◌, ◌≤◌, ◌⊎◌, min, List, [], ◌∷◌, ◌++◌, length, slice_index_or, slice_set, Option, Some, None, MatchOption, filter, not, ◌==◌}
 use Rattle.cfn_model.specs.declared.step.Event.{Event}
 use Rattle.cfn_model.specs.Network.{Network}
 use Rattle.cfn_model.specs.Sums.{floor}
@@ -42,6 +42,21 @@ IsAction P (Give piece note) = IsPiece P piece
 IsAction P (Back task) = Unit {0}
 IsAction P Recall = Unit {0}
 IsAction P Sweep = Unit {0}
+
+-- A note, a taking and a giving take memory, and no other action does: neither one alone, nor the one at a place of a list.
+abbrev pub TakesMemory : Action → Type 0
+TakesMemory (Look worker) = ⊥
+TakesMemory (Lower worker found) = ⊥
+TakesMemory (Note worker) = Unit {0}
+TakesMemory (Meet worker) = ⊥
+TakesMemory (Take worker want) = Unit {0}
+TakesMemory (Give piece note) = Unit {0}
+TakesMemory (Back task) = ⊥
+TakesMemory Recall = ⊥
+TakesMemory Sweep = ⊥
+
+abbrev pub TakesMemoryAt : List Action → ℕ → Type 0
+TakesMemoryAt actions place = TakesMemory (slice_index_or actions place Recall)
 
 -- The answer is this reply, and leaves this world.
 pub record Answers (due : Reply) (left : World) (r : Reply) (new : World) : Type 0 where

@@ -5,7 +5,7 @@ use Rattle.cfn_model.specs.declared.step.Event.{Event}
 use Rattle.cfn_model.specs.Sums.{floor}
 use Rattle.cfn_model.specs.Network.{Network, IsNetwork, Fits, Least, cost}
 use Rattle.cfn_model.specs.Tree.{Valid, bound, open_leaves}
-use Rattle.cfn_core.specs.Pool.{Mark, Free, Out, PoolTree, Leaf, Shut, Fork, tree_of, IsLeaf, leaf_of, Task, IsTask, Piece, IsSound}
+use Rattle.cfn_core.specs.Pool.{Mark, Free, Out, PoolTree, Leaf, Shut, Fork, tree_of, IsLeaf, leaf_of, Task, IsTask, Piece, Pool, IsSound}
 use Rattle.cfn_core.specs.World.{World, HasWordRule, opening}
 use Rattle.cfn_core.specs.Actions.{Action, Look, Lower, Note, Meet, Take, Give, Back, Recall, Sweep, Reply, Idle, Given, Gone, IsAction, IsThere, IsOut, Acts, Runs, AreActions}
 
@@ -36,11 +36,13 @@ abbrev pub IsInHand : Task → List Task → Type 0
 IsInHand task [] = ⊥
 IsInHand task (other ∷ hands) = (task ≡ other) ⊎ IsInHand task hands
 
--- Each open leaf has a number of its own, the task of each leaf that is out is in hand, and the worker of each task in
--- hand is there.
+-- Each open leaf of the pool has a number of its own, and the numbers from next on are fresh.
+pub record AreNumbered (pool : Pool) : Type 0 where
+  pub different : (n : ℕ) → leaves_with n pool.tree ≤ 1
+  pub fresh : (n : ℕ) → pool.next ≤ n → leaves_with n pool.tree ≡ 0
+
+-- The task of each leaf that is out is in hand, and the worker of each task in hand is there.
 pub record IsHanded (P : Network) (w : World) : Type 0 where
-  pub different : (n : ℕ) → leaves_with n w.pool.tree ≤ 1
-  pub fresh : (n : ℕ) → w.pool.next ≤ n → leaves_with n w.pool.tree ≡ 0
   pub in_hand : (n worker grant : ℕ) (path : List Event) → IsLeaf w.pool.tree [] n (Out worker grant) path →
       IsInHand (record { leaf = n; worker = worker; grant = grant; floor = floor P path; path = path }) w.hands
   pub there : (task : Task) → IsInHand task w.hands → IsThere w task.worker
@@ -54,11 +56,18 @@ IsCovered P w values (Leaf n (Out worker grant)) =
 IsCovered P w values (Shut block) = w.pool.view.seen ≤ cost P values
 IsCovered P w values (Fork block x a first second) = ⊥
 
+-- Both hold at the opening, and each action keeps them.
+abbrev pub OpensNumbered : Type 0
+OpensNumbered = (P : Network) (workers budget : ℕ) → AreNumbered (opening P workers budget).pool
+
+abbrev pub KeepsNumbered : Type 0
+KeepsNumbered = (P : Network) (w new : World) (action : Action) (r : Reply) → AreNumbered w.pool → Acts P w action r new → AreNumbered new.pool
+
 abbrev pub OpensHanded : Type 0
 OpensHanded = (P : Network) (workers budget : ℕ) → IsHanded P (opening P workers budget)
 
 abbrev pub KeepsHanded : Type 0
-KeepsHanded = (P : Network) (w new : World) (action : Action) (r : Reply) → IsHanded P w → Acts P w action r new → IsHanded P new
+KeepsHanded = (P : Network) (w new : World) (action : Action) (r : Reply) → AreNumbered w.pool → IsHanded P w → Acts P w action r new → IsHanded P new
 
 -- What holds of the world that is left after any list of actions. The pool is sound and the word keeps its rule. Every
 -- assignment is covered by its leaf. The tree is valid at the word, which may be less than what the pool has seen, so its bound
@@ -71,6 +80,7 @@ pub record Always (P : Network) (w : World) : Type 0 where
   pub bound : (values : List ℕ) → Fits P.sizes values → bound P [] (tree_of w.pool.tree) w.word ≤ cost P values
   pub row : (values : List ℕ) → Fits P.sizes values → opening_bound P ≤ cost P values
   pub floors : (n : ℕ) (mark : Mark) (path : List Event) → IsLeaf w.pool.tree [] n mark path → opening_bound P ≤ floor P path
+  pub numbered : AreNumbered w.pool
   pub handed : IsHanded P w
 
 abbrev pub Holds : Type 0
@@ -130,7 +140,7 @@ abbrev pub AnswersAll : Type 0
 AnswersAll = (P : Network) (w : World) (action : Action) → (r : Reply) × (new : World) × Acts P w action r new
 
 abbrev pub AnswersOnce : Type 0
-AnswersOnce = (P : Network) (w : World) (action : Action) (r other : Reply) (new another : World) → IsHanded P w → Acts P w action r new → Acts P w action other another → (r ≡ other) × (new ≡ another)
+AnswersOnce = (P : Network) (w : World) (action : Action) (r other : Reply) (new another : World) → AreNumbered w.pool → Acts P w action r new → Acts P w action other another → (r ≡ other) × (new ≡ another)
 
 -- An action names a worker that is not there. Then it is answered Idle and changes nothing, whatever else it brings.
 abbrev pub NamesNobody : World → Action → Type 0

@@ -14,7 +14,7 @@ use Rattle.cfn_core.specs.declared.action.Reply.TheVariants.{Idle, Seen, Noted, 
 use Rattle.cfn_core.specs.Pool.{Task, View}
 use Rattle.cfn_core.specs.World.{World, cheaper}
 use Rattle.cfn_core.specs.Actions as actions
-use Rattle.cfn_core.specs.Laws.{IsWorld, IsHanded}
+use Rattle.cfn_core.specs.Laws.{IsWorld, AreNumbered, IsHanded}
 use Rattle.cfn_core.specs.Nodes.{pool_tree, IsListed}
 use Rattle.cfn_core.specs.Values.{piece_of}
 
@@ -115,6 +115,7 @@ IsReplyOf P Done = Unit {0}
 pub record IsMachine (m : Machine) : Type 0 where
   pub network : IsNetwork m.network
   pub world : IsWorld m.network (world_of m)
+  pub numbered : AreNumbered (world_of m).pool
   pub handed : IsHanded m.network (world_of m)
   pub listed : IsListed m.network m.nodes
   pub budget : m.budget < 2 ^ 63

@@ -7,7 +7,7 @@ use Rattle.cfn_model.specs.Network.{Network, Fits}
 use Rattle.cfn_model.specs.Sums.{floor, unary, residual, is_live, is_live_tuple}
 use Rattle.cfn_model.specs.Steps.{IsValue, Allowed, after}
 use Rattle.cfn_model.specs.Network.{dims_at}
-use Rattle.cfn_model.specs.Tree.{Tree, Open, Closed, Split, count, open_leaves, Valid, Strict}
+use Rattle.cfn_model.specs.Tree.{Tree, Open, Closed, Split, count, splits, open_leaves, Valid, Strict}
 
 -- An open leaf is free, or out: handed to a worker, who may make that many nodes.
 pub data Mark : Type 0 where
@@ -156,11 +156,13 @@ pub record Pool : Type 0 where
   pub nodes : ℕ
   pub view : View
 
--- A sound pool: its tree is valid, strict and tame at the threshold seen, and the nodes keep to the budget.
+-- A sound pool: its tree is valid, strict and tame at the threshold seen; each split is counted, and no more nodes are
+-- counted than the tree has; and the nodes keep to the budget.
 pub record IsSound (P : Network) (pool : Pool) : Type 0 where
   pub seen : pool.view.seen ≤ P.upper
   pub valid : Valid P [] (tree_of pool.tree) pool.view.seen
   pub strict : Strict P [] (tree_of pool.tree)
   pub tame : Tame P [] (tree_of pool.tree)
+  pub expanded : splits (tree_of pool.tree) ≤ pool.nodes
   pub counted : pool.nodes ≤ count (tree_of pool.tree)
   pub within : pool.nodes + granted pool.tree ≤ pool.budget

@@ -1,7 +1,7 @@
 //! What holds of the pool machine, each the contract of a function with nothing to do.
 
 ghost use Rattle.cfn_core.specs.Examples.{SplitSpends, RecallRefuses};
-ghost use Rattle.cfn_core.specs.Laws.{Opens, Keeps, OpensHanded, KeepsHanded, Holds, IsFound, Solves, HandsOutTasks, NeverGone, AnswersAll, AnswersOnce, AnswersNobody, RunsAll, RunsOnce};
+ghost use Rattle.cfn_core.specs.Laws.{Opens, Keeps, OpensNumbered, KeepsNumbered, OpensHanded, KeepsHanded, Holds, IsFound, Solves, HandsOutTasks, NeverGone, AnswersAll, AnswersOnce, AnswersNobody, RunsAll, RunsOnce};
 
 /// At the opening the pool is sound and the word keeps its rule, and each action of a worker keeps both.
 pub fn each_action()
@@ -9,8 +9,15 @@ pub fn each_action()
     ensures keeps { Keeps }
 {}
 
-/// Open leaves have numbers of their own, the task of each leaf that is out is in some worker's hand, and the worker of
-/// each task in hand is there: at the opening, and after each action.
+/// Open leaves have numbers of their own, and those from the pool's next one on are fresh: at the opening, and after each
+/// action.
+pub fn numbered()
+    ensures opens { OpensNumbered }
+    ensures keeps { KeepsNumbered }
+{}
+
+/// The task of each leaf that is out is in some worker's hand, and the worker of each task in hand is there: at the
+/// opening, and after each action.
 pub fn in_hand()
     ensures opens { OpensHanded }
     ensures keeps { KeepsHanded }

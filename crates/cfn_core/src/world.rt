@@ -3,7 +3,7 @@
 ghost use Rattle.std.specs.Prelude.{◌≡◌, ◌<◌, ◌≤◌, ◌^◌, List, length, map, take, All, IfOk, IfErr, OnOk, OnErr};
 ghost use Rattle.std.specs.List.{AllByRecursion};
 ghost use Rattle.cfn_core.specs.World.{opening};
-ghost use Rattle.cfn_core.specs.Actions.{Acts, Runs, Reply as Answer};
+ghost use Rattle.cfn_core.specs.Actions.{Acts, Runs, TakesMemory, TakesMemoryAt, Reply as Answer};
 ghost use Rattle.cfn_core.specs.Laws.{Always, AreKept, AreOut, IsKept, IsNoRecall};
 ghost use Rattle.cfn_core.specs.Machine.{IsOf, IsReplyOf, action_of, reply_of, world_of};
 
@@ -127,14 +127,15 @@ impl<'n> World<'n> {
         let _ = &self.word;
     }
 
-    /// Does one action, and answers it. What the action brings is of the world's network. An `Err`, want of memory, leaves
-    /// the world as it was.
+    /// Does one action, and answers it. What the action brings is of the world's network. An `Err`, want of memory, comes
+    /// only where the action is a note, a taking or a giving, and leaves the world as it was.
     pub fn step(&mut self, action: &Action) -> Result<Reply, AllocError>
         requires { IsOf self.old.network action.now }
         ensures network { self.new.network ≡ self.old.network }
         ensures acts { IfOk result (λ reply. Acts self.old.network (world_of self.old) (action_of action.now) (reply_of reply) (world_of self.new)) }
         ensures of { IfOk result (IsReplyOf self.old.network) }
         ensures err { OnErr result (self.new ≡ self.old) }
+        ensures memory { OnErr result (TakesMemory (action_of action.now)) }
         ensures always { Always self.new.network (world_of self.new) }
         ensures never_gone { IfOk result (λ reply. AreOut (world_of self.old) → IsKept (world_of self.old) (action_of action.now) (reply_of reply)) }
         ensures stays_out { OnOk result (AreOut (world_of self.old) → IsNoRecall (action_of action.now) → AreOut (world_of self.new)) }
@@ -145,7 +146,7 @@ impl<'n> World<'n> {
     }
 
     /// Does actions one after another, and answers each. What they bring is of the world's network. After an `Err`, want of
-    /// memory, the world is that after the first `done` of them.
+    /// memory, the world is that after the first `done` of them, and where some are done the next is one that takes memory.
     pub fn run(&mut self, actions: &[Action]) -> Result<Vec<Reply>, RunMemory>
         requires { All (IsOf self.old.network) actions.now }
         ensures network { self.new.network ≡ self.old.network }
@@ -153,6 +154,7 @@ impl<'n> World<'n> {
         ensures of { IfOk result (λ replies. AllByRecursion (IsReplyOf self.old.network) replies.items) }
         ensures memory { IfErr result (λ memory. (memory.done < length actions.now)
             × ((replies : List Answer) × Runs self.old.network (world_of self.old) (map action_of (take memory.done actions.now)) replies (world_of self.new))) }
+        ensures taking { IfErr result (λ memory. 0 < memory.done → TakesMemoryAt (map action_of actions.now) memory.done) }
         ensures always { Always self.new.network (world_of self.new) }
         ensures never_gone { IfOk result (λ replies. AreOut (world_of self.old) → AllByRecursion IsNoRecall (map action_of actions.now)
             → AreKept self.old.network (world_of self.old) (map action_of actions.now) (map reply_of replies.items)) }
@@ -184,6 +186,7 @@ impl<'n> World<'n> {
         ensures acts { IfOk result (λ reply. Acts self.old.network (world_of self.old) (action_of action.now) (reply_of reply) (world_of self.new)) }
         ensures of { IfOk result (IsReplyOf self.old.network) }
         ensures err { OnErr result (self.new ≡ self.old) }
+        ensures memory { OnErr result (TakesMemory (action_of action.now)) }
     {
         match action {
             Action::Look { worker } => Ok(self.look(*worker)),

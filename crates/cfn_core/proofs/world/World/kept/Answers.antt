@@ -9,4 +9,4 @@ pub returns : goal.returns
 returns c =
     let m = value c.self.inside in
     let is = c.self.invariant.machine in
-    subst (λ (k : Machine). Always k.network (world_of k)) c.self.view_is (always m.network (world_of m) is.network is.world is.handed)
+    subst (λ (k : Machine). Always k.network (world_of k)) c.self.view_is (always m.network (world_of m) is.network is.world is.numbered is.handed)
