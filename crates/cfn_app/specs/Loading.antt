@@ -1,10 +1,12 @@
 -- From the name of a file to a network.
-use Rattle.std.specs.Prelude.{◌≡◌, List, ◌∷◌, Option, Some, IsSomeAnd, ℕ}
+use Rattle.std.specs.Prelude.{◌≡◌, List, ◌∷◌, Some, IsSomeAnd, ℕ}
 use Rattle.cfn_model.specs.declared.reading.Refusal.{Refusal}
 use Rattle.cfn_model.specs.Network.{Network}
 use Rattle.cfn_model.specs.Reading.{Reads, Refuses}
 use Rattle.cfn_model.specs.Text.{refusal_text, read_fault_text, memory_fault_text}
 use Rattle.cfn_desk.specs.Outside.{Outside, Call, Load, Bytes, Unreadable, NoMemory}
+use Rattle.cfn_wcsp.specs.declared.fault.ReadFault.{ReadFault}
+use Rattle.cfn_wcsp.specs.declared.fault.ReadFault.TheVariants as faults
 use Rattle.cfn_app.specs.declared.format.Format.{Format}
 use Rattle.cfn_app.specs.declared.format.Format.TheVariants.{Wcsp}
 use Rattle.cfn_app.specs.declared.status.Status.{Status}
@@ -31,6 +33,11 @@ pub data Unloaded (name : List ℕ) (calls now : List Call) (status : Status) : 
 pub data Unread (format : Format) (bytes : List ℕ) (calls now : List Call) (status : Status) : Type 0 where
   refused : (refusal : Refusal) → RefusesAs format bytes refusal → Ends (record { calls = calls; text = refusal_text refusal; status = statuses.Refused }) now status → Unread format bytes calls now status
   no_memory : Ends (record { calls = calls; text = memory_fault_text; status = statuses.NoMemory }) now status → Unread format bytes calls now status
+
+-- What is said of bytes that the reader does not take.
+abbrev pub SaysUnread : ReadFault → List Call → List Call → Status → Type 0
+SaysUnread (faults.Refused refusal) calls now status = Ends (record { calls = calls; text = refusal_text refusal; status = statuses.Refused }) now status
+SaysUnread faults.Memory calls now status = Ends (record { calls = calls; text = memory_fault_text; status = statuses.NoMemory }) now status
 
 -- The desk tells its files, and that the file of this name has these bytes.
 abbrev pub Tells : Outside → List ℕ → List ℕ → Type 0

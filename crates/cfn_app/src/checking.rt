@@ -44,7 +44,10 @@ fn judge<D: Desk>(alloc: Global, network: &Network, text: &[u8], desk: &mut D) -
             ending(cfn_report::write_verified(lower, best, desk), Status::Done)
         }
         Ok(Check::Refused { kind, line }) => {
-            ending(cfn_report::write_refused(kind, line, desk), Status::Disproved)
+            ending(
+                cfn_report::write_refused(kind, line, desk),
+                Status::Disproved,
+            )
         }
         Err(AllocError) => ending(cfn_report::write_memory_fault(desk), Status::NoMemory),
     }

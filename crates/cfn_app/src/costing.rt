@@ -35,7 +35,10 @@ fn say_cost<D: Desk>(network: &Network, values: &[u32], desk: &mut D) -> Status
     match network.fits(values) {
         Fit::Fits => {
             let cost = network.cost(values).value();
-            ending(cfn_report::write_cost(network.ub(), cost, desk), Status::Done)
+            ending(
+                cfn_report::write_cost(network.ub(), cost, desk),
+                Status::Done,
+            )
         }
         Fit::Length => {
             let variables = u64::from(network.variables());

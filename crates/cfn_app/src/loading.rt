@@ -2,7 +2,7 @@
 
 ghost use Rattle.std.specs.Prelude.{◌≡◌, IfErr, IfOk};
 ghost use Rattle.cfn_desk.specs.Outside.{HasFile, Load, Bytes, after};
-ghost use Rattle.cfn_app.specs.Loading.{ReadsAs, Unloaded, Unread};
+ghost use Rattle.cfn_app.specs.Loading.{ReadsAs, SaysUnread, Unloaded, Unread};
 
 use crate::format::Format;
 use crate::status::{Status, ending};
@@ -23,9 +23,7 @@ pub fn load_bytes<D: Desk>(alloc: Global, name: &str, desk: &mut D) -> Result<Ve
     let mut bytes = Vec::new(alloc);
     match desk.load(name, &mut bytes) {
         Ok(()) => Ok(bytes),
-        Err(LoadFault::Failed) => {
-            Err(ending(cfn_report::write_read_fault(desk), Status::Fault))
-        }
+        Err(LoadFault::Failed) => { Err(ending(cfn_report::write_read_fault(desk), Status::Fault)) }
         Err(LoadFault::Memory) => {
             Err(ending(cfn_report::write_memory_fault(desk), Status::NoMemory))
         }
@@ -51,11 +49,19 @@ pub fn read_bytes<D: Desk>(
     };
     match read {
         Ok(network) => Ok(network),
-        Err(ReadFault::Refused(refusal)) => {
-            Err(ending(cfn_report::write_refusal(&refusal, desk), Status::Refused))
+        Err(fault) => Err(say_unread(fault, desk)),
+    }
+}
+
+/// Says why bytes are not read as a network.
+fn say_unread<D: Desk>(fault: ReadFault, desk: &mut D) -> Status
+    ensures ends { SaysUnread fault (D.outside desk.old).calls (D.outside desk.new).calls result }
+    ensures files { (D.outside desk.new).files ≡ (D.outside desk.old).files }
+{
+    match fault {
+        ReadFault::Refused(refusal) => {
+            ending(cfn_report::write_refusal(&refusal, desk), Status::Refused)
         }
-        Err(ReadFault::Memory) => {
-            Err(ending(cfn_report::write_memory_fault(desk), Status::NoMemory))
-        }
+        ReadFault::Memory => ending(cfn_report::write_memory_fault(desk), Status::NoMemory),
     }
 }

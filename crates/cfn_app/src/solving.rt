@@ -33,7 +33,12 @@ pub fn solve_file<D: Desk>(alloc: Global, ask: &SolveArguments, desk: &mut D) ->
 }
 
 /// Opens the certificate's file, and searches a network as is asked. A file that can't be written costs no search.
-fn open_and_search<D: Desk>(alloc: Global, network: &Network, ask: &SolveArguments, desk: &mut D) -> Status
+fn open_and_search<D: Desk>(
+    alloc: Global,
+    network: &Network,
+    ask: &SolveArguments,
+    desk: &mut D,
+) -> Status
     requires idle { IsIdle (D.outside desk.old).calls }
     requires budget { ask.now.budget ≤ 9223372036854775807 }
     ensures { Searches network.now (spoken_solve ask.now) (D.outside desk.old) (D.outside desk.new) result }

@@ -1,6 +1,6 @@
 //! What the words of a command line ask for: `solve` with its options, and `cost`.
 
-use crate::running::{Run, TINY, TRI, has_front};
+use cfn_testing::running::{Run, TINY, TRI, has_front};
 use std::test::Fail;
 
 /// A network that is one constant, 4 or 10, below an upper bound of 10.

@@ -1,6 +1,6 @@
 //! What a run says and leaves where a call on the outside fails.
 
-use crate::running::{Run, TINY};
+use cfn_testing::running::{Run, TINY};
 use std::test::Fail;
 
 const SOLVE: [&str; 4] = ["wcspsolve", "solve", "in", "out"];
@@ -22,8 +22,30 @@ fn failed_put_is_a_write_fault(rt: HostRuntime) -> Result<(), Fail> {
     let run = Run::of(&rt, &SOLVE, TINY, &[5])?;
     assert_eq!(rt; run.status, 5);
     assert_eq!(rt; run.said(), b"error write\n".as_slice());
-    assert_eq!(rt; run.desk.out_bytes(), b"wcspcert 1\n".as_slice());
+    // the file that was begun is dropped
+    assert_eq!(rt; run.desk.out_bytes(), b"".as_slice());
     assert_eq!(rt; run.certificate(), b"".as_slice());
+    Ok(())
+}
+
+/// Whichever call fails, a certificate that was there before is as it was, or replaced by a whole one.
+#[test]
+fn earlier_certificate_survives_each_fault(rt: HostRuntime) -> Result<(), Fail> {
+    let files = [("in", TINY), ("out", b"earlier".as_slice())];
+    let whole = Run::over(&rt, &SOLVE, &files, &[])?;
+    assert!(rt; whole.certificate().starts_with(b"wcspcert 1\n"));
+    let mut kept = 0;
+    for failing in 1..60 {
+        let run = Run::over(&rt, &SOLVE, &files, &[failing])?;
+        if run.certificate() == b"earlier" {
+            kept = failing;
+            assert_eq!(rt; run.status, 5);
+        } else {
+            assert_eq!(rt; run.certificate(), whole.certificate());
+        }
+    }
+    // the load, the opening, 35 puts and the closing
+    assert_eq!(rt; kept, 38);
     Ok(())
 }
 

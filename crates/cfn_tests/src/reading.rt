@@ -1,6 +1,6 @@
 //! Which files a run takes, and what it says of the others.
 
-use crate::running::{Run, TINY, TRI};
+use cfn_testing::running::{Run, TINY, TRI};
 use std::alloc::{AllocError, Global};
 use std::test::Fail;
 

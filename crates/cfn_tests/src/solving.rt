@@ -3,7 +3,7 @@
 //! The costs are worked out by hand from the files. Of a report only the lines are judged that every search owes:
 //! how many nodes it takes, and which of several best assignments it finds, is its own affair.
 
-use crate::running::{Run, TINY, TRI, has_front, has_line};
+use cfn_testing::running::{Run, TINY, TRI, has_front, has_line};
 use std::test::Fail;
 
 /// Files with one best assignment, lines of their reports, and the front of their certificates.

@@ -6,20 +6,20 @@
 use std::alloc::{AllocError, Global};
 
 /// The greatest cost of a file.
-pub(crate) const MOST: u64 = 9223372036854775807;
+pub const MOST: u64 = 9223372036854775807;
 
 /// At most so many assignments has a drawn network.
 const ASSIGNMENTS: u64 = 64;
 
 /// Numbers that follow each other by a linear congruential step.
 #[derive(Drop)]
-pub(crate) struct Dice {
-    pub(crate) state: u64,
+pub struct Dice {
+    pub state: u64,
 }
 
 impl Dice {
     /// A number below `bound`, or 0 where that is 0.
-    pub(crate) fn below(&mut self, bound: u64) -> u64 {
+    pub fn below(&mut self, bound: u64) -> u64 {
         self.state = self
             .state
             .wrapping_mul(6364136223846793005)
@@ -28,7 +28,7 @@ impl Dice {
     }
 
     /// A number from 1 to `most`, or 1 where that is 0.
-    pub(crate) fn up_to(&mut self, most: u64) -> u64 {
+    pub fn up_to(&mut self, most: u64) -> u64 {
         self.below(most).saturating_add(1)
     }
 
@@ -45,7 +45,7 @@ impl Dice {
 }
 
 /// The words of a network with this upper bound: 1 to 4 variables with 1 to 4 values, and 1 to 5 functions.
-pub(crate) fn draw(alloc: Global, dice: &mut Dice, upper: u64) -> Result<Vec<u64>, AllocError> {
+pub fn draw(alloc: Global, dice: &mut Dice, upper: u64) -> Result<Vec<u64>, AllocError> {
     let variables = dice.up_to(4);
     let functions = dice.up_to(5);
     let mut room = ASSIGNMENTS;
@@ -111,7 +111,7 @@ fn draw_scope(alloc: Global, dice: &mut Dice, variables: u64) -> Result<Vec<u64>
 }
 
 /// A file of these words.
-pub(crate) fn file_of(alloc: Global, words: &[u64]) -> Result<String, AllocError> {
+pub fn file_of(alloc: Global, words: &[u64]) -> Result<String, AllocError> {
     let mut file = String::from_str(alloc, "drawn")?;
     for word in words {
         write!(file, " {word}")?;
@@ -120,7 +120,7 @@ pub(crate) fn file_of(alloc: Global, words: &[u64]) -> Result<String, AllocError
 }
 
 /// The least cost below the upper bound, or `None` where every assignment costs the upper bound or more.
-pub(crate) fn least_of(alloc: Global, words: &[u64]) -> Result<Option<u64>, AllocError> {
+pub fn least_of(alloc: Global, words: &[u64]) -> Result<Option<u64>, AllocError> {
     let upper = at(words, 3);
     let mut least = None;
     for number in 0..ASSIGNMENTS {

@@ -1,7 +1,7 @@
 //! A plain judge of a certificate's lines, which stands on the plain definitions alone: it shares no code with the
 //! checker, knows a place in the tree by its whole history, and asks the plain program of each step.
 
-use crate::drawing::MOST;
+use cfn_testing::drawing::MOST;
 use cfn_model::{Event, Step};
 use cfn_net::{Fit, Network};
 use std::alloc::{AllocError, Global};

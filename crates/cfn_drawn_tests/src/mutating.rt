@@ -1,9 +1,9 @@
 //! Good certificates with one word or one line changed: what a run of `check` says of them is what the plain judge
 //! says.
 
-use crate::drawing::{Dice, MOST, draw, file_of};
+use cfn_testing::drawing::{Dice, MOST, draw, file_of};
 use crate::judging::{Kind, Verdict, number, verdict_of, words_of};
-use crate::running::{certificate_of, check_answers};
+use cfn_testing::running::{certificate_of, check_answers};
 use cfn_net::Network;
 use std::alloc::{AllocError, Global};
 use std::test::Fail;

@@ -5,56 +5,68 @@ use cfn_desk::MemoryDesk;
 use std::alloc::AllocError;
 
 /// One variable with two values, of costs 3 and 1.
-pub(crate) const TINY: &[u8] = b"tiny 1 2 1 10\n2\n1 0 3 1\n1 1\n";
+pub const TINY: &[u8] = b"tiny 1 2 1 10\n2\n1 0 3 1\n1 1\n";
 
 /// Three variables with two values, of which each two cost 1 where they agree.
-pub(crate) const TRI: &[u8] =
+pub const TRI: &[u8] =
     b"tri 3 2 3 10\n2 2 2\n2 0 1 0 2\n0 0 1\n1 1 1\n2 0 2 0 2\n0 0 1\n1 1 1\n2 1 2 0 2\n0 0 1\n1 1 1\n";
 
 /// How a run ended, and the desk that it left.
 #[derive(Drop)]
-pub(crate) struct Run {
-    pub(crate) status: u8,
-    pub(crate) desk: MemoryDesk,
+pub struct Run {
+    /// The number of its status.
+    pub status: u8,
+    /// The desk as the run left it.
+    pub desk: MemoryDesk,
 }
 
 impl Run {
     /// The run of these words, over a desk whose file `in` has these bytes and whose calls with these ordinals fail.
-    pub(crate) fn of(
+    pub fn of(
         rt: &HostRuntime,
         words: &[&str],
         file: &[u8],
         failing: &[u64],
     ) -> Result<Run, AllocError> {
-        let mut desk = MemoryDesk::make(rt.alloc(), &[("in", file)], 2000, 400, failing)?;
-        let status = run(rt, rt.alloc(), words, &mut desk, &OpenGate);
+        Run::over(rt, words, &[("in", file)], failing)
+    }
+
+    /// The run of these words, over a desk with these files, whose calls with these ordinals fail.
+    pub fn over(
+        rt: &HostRuntime,
+        words: &[&str],
+        files: &[(&str, &[u8])],
+        failing: &[u64],
+    ) -> Result<Run, AllocError> {
+        let mut desk = MemoryDesk::make(rt.alloc(), files, 2000, 400, failing)?;
+        let status = run(rt, rt.alloc(), words, &mut desk, &OpenGate).code();
         Ok(Run { status, desk })
     }
 
     /// The run of `solve in out` where no call fails.
-    pub(crate) fn solve(rt: &HostRuntime, file: &[u8]) -> Result<Run, AllocError> {
+    pub fn solve(rt: &HostRuntime, file: &[u8]) -> Result<Run, AllocError> {
         Run::of(rt, &["wcspsolve", "solve", "in", "out"], file, &[])
     }
 
     /// What was said.
-    pub(crate) fn said(&self) -> &[u8] {
+    pub fn said(&self) -> &[u8] {
         self.desk.said_bytes()
     }
 
     /// The certificate that was written to its end, or nothing.
-    pub(crate) fn certificate(&self) -> &[u8] {
+    pub fn certificate(&self) -> &[u8] {
         self.desk.file("out").unwrap_or(b"")
     }
 
     /// Whether the certificate is whole, and begins with these bytes behind its first line.
-    pub(crate) fn certifies(&self, front: &[u8]) -> bool {
+    pub fn certifies(&self, front: &[u8]) -> bool {
         let certificate = self.certificate();
         let behind = certificate.strip_prefix(b"wcspcert 1\n").unwrap_or(b"");
         behind.starts_with(front) && certificate.ends_with(b"\nend\n")
     }
 
     /// Whether each of these lines was said.
-    pub(crate) fn says(&self, lines: &[u8]) -> bool {
+    pub fn says(&self, lines: &[u8]) -> bool {
         lines
             .split(|byte| *byte == b'\n')
             .all(|line| has_line(self.said(), line))
@@ -62,7 +74,7 @@ impl Run {
 }
 
 /// The certificate that `solve` writes of a file with this budget, or nothing where there is none.
-pub(crate) fn certificate_of(
+pub fn certificate_of(
     rt: &HostRuntime,
     file: &[u8],
     budget: &str,
@@ -74,7 +86,7 @@ pub(crate) fn certificate_of(
 }
 
 /// Whether `check` ends with this status and says this, where these are the bytes of the two files.
-pub(crate) fn check_answers(
+pub fn check_answers(
     rt: &HostRuntime,
     file: &[u8],
     certificate: &[u8],
@@ -84,17 +96,17 @@ pub(crate) fn check_answers(
     let files = [("in", file), ("cert", certificate)];
     let mut desk = MemoryDesk::make(rt.alloc(), &files, 0, 400, &[])?;
     let words = ["wcspsolve", "check", "in", "cert"];
-    let ended = run(rt, rt.alloc(), &words, &mut desk, &OpenGate);
+    let ended = run(rt, rt.alloc(), &words, &mut desk, &OpenGate).code();
     Ok(ended == status && desk.said_bytes() == said)
 }
 
 /// Whether a line of a text begins with these bytes.
-pub(crate) fn has_front(text: &[u8], front: &[u8]) -> bool {
+pub fn has_front(text: &[u8], front: &[u8]) -> bool {
     text.split(|byte| *byte == b'\n')
         .any(|line| line.starts_with(front))
 }
 
 /// Whether one of the lines of a text is this line.
-pub(crate) fn has_line(text: &[u8], line: &[u8]) -> bool {
+pub fn has_line(text: &[u8], line: &[u8]) -> bool {
     text.split(|byte| *byte == b'\n').any(|other| other == line)
 }

@@ -1,6 +1,6 @@
 //! What runs of `check` say of certificates: good ones, ones that differ from a good one by a line, and hostile ones.
 
-use crate::running::{Run, TINY, TRI, check_answers};
+use cfn_testing::running::{Run, TINY, TRI, check_answers};
 use std::alloc::{AllocError, Global};
 use std::test::Fail;
 

@@ -1,8 +1,8 @@
 //! Searches of small networks, judged by the plain program, by costs that are known from elsewhere, and by `check`.
 
-use crate::drawing::{Dice, MOST, draw, file_of, least_of};
+use cfn_testing::drawing::{Dice, MOST, draw, file_of, least_of};
 use crate::judging::Verdict;
-use crate::running::{certificate_of, check_answers};
+use cfn_testing::running::{certificate_of, check_answers};
 use cfn_net::Network;
 use cfn_search::{Outcome, Stop, solve};
 use std::alloc::{AllocError, Global};

@@ -1,0 +1,56 @@
+-- The count of failed calls, and the file that is being written, at a run's end.
+use Rattle.std.proofs.Common.{◌≡◌, ℕ, suc, ◌<◌, ◌≤◌, List, sym, ap, ◌∙◌, subst, arith}
+use Rattle.cfn_desk.specs.Outside.{Call, IsIdle, faults, says, written}
+use Rattle.cfn_desk.proofs.CallerLemmas.{faults-says, faults-puts, written-says}
+use Rattle.cfn_line.specs.Appending.{IsCut}
+use Rattle.cfn_line.specs.declared.channel.Channel.TheVariants.{File, Screen}
+use Rattle.cfn_app.specs.declared.status.Status.{Status}
+use Rattle.cfn_app.specs.declared.status.Status.TheVariants.{Done, Nothing, BudgetSpent, Usage, Refused, Fault, NoMemory, Disproved}
+use Rattle.cfn_app.specs.Endings.{Ending, Ends, said, cut}
+use Rattle.cfn_app.specs.Statuses.{Counts}
+
+-- what holds of the status that is due and of a fault holds of the status
+pub by : (F : Status → Type 0) (due : Ending) (now : List Call) (status : Status) → Ends due now status → (now ≡ says due.text due.calls → F due.status) → F Fault → F status
+by F due now status (said calls is) whole fault = subst F (sym is) (whole calls)
+by F due now status (cut part is) whole fault = subst F (sym is) fault
+
+same_count : (before middle now : List Call) (status : Status) → faults now ≡ faults middle → Counts before middle status → Counts before now status
+same_count before middle now Done same counts = same ∙ counts
+same_count before middle now Nothing same counts = same ∙ counts
+same_count before middle now BudgetSpent same counts = same ∙ counts
+same_count before middle now Usage same counts = same ∙ counts
+same_count before middle now Refused same counts = same ∙ counts
+same_count before middle now Fault same counts = subst (λ n. faults before < n) (sym same) counts
+same_count before middle now NoMemory same counts = same ∙ counts
+same_count before middle now Disproved same counts = same ∙ counts
+
+no_fewer : (before now : List Call) (status : Status) → Counts before now status → faults before ≤ faults now
+no_fewer before now Done counts = omega (arith, counts)
+no_fewer before now Nothing counts = omega (arith, counts)
+no_fewer before now BudgetSpent counts = omega (arith, counts)
+no_fewer before now Usage counts = omega (arith, counts)
+no_fewer before now Refused counts = omega (arith, counts)
+no_fewer before now Fault counts = omega (arith, counts)
+no_fewer before now NoMemory counts = omega (arith, counts)
+no_fewer before now Disproved counts = omega (arith, counts)
+
+cut_count : (calls : List Call) (text : List ℕ) (now : List Call) → IsCut Screen calls text now → faults now ≡ suc (faults calls)
+cut_count calls text now part = ap faults part.calls ∙ ap suc (faults-says part.front calls)
+
+-- a piece that could not be put is one more failed call
+pub put_count : (calls : List Call) (text : List ℕ) (now : List Call) → IsCut File calls text now → faults now ≡ suc (faults calls)
+put_count calls text now part = ap faults part.calls ∙ ap suc (faults-puts part.front calls)
+
+-- the count at an end, by the count after the calls that it is due behind
+pub counted : (before : List Call) (due : Ending) (now : List Call) (status : Status) → Ends due now status → Counts before due.calls due.status → Counts before now status
+counted before due now status (said calls is) counts =
+    subst (Counts before now) (sym is) (same_count before due.calls now due.status (ap faults calls ∙ faults-says due.text due.calls) counts)
+counted before due now status (cut part is) counts =
+    let fewer = no_fewer before due.calls due.status counts in
+    let more = cut_count due.calls due.text now part in
+    subst (Counts before now) (sym is) (omega (arith, fewer, more))
+
+-- no file is being written at an end that is due where none is
+pub ends_idle : (due : Ending) (now : List Call) (status : Status) → Ends due now status → IsIdle due.calls → IsIdle now
+ends_idle due now status (said calls is) idle = ap written calls ∙ written-says due.text due.calls ∙ idle
+ends_idle due now status (cut part is) idle = ap written part.calls ∙ written-says part.front due.calls ∙ idle

@@ -1,0 +1,110 @@
+-- How a run ends, from what its parts did.
+use Rattle.std.proofs.Common.{◌≡◌, ℕ, true, false, List, ◌∷◌, refl, ap, ◌∙◌, subst}
+use Rattle.std.specs.Prelude.{Result, Ok, Err, IsErr, OnOk, OnErr, is_ok, is_err, if◌then◌else◌}
+use Rattle.cfn_model.specs.declared.reading.Refusal.{Refusal}
+use Rattle.cfn_model.specs.declared.report.Row.{Row}
+use Rattle.cfn_model.specs.declared.report.ResultWord.{ResultWord}
+use Rattle.cfn_model.specs.Network.{Network}
+use Rattle.cfn_model.specs.Certificate.{Certificate}
+use Rattle.cfn_model.specs.Reading.{reading}
+use Rattle.cfn_model.specs.Text.{spelling, report, write_fault_text}
+use Rattle.cfn_desk.specs.Outside.{Outside, Call, Load, Open, Bytes, Discard, HasFile, after, says}
+use Rattle.cfn_line.specs.Appending.{Appends, IsCut}
+use Rattle.cfn_line.specs.declared.channel.Channel.TheVariants.{File, Screen}
+use Rattle.cfn_cli.specs.Request.{SolveRequest, CheckRequest, CostRequest}
+use Rattle.cfn_app.specs.declared.format.Format.TheVariants.{Wcsp}
+use Rattle.cfn_wcsp.specs.Giving.{Fails}
+use Rattle.cfn_wcsp.specs.declared.fault.ReadFault.{ReadFault}
+use Rattle.cfn_wcsp.specs.declared.fault.ReadFault.TheVariants as faults
+use Rattle.cfn_app.specs.declared.format.Format.{Format}
+use Rattle.cfn_app.specs.declared.status.Status.{Status}
+use Rattle.cfn_app.specs.declared.status.Status.TheVariants.{Fault}
+use Rattle.cfn_app.specs.Endings.{Ends, said, cut}
+use Rattle.cfn_app.specs.Headline.{Promise}
+use Rattle.cfn_app.specs.Loading.{ReadsAs, RefusesAs, SaysUnread, Unloaded, Unread, loaded}
+use Rattle.cfn_app.specs.Loading as loading
+use Rattle.cfn_app.specs.Costing.{Costs, Prices}
+use Rattle.cfn_app.specs.Costing as costing
+use Rattle.cfn_app.specs.Checking.{Checks, Judges}
+use Rattle.cfn_app.specs.Checking as checking
+use Rattle.cfn_app.specs.Solving.{Solves, Searches, Outputs, Wrote, NotWritten, status_of}
+use Rattle.cfn_app.specs.Solving as solving
+
+-- a text that is said last
+pub ends_saying : {T E : Type 0} (calls : List Call) (before now : Outside) (text : List ℕ) (result : Result T E) (due status : Status) → before.calls ≡ calls → Appends Screen before text result now → status ≡ (if is_ok result then due else Fault) → Ends (record { calls = calls; text = text; status = due }) now.calls status
+ends_saying calls before now text (Ok x) due status same one is = said (subst (λ (cs : List Call). now.calls ≡ says text cs) same one.sends) is
+ends_saying calls before now text (Err e) due status same one is = cut (subst (λ (cs : List Call). IsCut Screen cs text now.calls) same one.cut) is
+
+-- a certificate of which a piece could not be put, and whose file was dropped
+pub not_written : {T E : Type 0} (text : List ℕ) (old mid new : Outside) (result : Result T E) → IsErr result → Appends File old text result mid → new ≡ after Discard mid → NotWritten text old new
+not_written text old mid new (Ok x) failed one at = absurd (let no : false ≡ true = failed in cc)
+not_written text old mid new (Err e) failed one at =
+    solving.dropped mid.calls one.cut (at ∙ ap (λ files. record { calls = Discard ∷ mid.calls; files = files }) one.files)
+
+-- bytes that the reader does not take
+refuses_as : (format : Format) (bytes : List ℕ) (refusal : Refusal) → reading bytes ≡ Err refusal → RefusesAs format bytes refusal
+refuses_as Wcsp bytes refusal refuses = refuses
+
+pub unread_by : (format : Format) (bytes : List ℕ) (fault : ReadFault) (calls now : List Call) (status : Status) → Fails fault (reading bytes) → SaysUnread fault calls now status → Unread format bytes calls now status
+unread_by format bytes (faults.Refused refusal) calls now status fails says = loading.refused refusal (refuses_as format bytes refusal fails) says
+unread_by format bytes faults.Memory calls now status fails says = loading.no_memory says
+
+-- the report is said behind a certificate that was written, and else that it was not
+pub outputs_unwritten : {T E U F : Type 0} (text said_text : List ℕ) (due : Status) (old middle new : Outside) (result : Result T E) (said : Result U F) (status : Status) → is_err result ≡ true → OnErr result (NotWritten text old middle) → Appends Screen middle write_fault_text said new → status ≡ (if is_ok said then Fault else Fault) → Outputs text said_text due old new status
+outputs_unwritten text said_text due old middle new (Ok x) spoken status failed not one is = absurd (let no : false ≡ true = failed in cc)
+outputs_unwritten text said_text due old middle new (Err e) spoken status failed not one is =
+    solving.unwritten middle not one.files (ends_saying middle.calls middle new write_fault_text spoken Fault status refl one is)
+
+pub outputs_written : {T E U F : Type 0} (text said_text : List ℕ) (due : Status) (old middle new : Outside) (result : Result T E) (said : Result U F) (status : Status) → is_err result ≡ false → OnOk result (Wrote text old middle) → Appends Screen middle said_text said new → status ≡ (if is_ok said then due else Fault) → Outputs text said_text due old new status
+outputs_written text said_text due old middle new (Ok x) spoken status fine wrote one is =
+    solving.wrote middle wrote one.files (ends_saying middle.calls middle new said_text spoken due status refl one is)
+outputs_written text said_text due old middle new (Err e) spoken status fine wrote one is = absurd (let no : true ≡ false = fine in cc)
+
+-- a search behind a file that was opened
+pub searched_behind : {T E : Type 0} (P : Network) (ask : SolveRequest) (old middle new : Outside) (opened : Result T E) (status : Status) (nodes : ℕ) (c : Certificate) (rows : List Row) (word : ResultWord) → is_err opened ≡ false → middle ≡ after (Open ask.certificate (is_ok opened)) old →
+    Promise P ask.budget nodes c rows word → Outputs (spelling c) (report ask.workers c rows nodes word) (status_of word) middle new status → Searches P ask old new status
+searched_behind P ask old middle new (Ok x) status nodes c rows word fine at promise out =
+    solving.searched nodes c rows word promise (subst (λ o. Outputs (spelling c) (report ask.workers c rows nodes word) (status_of word) o new status) at out)
+searched_behind P ask old middle new (Err e) status nodes c rows word fine at promise out = absurd (let no : true ≡ false = fine in cc)
+
+module _ (old : Outside) (now : List Call) (status : Status) where
+  -- the calls after one load, and after two
+  once : (middle last : Outside) (file bytes : List ℕ) → middle ≡ after (Load file (Bytes bytes)) old → last ≡ middle → last.calls ≡ loaded file bytes old.calls
+  once middle last file bytes at same = ap (λ o. o.calls) same ∙ ap (λ o. o.calls) at
+
+  twice : (first second last : Outside) (file certificate bytes text : List ℕ) → first ≡ after (Load file (Bytes bytes)) old → second ≡ after (Load certificate (Bytes text)) first → last ≡ second → last.calls ≡ loaded certificate text (loaded file bytes old.calls)
+  twice first second last file certificate bytes text at also same = ap (λ o. o.calls) same ∙ ap (λ o. o.calls) also ∙ ap (λ o. Load certificate (Bytes text) ∷ o.calls) at
+
+  -- the cost of an assignment was asked for
+  pub costs_priced : (middle last : Outside) (ask : CostRequest) (bytes : List ℕ) (P : Network) → HasFile old ask.file bytes → middle ≡ after (Load ask.file (Bytes bytes)) old → ReadsAs Wcsp bytes P → last ≡ middle → Prices P ask.values last.calls now status → Costs ask old now status
+  costs_priced middle last ask bytes P has at reads same prices =
+      costing.priced bytes P has reads (subst (λ (cs : List Call). Prices P ask.values cs now status) (once middle last ask.file bytes at same) prices)
+
+  pub costs_unread : (middle : Outside) (ask : CostRequest) (bytes : List ℕ) → HasFile old ask.file bytes → middle ≡ after (Load ask.file (Bytes bytes)) old → Unread Wcsp bytes middle.calls now status → Costs ask old now status
+  costs_unread middle ask bytes has at unread =
+      costing.unread bytes has (subst (λ (cs : List Call). Unread Wcsp bytes cs now status) (ap (λ o. o.calls) at) unread)
+
+  -- a certificate was to be judged
+  pub checks_uncertified : (first : Outside) (ask : CheckRequest) (bytes : List ℕ) → HasFile old ask.file bytes → first ≡ after (Load ask.file (Bytes bytes)) old → Unloaded ask.certificate first.calls now status → Checks ask old now status
+  checks_uncertified first ask bytes has at unloaded =
+      checking.uncertified bytes has (subst (λ (cs : List Call). Unloaded ask.certificate cs now status) (ap (λ o. o.calls) at) unloaded)
+
+  pub checks_unread : (first second : Outside) (ask : CheckRequest) (bytes text : List ℕ) → HasFile old ask.file bytes → first ≡ after (Load ask.file (Bytes bytes)) old → HasFile first ask.certificate text → second ≡ after (Load ask.certificate (Bytes text)) first → Unread Wcsp bytes second.calls now status → Checks ask old now status
+  checks_unread first second ask bytes text has at certificate also unread =
+      checking.unread bytes text has (subst (λ o. HasFile o ask.certificate text) at certificate)
+      (subst (λ (cs : List Call). Unread Wcsp bytes cs now status) (twice first second second ask.file ask.certificate bytes text at also refl) unread)
+
+  pub checks_judged : (first second last : Outside) (ask : CheckRequest) (bytes text : List ℕ) (P : Network) → HasFile old ask.file bytes → first ≡ after (Load ask.file (Bytes bytes)) old → HasFile first ask.certificate text → second ≡ after (Load ask.certificate (Bytes text)) first → ReadsAs Wcsp bytes P → last ≡ second → Judges P text last.calls now status → Checks ask old now status
+  checks_judged first second last ask bytes text P has at certificate also reads same judges =
+      checking.judged bytes text P has (subst (λ o. HasFile o ask.certificate text) at certificate) reads
+      (subst (λ (cs : List Call). Judges P text cs now status) (twice first second last ask.file ask.certificate bytes text at also same) judges)
+
+module _ (old new : Outside) (status : Status) where
+  -- a network was to be searched
+  pub solves_unread : (middle : Outside) (ask : SolveRequest) (bytes : List ℕ) → HasFile old ask.file bytes → middle ≡ after (Load ask.file (Bytes bytes)) old → new.files ≡ middle.files → Unread Wcsp bytes middle.calls new.calls status → Solves ask old new status
+  solves_unread middle ask bytes has at same unread =
+      solving.unread bytes has (same ∙ ap (λ o. o.files) at) (subst (λ (cs : List Call). Unread Wcsp bytes cs new.calls status) (ap (λ o. o.calls) at) unread)
+
+  pub solves_read : (middle last : Outside) (ask : SolveRequest) (bytes : List ℕ) (P : Network) → HasFile old ask.file bytes → middle ≡ after (Load ask.file (Bytes bytes)) old → ReadsAs Wcsp bytes P → last ≡ middle → Searches P ask last new status → Solves ask old new status
+  solves_read middle last ask bytes P has at reads same searches =
+      solving.read bytes P has reads (subst (λ o. Searches P ask o new status) (same ∙ at) searches)

@@ -1,0 +1,16 @@
+use Rattle.std.proofs.Common.{ap, ◌∙◌, Some}
+use Rattle.cfn_cli.specs.Request.{request, spoken_solve, spoken_check, spoken_cost}
+use Rattle.cfn_app.specs.Runs.{solves, checks, costs}
+use Rattle.cfn_app.proofs.program.end_of.Goals as goal
+
+pub returns-in-Ok-Solve : goal.returns-in-Ok-Solve
+returns-in-Ok-Solve g c =
+    solves (spoken_solve c.in-Ok-Solve.ask) (c.in-Ok-Solve.ensures.command ∙ ap (λ command. Some (request command)) c.in-Ok-Solve.field-0-is) c.solve_file.ensures
+
+pub returns-in-Ok-Check : goal.returns-in-Ok-Check
+returns-in-Ok-Check g c =
+    checks (spoken_check c.in-Ok-Check.ask) (c.in-Ok-Check.ensures.command ∙ ap (λ command. Some (request command)) c.in-Ok-Check.field-0-is) c.check_file.ensures.files c.check_file.ensures.ends
+
+pub returns-in-Ok-Cost : goal.returns-in-Ok-Cost
+returns-in-Ok-Cost g c =
+    costs (spoken_cost c.in-Ok-Cost.ask) (c.in-Ok-Cost.ensures.command ∙ ap (λ command. Some (request command)) c.in-Ok-Cost.field-0-is) c.cost_file.ensures.files c.cost_file.ensures.ends

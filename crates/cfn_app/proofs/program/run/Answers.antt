@@ -1,0 +1,5 @@
+use Rattle.cfn_app.proofs.Stating.{statuses}
+use Rattle.cfn_app.proofs.program.run.Goals as goal
+
+pub returns-clause-statuses : goal.returns-clause-statuses
+returns-clause-statuses g c = statuses _ _ _ _ c.end_of.ensures

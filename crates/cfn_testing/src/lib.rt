@@ -1,0 +1,8 @@
+//! What tests that cross the crates share, and no code of the solver.
+//!
+//! - `running` is a whole run over files in memory.
+//! - `drawing` draws small networks with the least cost that their words say.
+#![tactic(auto)]
+
+pub mod drawing;
+pub mod running;
