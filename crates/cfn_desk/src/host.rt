@@ -75,7 +75,10 @@ impl<'a, R: Files + Eprint> Storage for HostStorage<'a, R> {
     }
 
     fn create(&mut self, name: &str, like: &str) -> io::Result<()> {
-        let file = OpenOptions::new().write(true).create_new(true).open(self.rt, name)?;
+        let file = OpenOptions::new()
+            .write(true)
+            .create_new(true)
+            .open(self.rt, name)?;
         if let Ok(found) = fs::metadata(self.rt, like) {
             let _ = file.set_permissions(found.permissions());
         }

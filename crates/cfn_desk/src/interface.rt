@@ -3,7 +3,7 @@
 /// Why a file was not loaded.
 #[derive(Clone, Copy, Debug, PartialEq, Eq)]
 pub enum LoadFault {
-    /// The file could not be read to its end, or is not there. 
+    /// The file could not be read to its end, or is not there.
     Failed,
     /// Memory ran out. That is no fault of the outside.
     Memory,
@@ -45,7 +45,8 @@ pub trait Desk {
     fn put(&mut self, bytes: &[u8]) -> Result<(), Failed>
         requires { IsWriting (outside self.old).calls }
         ensures called { outside self.new ≡ record (outside self.old) {
-            calls = after_put bytes.now result (outside self.old).calls } };
+          calls = after_put bytes.now result (outside self.old).calls;
+        } };
 
     /// Ends the file being written: its name has its bytes from then on. An `Err` ends it too, and stores it or leaves
     /// the files as they were.
@@ -67,5 +68,6 @@ pub trait Desk {
     /// Says a piece of text. An `Err` says some front of it.
     fn say(&mut self, bytes: &[u8]) -> Result<(), Failed>
         ensures called { outside self.new ≡ record (outside self.old) {
-            calls = after_say bytes.now result (outside self.old).calls } };
+          calls = after_say bytes.now result (outside self.old).calls;
+        } };
 }

@@ -178,7 +178,8 @@ impl<S: Storage> OutFile<S> {
             self.storage.close();
             return Ok(());
         }
-        self.storage.store(self.beside.as_str(), self.target.as_str())
+        self.storage
+            .store(self.beside.as_str(), self.target.as_str())
     }
 
     /// Drops the file. Where its removal fails it is left behind, under the name that it had while it was new.
@@ -219,7 +220,9 @@ fn create_beside<S: Storage>(
     ensures same_files { S.files storage.new ≡ S.files storage.old }
 {
     for suffix in SUFFIXES {
-        beside.set(target.as_str(), suffix).map_err(|_| long_name())?;
+        beside
+            .set(target.as_str(), suffix)
+            .map_err(|_| long_name())?;
         match storage.create(beside.as_str(), target.as_str()) {
             Err(error) if error.kind() == ErrorKind::AlreadyExists => {}
             created => return created,

@@ -93,7 +93,8 @@ impl Desk for SureDesk {
         ensures emptied { OnErr result (into.new.items ≡ []) }
         ensures memory_only { IfErr result (λ fault. fault ≡ LoadFault.Memory) }
         ensures called { self.new ≡ record self.old {
-            calls = Load name.now (answer_of result into.new.items) ∷ self.old.calls } }
+          calls = Load name.now (answer_of result into.new.items) ∷ self.old.calls;
+        } }
     {
         into.clear();
         let answer = self.read(name, into);

@@ -18,44 +18,45 @@ fn memory_desk(rt: &HostRuntime, failing: &[u64]) -> Result<MemoryDesk, AllocErr
     MemoryDesk::make(rt.alloc(), &[("in", b"given")], 8, 8, failing)
 }
 
+/// Writes a file in two pieces. Where one of them failed, the file is discarded.
+fn write_file<D: Desk>(desk: &mut D, name: &str, front: &[u8], back: &[u8]) -> Result<(), Failed>
+    requires { IsIdle (D.outside desk.old).calls }
+    ensures { IsIdle (D.outside desk.new).calls }
+{
+    desk.open_out(name)?;
+    if let Err(fault) = desk.put(front) {
+        desk.discard_out();
+        return Err(fault);
+    }
+    if let Err(fault) = desk.put(back) {
+        desk.discard_out();
+        return Err(fault);
+    }
+    desk.close_out()
+}
+
 /// What a desk answered to a load, to a file written in two pieces, and to a word said.
 #[derive(Clone, Copy, Debug, PartialEq, Eq)]
 struct Answers {
     load: Result<(), LoadFault>,
-    open: Result<(), Failed>,
-    puts: [Result<(), Failed>; 2],
-    close: Result<(), Failed>,
+    write: Result<(), Failed>,
     say: Result<(), Failed>,
 }
 
 const ALL_DONE: Answers = Answers {
     load: Ok(()),
-    open: Ok(()),
-    puts: [Ok(()), Ok(())],
-    close: Ok(()),
+    write: Ok(()),
     say: Ok(()),
 };
 
-/// Makes the six calls. A file of which a piece failed is discarded.
+/// Makes the six calls.
 fn six_calls(desk: &mut MemoryDesk, into: &mut Vec<u8>) -> Answers
     requires { desk.old.calls ≡ [] }
 {
-    let mut answers = ALL_DONE;
-    answers.load = desk.load("in", into);
-    answers.open = desk.open_out("out");
-    if answers.open.is_ok() {
-        answers.puts[0] = desk.put(b"wri");
-        if answers.puts[0].is_ok() {
-            answers.puts[1] = desk.put(b"tten");
-        }
-        if answers.puts[0].is_ok() && answers.puts[1].is_ok() {
-            answers.close = desk.close_out();
-        } else {
-            desk.discard_out();
-        }
-    }
-    answers.say = desk.say(b"word");
-    answers
+    let load = desk.load("in", into);
+    let write = write_file(desk, "out", b"wri", b"tten");
+    let say = desk.say(b"word");
+    Answers { load, write, say }
 }
 
 #[test]
@@ -74,19 +75,25 @@ fn memory_desk_keeps_what_it_is_given(rt: HostRuntime) -> Result<(), Fail> {
 
 #[test]
 fn memory_desk_fails_at_each_call(rt: HostRuntime) -> Result<(), Fail> {
-    let failed_load = Answers { load: Err(LoadFault::Failed), ..ALL_DONE };
-    let failed_open = Answers { open: Err(Failed), ..ALL_DONE };
-    let first_piece = Answers { puts: [Err(Failed), Ok(())], ..ALL_DONE };
-    let second_piece = Answers { puts: [Ok(()), Err(Failed)], ..ALL_DONE };
-    let failed_close = Answers { close: Err(Failed), ..ALL_DONE };
-    let failed_say = Answers { say: Err(Failed), ..ALL_DONE };
+    let load = Answers {
+        load: Err(LoadFault::Failed),
+        ..ALL_DONE
+    };
+    let write = Answers {
+        write: Err(Failed),
+        ..ALL_DONE
+    };
+    let say = Answers {
+        say: Err(Failed),
+        ..ALL_DONE
+    };
     let expected: [(u64, Answers, &[u8], &[u8]); 6] = [
-        (1, failed_load, b"written", b"word"),
-        (2, failed_open, b"", b"word"),
-        (3, first_piece, b"", b"word"),
-        (4, second_piece, b"", b"word"),
-        (5, failed_close, b"", b"word"),
-        (6, failed_say, b"written", b""),
+        (1, load, b"written", b"word"),
+        (2, write, b"", b"word"),
+        (3, write, b"", b"word"),
+        (4, write, b"", b"word"),
+        (5, write, b"", b"word"),
+        (6, say, b"written", b""),
     ];
     for (ordinal, answers, written, said) in expected {
         let mut desk = memory_desk(&rt, &[ordinal])?;
@@ -117,19 +124,6 @@ fn sure_desk_counts(rt: HostRuntime) -> Result<(), Fail> {
     Ok(())
 }
 
-/// Writes a file of one piece, as far as that goes.
-fn write_file<D: Desk>(desk: &mut D, name: &str, piece: &[u8]) -> Result<(), Failed>
-    requires { IsIdle (D.outside desk.old).calls }
-    ensures { IsIdle (D.outside desk.new).calls }
-{
-    desk.open_out(name)?;
-    if let Err(fault) = desk.put(piece) {
-        desk.discard_out();
-        return Err(fault);
-    }
-    desk.close_out()
-}
-
 /// A piece that is larger than the buffer of a desk.
 fn large_piece(alloc: Global) -> Result<Vec<u8>, AllocError> {
     vec![in alloc; 7; 70000]
@@ -148,7 +142,11 @@ fn file_desk_keeps_the_earlier_file_at_each_fault(rt: HostRuntime) -> Result<(),
         let storage = MemoryStorage::make(rt.alloc(), &[("out", b"earlier")], failing)?;
         let mut desk = FileDesk::over(rt.alloc(), storage, Vec::new(rt.alloc()))?;
         let mut into = Vec::new(rt.alloc());
-        assert_eq!(rt; write_file(&mut desk, "out", b"later"), answer, "call {failing}");
+        assert_eq!(rt;
+            write_file(&mut desk, "out", b"la", b"ter"),
+            answer,
+            "call {failing}"
+        );
         assert_eq!(rt; desk.load("out", &mut into), Ok(()), "call {failing}");
         assert_eq!(rt; into.as_slice(), kept, "call {failing}");
     }
@@ -162,7 +160,7 @@ fn file_desk_discards_after_a_large_piece_failed(rt: HostRuntime) -> Result<(), 
     let storage = MemoryStorage::make(rt.alloc(), &files, 4)?;
     let mut desk = FileDesk::over(rt.alloc(), storage, NoOutput)?;
     let mut into = Vec::new(rt.alloc());
-    assert_eq!(rt; write_file(&mut desk, "out", &large), Err(Failed));
+    assert_eq!(rt; write_file(&mut desk, "out", b"front", &large), Err(Failed));
     assert_eq!(rt; desk.load("out", &mut into), Ok(()));
     assert_eq!(rt; into.as_slice(), b"earlier".as_slice());
     assert_eq!(rt; desk.say(b"word"), Err(Failed));
@@ -174,17 +172,14 @@ fn host_desk_writes_and_reads_a_file(rt: HostRuntime) -> Result<(), Fail> {
     let large = large_piece(rt.alloc())?;
     let mut desk = HostDesk::make(&rt)?;
     let mut into = Vec::new(rt.alloc());
-    if desk.open_out("written.txt").is_err() {
-        return Err(Fail::new("the file did not open"));
-    }
-    if desk.put(b"front").is_err() || desk.put(&large).is_err() || desk.put(b"back").is_err() {
-        return Err(Fail::new("a piece was not put"));
-    }
-    assert_eq!(rt; desk.close_out(), Ok(()));
+    assert_eq!(rt;
+        write_file(&mut desk, "written.txt", b"front", &large),
+        Ok(())
+    );
     assert_eq!(rt; desk.load("written.txt", &mut into), Ok(()));
-    assert_eq!(rt; into.len(), 70009);
+    assert_eq!(rt; into.len(), 70005);
     assert!(rt; into.starts_with(b"front"));
-    assert!(rt; into.ends_with(b"back"));
+    assert!(rt; into.ends_with(&large));
     assert!(rt; !fs::exists(&rt, "written.txt.part")?);
     fs::remove_file(&rt, "written.txt")?;
     assert_eq!(rt; desk.say(b"said\n"), Ok(()));
@@ -210,7 +205,7 @@ fn host_desk_leaves_the_earlier_file_where_it_is_interrupted(rt: HostRuntime) ->
     assert_eq!(rt; desk.load("kept.txt", &mut into), Ok(()));
     assert_eq!(rt; into.as_slice(), b"earlier".as_slice());
     assert!(rt; fs::exists(&rt, "kept.txt.part")?);
-    assert_eq!(rt; write_file(&mut desk, "kept.txt", b"later"), Ok(()));
+    assert_eq!(rt; write_file(&mut desk, "kept.txt", b"la", b"ter"), Ok(()));
     assert_eq!(rt; desk.load("kept.txt", &mut into), Ok(()));
     assert_eq!(rt; into.as_slice(), b"later".as_slice());
     assert!(rt; !fs::exists(&rt, "kept.txt.part1")?);
@@ -242,16 +237,22 @@ fn host_desk_keeps_links_modes_and_devices(rt: HostRuntime) -> Result<(), Fail> 
     fs::write(&rt, "file.txt", "earlier")?;
     fs::set_permissions(&rt, "file.txt", Permissions::from_mode(0o640))?;
     symlink(&rt, "file.txt", "link.txt")?;
-    assert_eq!(rt; write_file(&mut desk, "link.txt", b"later"), Ok(()));
+    assert_eq!(rt; write_file(&mut desk, "link.txt", b"la", b"ter"), Ok(()));
     assert!(rt; fs::symlink_metadata(&rt, "link.txt")?.is_symlink());
     assert_eq!(rt; desk.load("file.txt", &mut into), Ok(()));
     assert_eq!(rt; into.as_slice(), b"later".as_slice());
-    assert_eq!(rt; fs::metadata(&rt, "file.txt")?.permissions().mode() & 0o777, 0o640);
+    assert_eq!(rt;
+        fs::metadata(&rt, "file.txt")?.permissions().mode() & 0o777,
+        0o640
+    );
     fs::remove_file(&rt, "link.txt")?;
     fs::remove_file(&rt, "file.txt")?;
-    assert_eq!(rt; write_file(&mut desk, "/dev/null", b"nothing"), Ok(()));
+    assert_eq!(rt; write_file(&mut desk, "/dev/null", b"no", b"thing"), Ok(()));
     assert!(rt; !fs::metadata(&rt, "/dev/null")?.is_file());
-    assert_eq!(rt; write_file(&mut desk, "/dev/full", b"nothing"), Err(Failed));
+    assert_eq!(rt;
+        write_file(&mut desk, "/dev/full", b"no", b"thing"),
+        Err(Failed)
+    );
     Ok(())
 }
 
@@ -260,7 +261,10 @@ fn host_desk_fails_without_a_file(rt: HostRuntime) -> Result<(), Fail> {
     let mut desk = HostDesk::make(&rt)?;
     let mut into = Vec::new(rt.alloc());
     assert_eq!(rt; desk.load("missing", &mut into), Err(LoadFault::Failed));
-    assert_eq!(rt; write_file(&mut desk, "no folder/out", b""), Err(Failed));
-    assert_eq!(rt; write_file(&mut desk, ".", b""), Err(Failed));
+    assert_eq!(rt;
+        write_file(&mut desk, "no folder/out", b"", b""),
+        Err(Failed)
+    );
+    assert_eq!(rt; write_file(&mut desk, ".", b"", b""), Err(Failed));
     Ok(())
 }

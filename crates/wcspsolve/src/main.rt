@@ -1,7 +1,7 @@
 //! The program: the words of its command line, real files, standard output, and the one call that does all.
 #![tactic(auto)]
 
-ghost use Rattle.std.specs.Prelude.{◌≡◌, false};
+ghost use Rattle.std.specs.Prelude.{◌≡◌, []};
 
 use cfn_app::{OpenGate, run};
 use cfn_desk::HostDesk;
@@ -9,7 +9,7 @@ use std::alloc::{AllocError, AllocGlobal};
 use std::env;
 use std::env::{Args, Env};
 use std::fs::Files;
-use std::io::{ErrorKind, Print};
+use std::io::{Eprint, ErrorKind, Print};
 use std::process::ExitCode;
 
 /// Memory was refused before anything could be said.
@@ -20,7 +20,7 @@ fn main(rt: HostRuntime) -> ExitCode {
 }
 
 /// Runs the program on the words of its command line. Words that are not UTF-8 are no command.
-fn solve<R: Env + AllocGlobal + Files + Print + Sync>(rt: &R) -> Result<u8, AllocError> {
+fn solve<R: Env + AllocGlobal + Files + Print + Eprint + Sync>(rt: &R) -> Result<u8, AllocError> {
     let mut desk = HostDesk::make(rt)?;
     match env::args(rt) {
         Ok(words) => run_words(rt, words, &mut desk),
@@ -30,12 +30,12 @@ fn solve<R: Env + AllocGlobal + Files + Print + Sync>(rt: &R) -> Result<u8, Allo
 }
 
 /// Runs the program on words.
-fn run_words<R: AllocGlobal + Files + Print + Sync>(
+fn run_words<R: AllocGlobal + Files + Print + Eprint + Sync>(
     rt: &R,
     words: Args,
     desk: &mut HostDesk<R>,
 ) -> Result<u8, AllocError>
-    requires { desk.old.writing ≡ false }
+    requires { desk.old.calls ≡ [] }
 {
     let mut kept = Vec::new(rt.alloc());
     for word in words {

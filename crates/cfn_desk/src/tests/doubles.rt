@@ -79,7 +79,9 @@ impl Storage for MemoryStorage {
     }
 
     fn follow(&mut self, name: &str, target: &mut NameRoom) -> io::Result<()> {
-        target.set(name, "").map_err(|_| io::Error::from(ErrorKind::InvalidFilename))
+        target
+            .set(name, "")
+            .map_err(|_| io::Error::from(ErrorKind::InvalidFilename))
     }
 
     fn create(&mut self, name: &str, _like: &str) -> io::Result<()> {
@@ -114,8 +116,13 @@ impl Storage for MemoryStorage {
         match self.new_file.take() {
             None => Err(io::Error::from(ErrorKind::NotFound)),
             Some(file) => {
-                let stored = NamedFile { name, bytes: file.bytes };
-                self.files.insert(0, stored).map_err(|_| io::Error::from(ErrorKind::OutOfMemory))
+                let stored = NamedFile {
+                    name,
+                    bytes: file.bytes,
+                };
+                self.files
+                    .insert(0, stored)
+                    .map_err(|_| io::Error::from(ErrorKind::OutOfMemory))
             }
         }
     }
