@@ -15,5 +15,6 @@ pub const MOST_FUNCTIONS: u32 = 1_048_576;
 /// The most tuples of a function.
 pub const MOST_TUPLES: u32 = 4_194_304;
 
-/// The most cells that the tables of all functions of a network have together.
+/// The most cells that the tables of all functions of a network have together, and the most tuples that a file lists
+/// for one function.
 pub const MOST_CELLS: u32 = 67_108_864;
