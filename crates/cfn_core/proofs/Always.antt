@@ -13,6 +13,7 @@ use Rattle.cfn_model.proofs.Bounding.{bounds, closed_leaves}
 use Rattle.cfn_core.specs.Pool.{Mark, Free, Out, leaf_of, PoolTree, Leaf, Shut, Fork, tree_of, IsLeaf, View}
 use Rattle.cfn_core.specs.World.{World, price, view_at, least_price, KeepsFitting, opening}
 use Rattle.cfn_core.specs.Laws.{IsWorld, AreNumbered, IsHanded, IsCovered, Always, Holds, IsFound, Solves}
+use Rattle.cfn_core.proofs.Agreeing.{agrees_once}
 use Rattle.cfn_core.proofs.Views.{least_low}
 use Rattle.cfn_core.proofs.Keeping.{opens, valid_at_word}
 use Rattle.cfn_core.proofs.Keeping as keeping
@@ -69,6 +70,7 @@ pub always : (P : Network) (w : World) → IsNetwork P → IsWorld P w → AreNu
 always P w network world numbers handed = record {
   world = world;
   covered = covered P w network world handed;
+  agreed = λ values fits. agrees_once P w values handed;
   valid = valid_at_word P w world;
   bound = bound_at_word P w network world;
   row = λ values fits. bounds P (Open []) P.upper values network (omega arith) tt fits;

@@ -1,11 +1,14 @@
 -- The two lists of actions have these answers.
-use Rattle.std.proofs.Common.{◌≡◌, inr, [], refl, ap, arith}
+use Rattle.std.proofs.Common.{◌≡◌, ℕ, zero, suc, ◌<◌, ◌≤◌, inr, [], ◌∷◌, refl, ap, arith}
+use Rattle.std.specs.Prelude.{slice_index}
 use Rattle.cfn_model.specs.Network.{Network}
 use Rattle.cfn_model.specs.Sums.{floor}
-use Rattle.cfn_core.specs.Pool.{Free, Out, Leaf, Fork}
+use Rattle.cfn_core.specs.Pool.{Free, Out, Leaf, Fork, IsPiece}
 use Rattle.cfn_core.specs.World.{World, new_view, opening}
 use Rattle.cfn_core.specs.Actions.{Answers, Reply, taken, noted, given, all_back, IsFirst, take_task, take_spent, give_done, give_gone}
-use Rattle.cfn_core.specs.Examples.{root_task, root_split, SplitSpends, RecallRefuses}
+use Rattle.cfn_core.specs.Examples.{IsSplittable, one_variable, root_task, root_split, SplitSpends, RecallRefuses}
+use Rattle.cfn_core.proofs.Halves.{small_is, small_is_not}
+use Rattle.cfn_core.proofs.Keeping.{opening_small}
 
 just : {due : Reply} {left : World} → Answers due left due left
 just = record { reply = refl; world = refl }
@@ -17,49 +20,87 @@ root_first P = record { leaf = (refl, refl, refl); first = λ m other at. inr (a
     same : {X : Type 0} {x y : X} → x ≡ y → y ≡ x
     same h = cc
 
+-- the split root is a piece
+split_piece : (P : Network) → IsSplittable P → IsPiece P (root_split P)
+split_piece P is =
+    let small = opening_small P is.network in
+    record {
+      valid = (tt, record { variable = is.network.some; value = omega (arith, is.values) }, tt, tt);
+      strict = (record { live = refl; other = (1, is.values, (λ e. omega (arith, e)), refl) }, tt, tt);
+      tame = (small, small_is P [] 0 0 small, small_is_not P [] 0 0 small);
+      empty = (refl, refl);
+      some = omega arith;
+      few = omega arith;
+    }
+
+-- a network of the kind
+pub is_splittable : IsSplittable one_variable
+is_splittable = record {
+  network = record {
+    name = refl;
+    some = omega arith;
+    few = omega arith;
+    sizes = two_values;
+    upper = omega arith;
+    functions = λ f there. absurd (omega (arith, there));
+    few_functions = omega arith;
+    few_cells = omega arith;
+  };
+  low = omega arith;
+  values = omega arith;
+}
+  where
+    two_values : (x : ℕ) → x < 1 → (0 < slice_index (2 ∷ []) x) × (slice_index (2 ∷ []) x ≤ 4096)
+    two_values zero there = (omega arith, omega arith)
+    two_values (suc x) there = absurd (omega (arith, there))
+
 pub split_spends : SplitSpends
-split_spends P low =
-    let w1 : World = taken (opening P 1 1) (root_task P) (Leaf 0 (Out 0 1)) in
-    let w2 : World = noted w1 (new_view P 1) in
-    let w3 : World = given w2 (root_split P) 0 (Fork [] 0 0 (Leaf 1 Free) (Leaf 2 Free)) in (
-      w3,
-      (
-        w1,
-        take_task 0 [] (root_task P) (Leaf 0 (Out 0 1)) (omega arith, omega arith) (λ e. omega (arith, e)) (λ e. omega (arith, e)) (root_first P) refl (refl, refl, refl, refl) just,
+split_spends P is = (
+  (tt, (tt, (split_piece P is, (tt, tt)))),
+  let w1 : World = taken (opening P 1 1) (root_task P) (Leaf 0 (Out 0 1)) in
+      let w2 : World = noted w1 (new_view P 1) in
+      let w3 : World = given w2 (root_split P) 0 (Fork [] 0 0 (Leaf 1 Free) (Leaf 2 Free)) in (
+        w3,
         (
-          w2,
-          just,
+          w1,
+          take_task 0 [] (root_task P) (Leaf 0 (Out 0 1)) (omega arith, omega arith) (λ e. omega (arith, e)) (λ e. omega (arith, e)) (root_first P) refl (refl, refl, refl, refl) just,
           (
-            w3,
-            give_done (Fork [] 0 0 (Leaf 1 Free) (Leaf 2 Free)) (omega arith, low) (refl, refl, refl, refl) just,
-            (w3, take_spent (omega arith, omega arith) (omega arith) refl just, refl),
+            w2,
+            just,
+            (
+              w3,
+              give_done (Fork [] 0 0 (Leaf 1 Free) (Leaf 2 Free)) (omega arith, is.low) (refl, refl, refl, refl) just,
+              (w3, take_spent (omega arith, omega arith) (omega arith) refl just, refl),
+            ),
           ),
         ),
+        refl,
       ),
-      refl,
-    )
+)
 
 pub recall_refuses : RecallRefuses
-recall_refuses P low =
-    let w1 : World = taken (opening P 1 2) (root_task P) (Leaf 0 (Out 0 1)) in
-    let w2 : World = noted w1 (new_view P 1) in
-    let w3 : World = all_back w2 in
-    let w4 : World = taken w3 (root_task P) (Leaf 0 (Out 0 1)) in (
-      w3,
-      w4,
-      (
-        w1,
-        take_task 0 [] (root_task P) (Leaf 0 (Out 0 1)) (omega arith, omega arith) (λ e. omega (arith, e)) (λ e. omega (arith, e)) (root_first P) refl (refl, refl, refl, refl) just,
+recall_refuses P is = (
+  (tt, (tt, (tt, (split_piece P is, tt)))),
+  let w1 : World = taken (opening P 1 2) (root_task P) (Leaf 0 (Out 0 1)) in
+      let w2 : World = noted w1 (new_view P 1) in
+      let w3 : World = all_back w2 in
+      let w4 : World = taken w3 (root_task P) (Leaf 0 (Out 0 1)) in (
+        w3,
+        w4,
         (
-          w2,
-          just,
+          w1,
+          take_task 0 [] (root_task P) (Leaf 0 (Out 0 1)) (omega arith, omega arith) (λ e. omega (arith, e)) (λ e. omega (arith, e)) (root_first P) refl (refl, refl, refl, refl) just,
           (
-            w3,
+            w2,
             just,
-            (w3, give_gone (omega arith, low) (λ at. (let e = at.1 in cc)) just, refl),
+            (
+              w3,
+              just,
+              (w3, give_gone (omega arith, is.low) (λ at. (let e = at.1 in cc)) just, refl),
+            ),
           ),
         ),
+        refl,
+        (w4, take_task 0 [] (root_task P) (Leaf 0 (Out 0 1)) (omega arith, omega arith) (λ e. omega (arith, e)) (λ e. omega (arith, e)) (root_first P) refl (refl, refl, refl, refl) just, refl),
       ),
-      refl,
-      (w4, take_task 0 [] (root_task P) (Leaf 0 (Out 0 1)) (omega arith, omega arith) (λ e. omega (arith, e)) (λ e. omega (arith, e)) (root_first P) refl (refl, refl, refl, refl) just, refl),
-    )
+)

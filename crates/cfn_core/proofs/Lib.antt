@@ -5,7 +5,9 @@ pub mod Handing
 pub mod Refusing
 pub mod Deciding
 pub mod Answering
+pub mod Agreeing
 pub mod Always
+pub mod Thresholds
 pub mod Examples
 pub mod Tasks
 pub mod Making

@@ -1,13 +1,13 @@
 -- What holds of the world, whatever the workers do and in whatever order.
-use Rattle.std.specs.Prelude.{◌≡◌, ◌≢◌, ℕ, ◌+◌, ◌<◌, ◌≤◌, ◌⊎◌, min, List, [], ◌∷◌, if◌then◌else◌, ◌==◌}
+use Rattle.std.specs.Prelude.{◌≡◌, ◌≢◌, ℕ, ◌+◌, ◌<◌, ◌≤◌, ◌⊎◌, min, List, [], ◌∷◌, None, IfSome, if◌then◌else◌, ◌==◌}
 use Rattle.std.specs.List.{AllByRecursion}
 use Rattle.cfn_model.specs.declared.step.Event.{Event}
 use Rattle.cfn_model.specs.Sums.{floor}
 use Rattle.cfn_model.specs.Network.{Network, IsNetwork, Fits, Least, cost}
 use Rattle.cfn_model.specs.Tree.{Valid, bound, open_leaves}
-use Rattle.cfn_core.specs.Pool.{Mark, Free, Out, PoolTree, Leaf, Shut, Fork, tree_of, IsLeaf, leaf_of, Task, IsTask, Piece, Pool, IsSound}
-use Rattle.cfn_core.specs.World.{World, HasWordRule, opening}
-use Rattle.cfn_core.specs.Actions.{Action, Look, Lower, Note, Meet, Take, Give, Back, Recall, Sweep, Reply, Idle, Given, Gone, IsAction, IsThere, IsOut, Acts, Runs, AreActions}
+use Rattle.cfn_core.specs.Pool.{Mark, Free, Out, PoolTree, Leaf, Shut, Fork, tree_of, IsLeaf, IsAnyLeaf, Agrees, leaf_of, Task, IsTask, Piece, Pool, IsSound}
+use Rattle.cfn_core.specs.World.{World, HasWordRule, price, view_at, opening}
+use Rattle.cfn_core.specs.Actions.{Action, Look, Lower, Note, Meet, Take, Give, Back, Recall, Sweep, Reply, Idle, Given, Gone, Done, IsAction, IsThere, IsOut, Acts, Runs, AreActions}
 
 -- The pool is sound, and the word keeps its rule.
 pub record IsWorld (P : Network) (w : World) : Type 0 where
@@ -56,6 +56,16 @@ IsCovered P w values (Leaf n (Out worker grant)) =
 IsCovered P w values (Shut block) = w.pool.view.seen ≤ cost P values
 IsCovered P w values (Fork block x a first second) = ⊥
 
+-- Of all leaves of the tree, closed ones too, exactly one has a path that agrees with an assignment: the assignment's
+-- leaf. Where it is out, its task, in hand, has that very path.
+pub record AgreesOnce (P : Network) (w : World) (values : List ℕ) : Type 0 where
+  pub path : List Event
+  pub there : IsAnyLeaf w.pool.tree [] (leaf_of values w.pool.tree) path
+  pub agrees : Agrees values path
+  pub only : (leaf : PoolTree) (other : List Event) → IsAnyLeaf w.pool.tree [] leaf other → Agrees values other → (leaf ≡ leaf_of values w.pool.tree) × (other ≡ path)
+  pub out : (n worker grant : ℕ) → leaf_of values w.pool.tree ≡ Leaf n (Out worker grant) →
+      IsInHand (record { leaf = n; worker = worker; grant = grant; floor = floor P path; path = path }) w.hands
+
 -- Both hold at the opening, and each action keeps them.
 abbrev pub OpensNumbered : Type 0
 OpensNumbered = (P : Network) (workers budget : ℕ) → AreNumbered (opening P workers budget).pool
@@ -70,12 +80,13 @@ abbrev pub KeepsHanded : Type 0
 KeepsHanded = (P : Network) (w new : World) (action : Action) (r : Reply) → AreNumbered w.pool → IsHanded P w → Acts P w action r new → IsHanded P new
 
 -- What holds of the world that is left after any list of actions. The pool is sound and the word keeps its rule. Every
--- assignment is covered by its leaf. The tree is valid at the word, which may be less than what the pool has seen, so its bound
+-- assignment is covered by its leaf, the only one whose path agrees with it. The tree is valid at the word, which may be less than what the pool has seen, so its bound
 -- there is at most every cost. The opening's lower bound is at most every cost, and at most the floor of each open leaf.
 -- Leaves have numbers of their own, the task of each leaf that is out is in hand, and the workers of tasks are there.
 pub record Always (P : Network) (w : World) : Type 0 where
   pub world : IsWorld P w
   pub covered : (values : List ℕ) → Fits P.sizes values → IsCovered P w values (leaf_of values w.pool.tree)
+  pub agreed : (values : List ℕ) → Fits P.sizes values → AgreesOnce P w values
   pub valid : Valid P [] (tree_of w.pool.tree) w.word
   pub bound : (values : List ℕ) → Fits P.sizes values → bound P [] (tree_of w.pool.tree) w.word ≤ cost P values
   pub row : (values : List ℕ) → Fits P.sizes values → opening_bound P ≤ cost P values
@@ -169,3 +180,30 @@ RunsOnce = (P : Network) (workers budget : ℕ) (actions : List Action) (replies
 abbrev pub HandsOutTasks : Type 0
 HandsOutTasks = (P : Network) (w new : World) (worker want : ℕ) (task : Task) → IsWorld P w → Acts P w (Take worker want) (Given task) new →
     IsTask P task × (task.worker ≡ worker) × (task.grant ≤ want)
+
+-- What the word is at most: the threshold of a piece that is taken over, and what a view that is met had seen.
+abbrev pub IsAtMost : ℕ → World → Action → Reply → Type 0
+IsAtMost word w (Look worker) r = Unit {0}
+IsAtMost word w (Lower worker found) r = Unit {0}
+IsAtMost word w (Note worker) r = Unit {0}
+IsAtMost word w (Meet worker) r = IfSome (view_at w.views worker) (λ view. word ≤ view.seen)
+IsAtMost word w (Take worker want) r = Unit {0}
+IsAtMost word w (Give piece note) r = r ≡ Done → word ≤ piece.threshold
+IsAtMost word w (Back task) r = Unit {0}
+IsAtMost word w Recall r = Unit {0}
+IsAtMost word w Sweep r = Unit {0}
+
+abbrev pub AreAtMost : Network → ℕ → World → List Action → List Reply → Type 0
+AreAtMost P word w [] replies = Unit {0}
+AreAtMost P word w (action ∷ actions) [] = ⊥
+AreAtMost P word w (action ∷ actions) (r ∷ replies) =
+    (between : World) × Acts P w action r between × IsAtMost word w action r × AreAtMost P word between actions replies
+
+-- After every list of actions the word is at most each of them. Where all views are met, it is the price of the best that
+-- the pool keeps, or the upper bound where it keeps none.
+abbrev pub EndsAtMost : Type 0
+EndsAtMost = (P : Network) (workers budget : ℕ) (actions : List Action) (replies : List Reply) (w : World) → IsNetwork P → workers ≤ 64 → AreActions P actions →
+    Runs P (opening P workers budget) actions replies w → AreAtMost P w.word (opening P workers budget) actions replies
+
+abbrev pub MeetsAll : Type 0
+MeetsAll = (P : Network) (w : World) → IsWorld P w → ((i : ℕ) → view_at w.views i ≡ None) → w.word ≡ price P w.pool.view.best

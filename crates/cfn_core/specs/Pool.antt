@@ -1,5 +1,5 @@
 -- The pool: a search tree whose open leaves are handed out to workers (branch and bound as in Allouche et al. 2015).
-use Rattle.std.specs.Prelude.{◌≡◌, ℕ, ◌+◌, ◌<◌, ◌≤◌, ◌⊎◌, ◌^◌, List, [], ◌∷◌, length, slice_index, Option, ◌==◌, if◌then◌else◌, nat_le, pos, ◌<ℤ◌, IsTrue}
+use Rattle.std.specs.Prelude.{◌≡◌, ◌≢◌, ℕ, ◌+◌, ◌<◌, ◌≤◌, ◌⊎◌, ◌^◌, List, [], ◌∷◌, length, slice_index, Option, ◌==◌, if◌then◌else◌, nat_le, pos, ◌<ℤ◌, IsTrue}
 use Rattle.cfn_model.specs.declared.step.Step.{Step}
 use Rattle.cfn_model.specs.declared.step.Event.{Event}
 use Rattle.cfn_model.specs.declared.step.Event.TheVariants.{Did, Is, IsNot}
@@ -32,6 +32,20 @@ IsLeaf (Leaf number mark) history n m path = (number ≡ n) × (mark ≡ m) × (
 IsLeaf (Shut block) history n m path = ⊥
 IsLeaf (Fork block x a first second) history n m path =
     IsLeaf first (Is x a ∷ after block history) n m path ⊎ IsLeaf second (IsNot x a ∷ after block history) n m path
+
+-- A leaf of the tree, open or closed, and what stands before it, the newest event first.
+abbrev pub IsAnyLeaf : PoolTree → List Event → PoolTree → List Event → Type 0
+IsAnyLeaf (Leaf number mark) history leaf path = (leaf ≡ Leaf number mark) × (path ≡ history)
+IsAnyLeaf (Shut block) history leaf path = (leaf ≡ Shut block) × (path ≡ history)
+IsAnyLeaf (Fork block x a first second) history leaf path =
+    IsAnyLeaf first (Is x a ∷ after block history) leaf path ⊎ IsAnyLeaf second (IsNot x a ∷ after block history) leaf path
+
+-- An assignment agrees with a path where every decision on it holds. Steps say nothing.
+abbrev pub Agrees : List ℕ → List Event → Type 0
+Agrees values [] = Unit {0}
+Agrees values (Did step ∷ path) = Agrees values path
+Agrees values (Is x a ∷ path) = (slice_index values x ≡ a) × Agrees values path
+Agrees values (IsNot x a ∷ path) = (slice_index values x ≢ a) × Agrees values path
 
 -- The leaf of an assignment: at each split the first side where x has the value a, and else the second.
 abbrev pub leaf_of : List ℕ → PoolTree → PoolTree

@@ -1,7 +1,7 @@
 //! What holds of the pool machine, each the contract of a function with nothing to do.
 
-ghost use Rattle.cfn_core.specs.Examples.{SplitSpends, RecallRefuses};
-ghost use Rattle.cfn_core.specs.Laws.{Opens, Keeps, OpensNumbered, KeepsNumbered, OpensHanded, KeepsHanded, Holds, IsFound, Solves, HandsOutTasks, NeverGone, AnswersAll, AnswersOnce, AnswersNobody, RunsAll, RunsOnce};
+ghost use Rattle.cfn_core.specs.Examples.{IsSplittable, SplitSpends, RecallRefuses, one_variable};
+ghost use Rattle.cfn_core.specs.Laws.{Opens, Keeps, OpensNumbered, KeepsNumbered, OpensHanded, KeepsHanded, Holds, IsFound, Solves, EndsAtMost, MeetsAll, HandsOutTasks, NeverGone, AnswersAll, AnswersOnce, AnswersNobody, RunsAll, RunsOnce};
 
 /// At the opening the pool is sound and the word keeps its rule, and each action of a worker keeps both.
 pub fn each_action()
@@ -24,7 +24,7 @@ pub fn in_hand()
 {}
 
 /// What holds after every list of actions from the opening, in whatever order the workers act: the pool is sound, every
-/// assignment is covered, the word keeps its rule, the tree is valid at the word, its bound there is at most every cost,
+/// assignment is covered by its leaf, the only one whose path agrees with it, the word keeps its rule, the tree is valid at the word, its bound there is at most every cost,
 /// and the task of each leaf that is out is in hand.
 pub fn every_order()
     ensures { Holds }
@@ -35,6 +35,13 @@ pub fn every_order()
 pub fn solved()
     ensures found { IsFound }
     ensures solves { Solves }
+{}
+
+/// After every list of actions the word is at most the threshold of each piece that was taken over, and at most what each
+/// view that was met had seen. Where all views are met, it is the price of the best that the pool keeps, or the upper bound.
+pub fn thresholds()
+    ensures ends { EndsAtMost }
+    ensures meets { MeetsAll }
 {}
 
 /// The path of a task that is handed out runs at some threshold, with small costs all along it, and its grant is 1 to
@@ -60,8 +67,10 @@ pub fn one_answer()
 {}
 
 /// Two lists of actions with their answers: a split spends a budget of 1, and a piece of a leaf that was called back is
-/// refused and its leaf handed out again.
+/// refused and its leaf handed out again. They are shown for every network in which their actions are legal, and there is
+/// one.
 pub fn examples()
+    ensures legal { IsSplittable one_variable }
     ensures spent { SplitSpends }
     ensures refused { RecallRefuses }
 {}

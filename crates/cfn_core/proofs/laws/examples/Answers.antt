@@ -1,5 +1,8 @@
-use Rattle.cfn_core.proofs.Examples.{split_spends, recall_refuses}
+use Rattle.cfn_core.proofs.Examples.{is_splittable, split_spends, recall_refuses}
 use Rattle.cfn_core.proofs.laws.examples.Goals as goal
+
+pub returns-clause-legal : goal.returns-clause-legal
+returns-clause-legal c = is_splittable
 
 pub returns-clause-spent : goal.returns-clause-spent
 returns-clause-spent c = split_spends
