@@ -1,10 +1,11 @@
 -- The request that rows make, from what stands under each name.
-use Rattle.std.proofs.Common.{◌≡◌, ℕ, List, Option, Some, None, Result, Ok, Err, IfErr, ◌∙◌, sym, refl, codes}
+use Rattle.std.proofs.Common.{◌≡◌, ℕ, List, Option, Some, None, Result, Ok, Err, IfErr, ◌∙◌, sym, refl, codes, true, false}
 use Rattle.clap.specs.Words.{Row, Text, all_of, first_of}
-use Rattle.std.specs.Prelude.{IsErrAnd}
+use Rattle.std.specs.Prelude.{IsErrAnd, option_and_then}
+use Rattle.std.specs.Str.{bytes_eq}
 use Rattle.cfn_cli.specs.declared.fault.CliFault.{CliFault}
 use Rattle.cfn_cli.specs.declared.fault.CliFault.TheVariants.{Usage}
-use Rattle.cfn_cli.specs.Request.{check_of, cost_of, number_of, solve_of, values_of}
+use Rattle.cfn_cli.specs.Request.{check_of, cost_of, SolveRequest, apart, number_of, solve_in, values_of}
 
 -- A fault of any kind, where nothing is asked for.
 pub nothing_asked : {T X : Type 0} (r : Result T CliFault) (asked : Option X) → asked ≡ None
@@ -21,29 +22,39 @@ passed_on (Err y) e asked gives none = λ is. none (sym gives ∙ is)
 pub solve_made : (rows : List Row) (file certificate : Text) (workers budget : ℕ) → first_of (codes "file") rows ≡ Some file
     → first_of (codes "certificate") rows ≡ Some certificate → number_of (codes "workers") 1 64 rows ≡ Some workers
     → number_of (codes "budget") 0 9223372036854775807 rows ≡ Some budget
-    → solve_of rows ≡ Some (record { file = file; certificate = certificate; workers = workers; budget = budget })
-unfolding solve_of
+    → solve_in rows ≡ Some (record { file = file; certificate = certificate; workers = workers; budget = budget })
+unfolding solve_in
 solve_made rows file certificate workers budget e1 e2 e3 e4 = rw (e1, e2, e3, e4) refl
 
-pub solve_without_file : (rows : List Row) → first_of (codes "file") rows ≡ None → solve_of rows ≡ None
-unfolding solve_of
+pub solve_without_file : (rows : List Row) → first_of (codes "file") rows ≡ None → solve_in rows ≡ None
+unfolding solve_in
 solve_without_file rows e1 = rw e1 refl
 
 pub solve_without_certificate : (rows : List Row) (file : Text) → first_of (codes "file") rows ≡ Some file
-    → first_of (codes "certificate") rows ≡ None → solve_of rows ≡ None
-unfolding solve_of
+    → first_of (codes "certificate") rows ≡ None → solve_in rows ≡ None
+unfolding solve_in
 solve_without_certificate rows file e1 e2 = rw (e1, e2) refl
 
 pub solve_without_workers : (rows : List Row) (file certificate : Text) → first_of (codes "file") rows ≡ Some file
-    → first_of (codes "certificate") rows ≡ Some certificate → number_of (codes "workers") 1 64 rows ≡ None → solve_of rows ≡ None
-unfolding solve_of
+    → first_of (codes "certificate") rows ≡ Some certificate → number_of (codes "workers") 1 64 rows ≡ None → solve_in rows ≡ None
+unfolding solve_in
 solve_without_workers rows file certificate e1 e2 e3 = rw (e1, e2, e3) refl
 
 pub solve_without_budget : (rows : List Row) (file certificate : Text) (workers : ℕ) → first_of (codes "file") rows ≡ Some file
     → first_of (codes "certificate") rows ≡ Some certificate → number_of (codes "workers") 1 64 rows ≡ Some workers
-    → number_of (codes "budget") 0 9223372036854775807 rows ≡ None → solve_of rows ≡ None
-unfolding solve_of
+    → number_of (codes "budget") 0 9223372036854775807 rows ≡ None → solve_in rows ≡ None
+unfolding solve_in
 solve_without_budget rows file certificate workers e1 e2 e3 e4 = rw (e1, e2, e3, e4) refl
+
+-- a certificate with another name than the file, and one with the same
+pub apart_asked : (ask : SolveRequest) (asked : Option SolveRequest) → asked ≡ Some ask → bytes_eq ask.file ask.certificate ≡ false → option_and_then apart asked ≡ Some ask
+apart_asked ask asked is other = rw (is, other) refl
+
+pub together_asked : (ask : SolveRequest) (asked : Option SolveRequest) → asked ≡ Some ask → bytes_eq ask.file ask.certificate ≡ true → option_and_then apart asked ≡ None
+together_asked ask asked is same = rw (is, same) refl
+
+pub none_apart : (asked : Option SolveRequest) → asked ≡ None → option_and_then apart asked ≡ None
+none_apart asked none = rw none refl
 
 pub check_made : (rows : List Row) (file certificate : Text) → first_of (codes "file") rows ≡ Some file
     → first_of (codes "certificate") rows ≡ Some certificate → check_of rows ≡ Some (record { file = file; certificate = certificate })

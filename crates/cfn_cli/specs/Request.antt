@@ -80,8 +80,9 @@ values_of (text ∷ texts) =
 abbrev pub number_of : Text → ℕ → ℕ → List Row → Option ℕ
 number_of id least most rows = option_and_then (number_in least most) (first_of id rows)
 
-unfoldable pub solve_of : List Row → Option SolveRequest
-solve_of rows = option_and_then (λ file. option_and_then (λ certificate.
+-- What the rows of `solve` say.
+unfoldable pub solve_in : List Row → Option SolveRequest
+solve_in rows = option_and_then (λ file. option_and_then (λ certificate.
     option_and_then (λ workers. option_map (λ budget. record {
       file = file;
       certificate = certificate;
@@ -90,6 +91,13 @@ solve_of rows = option_and_then (λ file. option_and_then (λ certificate.
     }) (number_of (codes "budget") 0 9223372036854775807 rows))
     (number_of (codes "workers") 1 64 rows))
     (first_of (codes "certificate") rows)) (first_of (codes "file") rows)
+
+-- A certificate under the name of the file itself is asked for by no command.
+abbrev pub apart : SolveRequest → Option SolveRequest
+apart ask = if bytes_eq ask.file ask.certificate then None else Some ask
+
+abbrev pub solve_of : List Row → Option SolveRequest
+solve_of rows = option_and_then apart (solve_in rows)
 
 unfoldable pub check_of : List Row → Option CheckRequest
 check_of rows = option_and_then (λ file. option_map (λ certificate. record {

@@ -3,7 +3,7 @@
 ghost use Rattle.std.specs.Prelude.{◌≡◌, ◌≤◌, ◌<◌, ◌^◌, Some, None, IfErr, IfOk, IfSome, length, map};
 ghost use Rattle.std.specs.List.{All};
 ghost use Rattle.clap.specs.Words.{first_of, found_of, rows_of, subcommand_rows_of};
-ghost use Rattle.cfn_cli.specs.Request.{IfCost, IfSolve, check_of, cost_of, number_in, number_of, request, request_from, request_named, solve_of, spoken_check, spoken_cost, spoken_solve, values_of};
+ghost use Rattle.cfn_cli.specs.Request.{IfCost, IfSolve, check_of, cost_of, number_in, number_of, request, request_from, request_named, solve_in, solve_of, spoken_check, spoken_cost, spoken_solve, values_of};
 
 use crate::command::{CheckArguments, Command, CostArguments, SolveArguments};
 use crate::fault::CliFault;
@@ -55,10 +55,26 @@ fn named(alloc: Global, name: &str, found: &ArgMatches<'_>) -> Result<Command, C
     }
 }
 
+/// What is asked of `solve`, whose certificate has another name than its file.
 fn solve(alloc: Global, found: &ArgMatches<'_>) -> Result<SolveArguments, CliFault>
     ensures arguments { IfOk result (λ s. solve_of (rows_of (found_of found.now)) ≡ Some (spoken_solve s)) }
     ensures usage { IfErr result (λ fault. fault ≡ CliFault.Usage
         → solve_of (rows_of (found_of found.now)) ≡ None) }
+    ensures workers { IfOk result (λ s. (1 ≤ s.workers) × (s.workers ≤ 64)) }
+    ensures budget { IfOk result (λ s. s.budget ≤ 9223372036854775807) }
+{
+    let ask = solve_in(alloc, found)?;
+    if ask.file.as_str() == ask.certificate.as_str() {
+        return Err(CliFault::Usage);
+    }
+    Ok(ask)
+}
+
+/// What the arguments of `solve` say.
+fn solve_in(alloc: Global, found: &ArgMatches<'_>) -> Result<SolveArguments, CliFault>
+    ensures arguments { IfOk result (λ s. solve_in (rows_of (found_of found.now)) ≡ Some (spoken_solve s)) }
+    ensures usage { IfErr result (λ fault. fault ≡ CliFault.Usage
+        → solve_in (rows_of (found_of found.now)) ≡ None) }
     ensures workers { IfOk result (λ s. (1 ≤ s.workers) × (s.workers ≤ 64)) }
     ensures budget { IfOk result (λ s. s.budget ≤ 9223372036854775807) }
 {

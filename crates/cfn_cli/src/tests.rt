@@ -103,6 +103,8 @@ fn other_words_are_usage(rt: HostRuntime) {
         &["w", "check", "a", "b", "--budget", "1"],
         &["w", "solve"],
         &["w", "solve", "a"],
+        &["w", "solve", "a", "a"],
+        &["w", "solve", "a", "--budget", "1", "a"],
         &["w", "solve", "a", "b", "c"],
         &["w", "solve", "a", "b", "--help"],
         &["w", "solve", "a", "b", "--workers", "65"],

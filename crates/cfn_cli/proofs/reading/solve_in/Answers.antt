@@ -1,5 +1,5 @@
 use Rattle.cfn_cli.proofs.Requests.{nothing_asked, solve_made, solve_without_budget, solve_without_certificate, solve_without_file, solve_without_workers}
-use Rattle.cfn_cli.proofs.reading.solve.Goals as goal
+use Rattle.cfn_cli.proofs.reading.solve_in.Goals as goal
 
 pub returns-in_err-file-clause-usage : goal.returns-in_err-file-clause-usage
 returns-in_err-file-clause-usage c = nothing_asked _ _ (solve_without_file _ c.in_err-file.ensures.missing)
