@@ -24,3 +24,6 @@ mod status;
 pub use gate::{Gate, OpenGate, Point};
 pub use program::run;
 pub use status::Status;
+
+#[cfg(test)]
+mod tests;

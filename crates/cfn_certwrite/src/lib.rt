@@ -13,3 +13,6 @@ mod nodes;
 mod walk;
 
 pub use certificate::write;
+
+#[cfg(test)]
+mod tests;

@@ -19,3 +19,6 @@ mod word;
 pub use channel::{Channel, send};
 pub use lines::{write_line, write_list};
 pub use word::Word;
+
+#[cfg(test)]
+mod tests;

@@ -16,3 +16,6 @@ pub use message::{
     write_value_fault, write_values_fault, write_verified, write_write_fault,
 };
 pub use report::{Report, write};
+
+#[cfg(test)]
+mod tests;

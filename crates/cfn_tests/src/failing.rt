@@ -37,7 +37,7 @@ fn earlier_certificate_survives_each_fault(rt: HostRuntime) -> Result<(), Fail> 
     let mut kept = 0;
     for failing in 1..60 {
         let run = Run::over(&rt, &SOLVE, &files, &[failing])?;
-        if run.certificate() == b"earlier" {
+        if run.certificate() == b"earlier".as_slice() {
             kept = failing;
             assert_eq!(rt; run.status, 5);
         } else {

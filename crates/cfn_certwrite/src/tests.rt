@@ -1,0 +1,135 @@
+ghost use Rattle.std.specs.Prelude.{◌≡◌, ◌<◌, ◌≤◌, [], ◌∷◌, IfOk, IsTrue, is_some};
+ghost use Rattle.cfn_desk.specs.Outside.{IsWriting};
+
+use crate::write;
+use cfn_desk::{Desk, Failed, MemoryDesk};
+use cfn_net::{Builder, Network, Scored};
+use cfn_proof::{Block, Certificate, Step, Tree};
+use std::alloc::AllocError;
+use std::test::Fail;
+
+/// A desk that is writing a file, where these calls fail. The opening is call 1.
+fn writing_desk(rt: &HostRuntime, failing: &[u64]) -> Result<MemoryDesk, Fail>
+    ensures { IfOk result (λ desk. IsWriting desk.calls) }
+{
+    let mut desk = MemoryDesk::make(rt.alloc(), &[], 4096, 0, failing)?;
+    match desk.open_out("cert") {
+        Ok(()) => Ok(desk),
+        Err(Failed) => Err(Fail::new("the file did not open")),
+    }
+}
+
+/// A certificate of one open root.
+fn bare_certificate(rt: &HostRuntime) -> Result<Certificate, AllocError> {
+    Ok(Certificate {
+        variables: 1,
+        functions: 1,
+        upper: 10,
+        best: None,
+        lower: 4,
+        tree: Tree::new(rt.alloc())?,
+    })
+}
+
+const BARE: &[u8] = b"wcspcert 1\nnetwork 1 1 10\nlower 4\nbest none\ntree\nopen\nend\n";
+
+/// The words of that text.
+const BARE_WORDS: u64 = 13;
+
+#[test]
+fn writes_an_open_root(rt: HostRuntime) -> Result<(), Fail> {
+    let certificate = bare_certificate(&rt)?;
+    let mut desk = writing_desk(&rt, &[])?;
+    assert_eq!(rt; write(&certificate, &mut desk), Ok(()));
+    assert_eq!(rt; desk.out_bytes(), BARE);
+    Ok(())
+}
+
+#[test]
+fn stops_at_each_put(rt: HostRuntime) -> Result<(), Fail> {
+    let certificate = bare_certificate(&rt)?;
+    for words in 0..BARE_WORDS {
+        let mut desk = writing_desk(&rt, &[words + 2])?;
+        assert_eq!(rt; write(&certificate, &mut desk), Err(Failed));
+        // the file can only be dropped
+        assert_eq!(rt; desk.out_bytes(), b"".as_slice());
+        desk.discard_out();
+    }
+    let mut desk = writing_desk(&rt, &[BARE_WORDS + 2])?;
+    assert_eq!(rt; write(&certificate, &mut desk), Ok(()));
+    Ok(())
+}
+
+/// Two variables of 2 values, and one function that costs 5 everywhere.
+fn network(rt: &HostRuntime) -> Result<Network, AllocError>
+    ensures { IfOk result (λ network. network.sizes ≡ 2 ∷ 2 ∷ []) }
+{
+    let mut builder = Builder::make(rt.alloc(), b"two", &[2, 2], 10)?;
+    builder.begin(&[0, 1], 5)?;
+    builder.finish()
+}
+
+/// An assignment of that network, which costs 5.
+fn best(rt: &HostRuntime, network: &Network) -> Result<Scored, AllocError>
+    requires { network.now.sizes ≡ 2 ∷ 2 ∷ [] }
+    ensures { IfOk result (λ scored. IsTrue (is_some scored.held)) }
+{
+    let mut scored = Scored::empty(rt.alloc(), network)?;
+    scored.fill(network, &[1, 0]);
+    Ok(scored)
+}
+
+/// A split whose first side is closed behind steps of all five kinds.
+fn split_tree(rt: &HostRuntime) -> Result<Tree, AllocError> {
+    let steps = [
+        Step::Project {
+            function: 0,
+            place: 1,
+            value: 0,
+            amount: 5,
+        },
+        Step::Extend {
+            function: 1,
+            place: 0,
+            value: 1,
+            amount: 2,
+        },
+        Step::Lift {
+            variable: 1,
+            amount: 3,
+        },
+        Step::CutValue {
+            variable: 0,
+            value: 1,
+        },
+        Step::CutTuple {
+            function: 0,
+            cell: 3,
+        },
+    ];
+    let block = Block::of(rt.alloc(), &steps)?;
+    let mut tree = Tree::new(rt.alloc())?;
+    let (first, _) = tree.split(Tree::ROOT, 0, 1)?;
+    tree.close(first, block);
+    Ok(tree)
+}
+
+const FULL: &[u8] = b"wcspcert 1\nnetwork 2 1 10\nlower 0\nbest 5\nvalues 1 0\ntree\nsplit 0 1\n\
+    p 0 1 0 5\ne 1 0 1 2\nu 1 3\nv 0 1\nt 0 3\nclosed\nopen\nend\n";
+
+#[test]
+fn writes_a_best_and_a_split(rt: HostRuntime) -> Result<(), Fail> {
+    let network = network(&rt)?;
+    let certificate = Certificate {
+        variables: network.variables(),
+        functions: network.functions(),
+        upper: network.ub(),
+        best: Some(best(&rt, &network)?),
+        lower: 0,
+        tree: split_tree(&rt)?,
+    };
+    let mut desk = writing_desk(&rt, &[])?;
+    assert_eq!(rt; write(&certificate, &mut desk), Ok(()));
+    assert_eq!(rt; desk.out_bytes(), FULL);
+    Ok(())
+}
