@@ -1,9 +1,11 @@
 //! The program: the words of its command line, real files, standard output, and the one call that does all.
 #![tactic(auto)]
 
-ghost use Rattle.std.specs.Prelude.{◌≡◌, []};
+ghost use Rattle.std.specs.Prelude.{◌≡◌, [], IfOk};
+ghost use Rattle.std.specs.Process.{exit_status};
+ghost use Rattle.wcspsolve.specs.Ending.{Ended, Ran};
 
-use cfn_app::{OpenGate, run};
+use cfn_app::{OpenGate, Status, run};
 use cfn_desk::HostDesk;
 use std::alloc::{AllocError, AllocGlobal};
 use std::env;
@@ -12,15 +14,27 @@ use std::fs::Files;
 use std::io::{Eprint, ErrorKind, Print};
 use std::process::ExitCode;
 
-/// Memory was refused before anything could be said.
-const MEMORY: u8 = 6;
-
 fn main(rt: HostRuntime) -> ExitCode {
-    ExitCode::from(solve(&rt).unwrap_or(MEMORY))
+    exit_of(&rt)
 }
 
-/// Runs the program on the words of its command line. Words that are not UTF-8 are no command.
-fn solve<R: Env + AllocGlobal + Files + Print + Eprint + Sync>(rt: &R) -> Result<u8, AllocError> {
+/// Runs the program, and ends with its status, or with 6 where memory was refused before there was a run.
+fn exit_of<R: Env + AllocGlobal + Files + Print + Eprint + Sync>(rt: &R) -> ExitCode
+    ensures { Ended (exit_status result) }
+{
+    match end_of(rt) {
+        Ok(status) => ExitCode::from(status.code()),
+        Err(AllocError) => ExitCode::from(Status::NoMemory.code()),
+    }
+}
+
+/// Runs the program on the words of its command line. Words that are not UTF-8 are no command. An `Err` is want of
+/// memory before there was a run.
+fn end_of<R: Env + AllocGlobal + Files + Print + Eprint + Sync>(
+    rt: &R,
+) -> Result<Status, AllocError>
+    ensures { IfOk result (λ status. Ran status) }
+{
     let mut desk = HostDesk::make(rt)?;
     match env::args(rt) {
         Ok(words) => run_words(rt, words, &mut desk),
@@ -34,8 +48,9 @@ fn run_words<R: AllocGlobal + Files + Print + Eprint + Sync>(
     rt: &R,
     words: Args,
     desk: &mut HostDesk<R>,
-) -> Result<u8, AllocError>
+) -> Result<Status, AllocError>
     requires { desk.old.calls ≡ [] }
+    ensures { IfOk result (λ status. Ran status) }
 {
     let mut kept = Vec::new(rt.alloc());
     for word in words {
