@@ -12,7 +12,7 @@ use Rattle.cfn_model.specs.Network.{Network, IsNetwork, Least}
 use Rattle.cfn_model.specs.Steps.{after}
 use Rattle.cfn_model.specs.Tree.{Tree, Open, Closed, Split, OpenBelow, open_leaves, bound}
 use Rattle.cfn_model.specs.Certificate.{Solution, Certificate, Good, threshold, threshold_of}
-use Rattle.cfn_model.proofs.Bounding.{lower_bounds, optimum, none_below}
+use Rattle.cfn_model.proofs.CallerLemmas.{lower_bounds, none_below, optimum}
 use Rattle.cfn_proof.specs.declared.outcome.Stop.{Stop}
 use Rattle.cfn_proof.specs.declared.outcome.Stop.TheVariants.{Done, Budget, Memory}
 use Rattle.cfn_proof.specs.Outcome.{IsSearched, HasCause}

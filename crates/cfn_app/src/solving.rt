@@ -1,6 +1,7 @@
 //! The command `solve`.
 
 ghost use Rattle.std.specs.Prelude.{◌≡◌, ◌≤◌};
+ghost use Rattle.cfn_model.specs.declared.limits.TheConstants.{GREATEST};
 ghost use Rattle.cfn_desk.specs.Outside.{IsIdle};
 ghost use Rattle.cfn_cli.specs.Request.{spoken_solve};
 ghost use Rattle.cfn_app.specs.Solving.{Searches, Solves};
@@ -19,7 +20,7 @@ use std::alloc::{AllocError, Global};
 /// the report. The first fault decides; where there is no certificate the file is dropped.
 pub fn solve_file<D: Desk>(alloc: Global, ask: &SolveArguments, desk: &mut D) -> Status
     requires idle { IsIdle (D.outside desk.old).calls }
-    requires budget { ask.now.budget ≤ 9223372036854775807 }
+    requires budget { ask.now.budget ≤ GREATEST }
     ensures { Solves (spoken_solve ask.now) (D.outside desk.old) (D.outside desk.new) result }
 {
     let bytes = match load_bytes(alloc, ask.file.as_str(), desk) {
@@ -40,7 +41,7 @@ fn open_and_search<D: Desk>(
     desk: &mut D,
 ) -> Status
     requires idle { IsIdle (D.outside desk.old).calls }
-    requires budget { ask.now.budget ≤ 9223372036854775807 }
+    requires budget { ask.now.budget ≤ GREATEST }
     ensures { Searches network.now (spoken_solve ask.now) (D.outside desk.old) (D.outside desk.new) result }
 {
     if desk.open_out(ask.certificate.as_str()).is_err() {
