@@ -1,7 +1,7 @@
 -- What a piece that was put or said adds to what the calls tell.
 use Rattle.std.proofs.Common.{◌≡◌, ℕ, List, [], ◌∷◌, ◌++◌, refl, sym, ◌∙◌, ap, append_assoc}
 use Rattle.std.proofs.lemmas.List.{append-nil}
-use Rattle.cfn_desk.specs.Outside.{Call, Put, Say, Writing, Written, written, with_byte, said, faults, puts, says}
+use Rattle.cfn_desk.specs.Outside.{Call, Put, Say, Idle, Writing, Spoiled, Written, IsWritten, IsWriting, written, with_byte, said, faults, puts, says}
 
 -- a piece comes behind the bytes of the file being written
 pub written-puts : (bytes : List ℕ) (calls : List Call) (name front : List ℕ) → written calls ≡ Writing name front → written (puts bytes calls) ≡ Writing name (front ++ bytes)
@@ -39,3 +39,14 @@ faults-says (byte ∷ bytes) calls = faults-says bytes (Say byte ∷ calls)
 pub says-append : (front back : List ℕ) (calls : List Call) → says (front ++ back) calls ≡ says back (says front calls)
 says-append [] back calls = refl
 says-append (byte ∷ front) back calls = says-append front back (Say byte ∷ calls)
+
+-- after a piece was put the file is still being written
+IsWritten-with_byte : (byte : ℕ) (file : Written) → IsWritten file → IsWritten (with_byte byte file)
+IsWritten-with_byte byte Idle h = h
+IsWritten-with_byte byte (Writing name bytes) h = tt
+IsWritten-with_byte byte Spoiled h = h
+
+pub IsWriting-puts : (bytes : List ℕ) (calls : List Call) → IsWriting calls → IsWriting (puts bytes calls)
+IsWriting-puts [] calls h = h
+IsWriting-puts (byte ∷ bytes) calls h =
+    IsWriting-puts bytes (Put byte ∷ calls) (IsWritten-with_byte byte (written calls) h)

@@ -1,5 +1,5 @@
 -- A desk over a storage of files and a writer, as its caller sees it.
-use Rattle.std.specs.Prelude.{◌≡◌, List, ℕ, Option, Some, None, IfSome, IsSome}
+use Rattle.std.specs.Prelude.{◌≡◌, List, Option, Some, None, IfSome, IsSome}
 use Rattle.cfn_desk.specs.OutFile.{Pending}
 use Rattle.cfn_desk.specs.Outside.{Call, Files, Written, Idle, Writing, Spoiled}
 use Rattle.cfn_desk.specs.Storage.{Told}

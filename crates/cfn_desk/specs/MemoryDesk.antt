@@ -2,7 +2,7 @@
 use Rattle.std.specs.Prelude.{ℕ, ◌==◌, List, [], Bool, ◌++◌, Option, Some, None, option_to_list}
 use Rattle.std.specs.List.{list_any}
 use Rattle.cfn_desk.specs.NamedFiles.{file_named}
-use Rattle.cfn_desk.specs.Outside.{Call, Files, Written, Idle, Writing, Spoiled, written}
+use Rattle.cfn_desk.specs.Outside.{Call, Files, Written, Idle, Writing, Spoiled}
 use Rattle.cfn_desk.specs.Room.{Bounded}
 use Rattle.cfn_desk.specs.SureDesk.{counted}
 use Rattle.cfn_desk.specs.declared.memory.Stage.{Stage}

@@ -1,5 +1,5 @@
 -- A file that is written beside its name, as its user sees it.
-use Rattle.std.specs.Prelude.{◌≡◌, true, Bool, List, ℕ, ◌++◌, Option, IfSome, IsSome, IsSomeAnd, option_map}
+use Rattle.std.specs.Prelude.{◌≡◌, true, Bool, ◌++◌, Option, IfSome, IsSome, IsSomeAnd, option_map}
 use Rattle.cfn_desk.specs.Outside.{Files, Stores}
 use Rattle.cfn_desk.specs.Room.{Bounded}
 use Rattle.cfn_desk.specs.Storage.{Told}

@@ -1,5 +1,5 @@
 -- The calls that a desk keeps, for contracts alone.
-use Rattle.std.specs.Prelude.{ℕ, true, false, List, [], ◌∷◌}
+use Rattle.std.specs.Prelude.{ℕ, true, false, List, ◌∷◌}
 use Rattle.cfn_desk.specs.Outside.{Call, Load, Open, FailedPut, Close, Discard, FailedSay, Bytes, Unreadable, NoMemory, puts, says}
 use Rattle.cfn_desk.specs.declared.trace.Kind.{Kind}
 use Rattle.cfn_desk.specs.declared.trace.Kind.TheVariants as kind

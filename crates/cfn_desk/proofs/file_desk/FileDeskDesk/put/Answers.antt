@@ -1,5 +1,5 @@
 -- A piece comes behind the bytes of the file being written, in the storage and in what the calls tell.
-use Rattle.std.proofs.Common.{◌≡◌, ℕ, ◌++◌, List, Option, None, Some, Result, Ok, Err, OnOk, IfSome, IsSome, refl, sym, subst, rules}
+use Rattle.std.proofs.Common.{◌≡◌, ℕ, List, Option, None, Some, Result, Ok, Err, OnOk, IsSome, refl, sym, subst, rules}
 use Rattle.cfn_desk.specs.FileDesk.{Agrees}
 use Rattle.cfn_desk.specs.Outside.{Call, Files, Written, Idle, Writing, Spoiled, IsWritten, after_put, puts, written}
 use Rattle.cfn_desk.specs.Storage.{Told, grown}

@@ -1,5 +1,5 @@
 -- The calls tell the piece behind what they told of the file being written, and nothing new of the bytes said.
-use Rattle.std.proofs.Common.{◌≡◌, ◌++◌, List, ap, sym, ◌∙◌, rules, refl, subst}
+use Rattle.std.proofs.Common.{◌≡◌, ◌++◌, List, ap, ◌∙◌, rules, subst}
 use Rattle.cfn_desk.specs.MemoryDesk.{written_at}
 use Rattle.cfn_desk.specs.Outside.{Call, IsWritten, said, written, puts}
 use Rattle.cfn_desk.specs.Room.{Bounded}
