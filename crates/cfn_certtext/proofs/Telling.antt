@@ -9,10 +9,7 @@ use Rattle.cfn_model.specs.Text.{line}
 use Rattle.cfn_fault.specs.Fault.{lines, line_at, Begins}
 use Rattle.cfn_fault.specs.Lines.{Line, words_of, bytes_of, text_of, IsSpelledLine, State, AtVersion, AtNumbers, AtLower, AtBest, AtValues, AtRoot, AtNodes, AtOver}
 use Rattle.cfn_fault.specs.Decoding.{words_in, line_of, word_from}
-use Rattle.cfn_fault.proofs.Running.{run_one_more, spelled_append}
-use Rattle.cfn_fault.proofs.Decoding.{says, said_by}
-use Rattle.cfn_fault.proofs.Bytes.{HasNoEnd, line_back, same_words, lines_first, lines_last, fronted}
-use Rattle.cfn_fault.proofs.Beginning.{some_bytes, first_line, some_rest, none_begins, text_append}
+use Rattle.cfn_fault.proofs.CallerLemmas.{run_one_more, spelled_append, says, said_by, HasNoEnd, line_back, same_words, lines_first, lines_last, fronted, some_bytes, first_line, some_rest, none_begins, text_append}
 use Rattle.cfn_certtext.specs.declared.event.Item.{Item}
 use Rattle.cfn_certtext.specs.declared.event.Item.TheVariants as items
 use Rattle.cfn_certtext.specs.declared.stage.Stage.{Stage}

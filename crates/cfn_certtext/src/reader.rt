@@ -4,6 +4,7 @@
 //! which lines may come, and of the tree's shape no more is kept than how many trees are still to come.
 
 ghost use Rattle.std.specs.Prelude.{◌≡◌, ◌+◌, ◌<◌, ◌≤◌, List, [], length, drop, position, IfErr, IfNone, IfOk, IfSome, IsErr, OnErr, ◌==◌, ◌↔◌, IsTrue};
+ghost use Rattle.cfn_model.specs.declared.limits.TheConstants.{GREATEST};
 ghost use Rattle.cfn_fault.specs.Lines as lines;
 ghost use Rattle.cfn_fault.specs.Lines.{Line, State};
 ghost use Rattle.cfn_certtext.specs.Reading.{HasRead, NoneBegins, Tells, item_of, values_behind};
@@ -135,7 +136,7 @@ struct NextLine<'a> {
 
 /// Reads the line at the front of the rest of a text, where one may come.
 fn next_line(rest: &[u8], stage: Stage) -> Option<NextLine<'_>>
-    requires few { owed_of stage < 9223372036854775808 }
+    requires few { owed_of stage ≤ GREATEST }
     ensures some { IfSome result (λ next. IsNextLine rest.now stage next.length next.stage next.item (values_of next.values)) }
     ensures none { IfNone result (IsNoLine rest.now stage) }
 {

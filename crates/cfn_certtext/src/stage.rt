@@ -1,6 +1,7 @@
 //! Which line of a certificate is due.
 
-ghost use Rattle.std.specs.Prelude.{◌≡◌, ◌<◌};
+ghost use Rattle.std.specs.Prelude.{◌≡◌, ◌≤◌};
+ghost use Rattle.cfn_model.specs.declared.limits.TheConstants.{GREATEST};
 ghost use Rattle.cfn_certtext.specs.Parsed.{IsWholeLine, line_of_parsed};
 ghost use Rattle.cfn_certtext.specs.Stages.{IsWhole, line_of_item, next_stage, owed_of};
 
@@ -27,7 +28,7 @@ pub enum Stage {
 /// What is due behind a line that is one item, if it may come here.
 fn after_item(stage: Stage, item: Item) -> Option<Stage>
     requires whole { IsWhole item }
-    requires few { owed_of stage < 9223372036854775808 }
+    requires few { owed_of stage ≤ GREATEST }
     ensures { result ≡ next_stage stage (line_of_item item) }
 {
     match stage {
@@ -60,7 +61,7 @@ fn after_item(stage: Stage, item: Item) -> Option<Stage>
 /// What is due behind a line where so many trees are still to come.
 fn after_node(owed: u64, item: Item) -> Option<Stage>
     requires whole { IsWhole item }
-    requires few { owed < 9223372036854775808 }
+    requires few { owed ≤ GREATEST }
     ensures { result ≡ next_stage (Stage.Nodes owed) (line_of_item item) }
 {
     if owed == 0 {
@@ -80,7 +81,7 @@ fn after_node(owed: u64, item: Item) -> Option<Stage>
 /// What is due behind a line, if it may come here.
 pub fn after(stage: Stage, parsed: &Parsed<'_>) -> Option<Stage>
     requires whole { IsWholeLine parsed.now }
-    requires few { owed_of stage < 9223372036854775808 }
+    requires few { owed_of stage ≤ GREATEST }
     ensures { result ≡ next_stage stage (line_of_parsed parsed.now) }
 {
     match parsed {

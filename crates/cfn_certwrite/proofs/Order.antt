@@ -9,7 +9,7 @@ use Rattle.cfn_proof.specs.declared.tree.End.{End}
 use Rattle.cfn_proof.specs.declared.tree.End.TheVariants.{Free, Shut, Split}
 use Rattle.cfn_proof.specs.declared.tree.Node.{Node}
 use Rattle.cfn_proof.specs.Nodes.{node_at, with_children, tree_at, tree_of, IsLinked}
-use Rattle.cfn_proof.proofs.TreeLemmas.{tree_at_is}
+use Rattle.cfn_proof.proofs.CallerLemmas.{tree_at_is}
 use Rattle.cfn_line.proofs.CallerLemmas.{text-append}
 use Rattle.cfn_certwrite.specs.Walk.{end_words, node_lines, second_after, sibling_lines, lines_above, lines_within, lines_behind, lines_from, lines_left}
 

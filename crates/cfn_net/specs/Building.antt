@@ -1,19 +1,20 @@
 -- How a network is built, a function at a time.
 use Rattle.std.specs.Prelude.{◌≡◌, ℕ, ◌+◌, ◌-◌, ◌<◌, ◌≤◌, min, List, [], ◌∷◌, ◌++◌, length, map, sum_by, slice_index, slice_set}
 use Rattle.std.specs.Borrow.{Bor}
+use Rattle.cfn_model.specs.declared.limits.TheConstants.{MOST_VARIABLES, MOST_VALUES, MOST_FUNCTIONS, MOST_TUPLES, MOST_CELLS}
 use Rattle.cfn_model.specs.Network.{Function, Network, cells, cell, dims, function_of, function_at}
 
 -- Different variables of a network with these domain sizes, with at most 4,194,304 tuples.
 pub record IsScope (sizes scope : List ℕ) : Type 0 where
   pub variables : (place : ℕ) → place < length scope → slice_index scope place < length sizes
   pub different : (place other : ℕ) → place < other → other < length scope → slice_index scope place ≡ slice_index scope other → ⊥
-  pub few : cells (dims sizes scope) ≤ 4194304
+  pub few : cells (dims sizes scope) ≤ MOST_TUPLES
 
 -- Domain sizes of a network: 1 to 1,048,576 of them, from 1 to 4,096 each.
 pub record AreSizes (sizes : List ℕ) : Type 0 where
   pub some : 0 < length sizes
-  pub few : length sizes ≤ 1048576
-  pub each : (x : ℕ) → x < length sizes → (0 < slice_index sizes x) × (slice_index sizes x ≤ 4096)
+  pub few : length sizes ≤ MOST_VARIABLES
+  pub each : (x : ℕ) → x < length sizes → (0 < slice_index sizes x) × (slice_index sizes x ≤ MOST_VALUES)
 
 -- A network with no functions.
 abbrev pub new_network : List ℕ → List ℕ → ℕ → Network
@@ -26,8 +27,8 @@ all_cells P = sum_by (λ f. cells (dims P.sizes f.scope)) P.functions
 -- The network has room for one more function, with this scope.
 pub record CanTake (P : Network) (variables : List ℕ) : Type 0 where
   pub scope : IsScope P.sizes variables
-  pub few_functions : length P.functions < 1048576
-  pub few_cells : all_cells P + cells (dims P.sizes variables) ≤ 67108864
+  pub few_functions : length P.functions < MOST_FUNCTIONS
+  pub few_cells : all_cells P + cells (dims P.sizes variables) ≤ MOST_CELLS
 
 -- The network with a function at the end of its functions.
 abbrev pub with_function : Network → Function → Network

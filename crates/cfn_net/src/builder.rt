@@ -1,5 +1,6 @@
 //! Building a network, a function at a time.
-ghost use Rattle.std.specs.Prelude.{◌≡◌, ℕ, ◌+◌, ◌-◌, ◌<◌, ◌≤◌, ◌^◌, [], ◌∷◌, length, slice_index, All, IfOk, OnOk, OnErr};
+ghost use Rattle.std.specs.Prelude.{◌≡◌, ℕ, ◌+◌, ◌-◌, ◌<◌, ◌≤◌, [], ◌∷◌, length, slice_index, All, IfOk, OnOk, OnErr};
+ghost use Rattle.cfn_model.specs.declared.limits.TheConstants.{GREATEST};
 ghost use Rattle.cfn_model.specs.Words.{IsWord};
 ghost use Rattle.cfn_model.specs.Network.{Fits, cells, cell, dims, function_of, dims_at, function_at};
 ghost use Rattle.cfn_net.specs.Building.{AreSizes, CanTake, ListingLaw, all_cells, last, list_at_end, listings_of, new_network, with_function};
@@ -33,7 +34,7 @@ impl Builder {
     pub fn make(alloc: Global, name: &[u8], sizes: &[u32], ub: u64) -> Result<Builder, AllocError>
         requires name { IsWord name.now }
         requires sizes { AreSizes sizes.now }
-        requires ub { ub < 2 ^ 63 }
+        requires ub { ub ≤ GREATEST }
         ensures { IfOk result (λ b. b ≡ new_network name.now sizes.now ub) }
     {
         Ok(Builder {

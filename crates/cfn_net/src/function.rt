@@ -2,6 +2,7 @@
 //! fastest.
 ghost use Rattle.std.specs.Prelude.{◌≡◌, ℕ, ◌+◌, ◌<◌, ◌≤◌, min, List, [], length, slice_index, slice_set, IfOk};
 ghost use Rattle.cfn_model.specs.Network.{Fits, cells, cell, dims, restrict, entry, function_of};
+ghost use Rattle.cfn_model.specs.declared.limits.TheConstants.{MOST_TUPLES};
 ghost use Rattle.cfn_net.specs.Building.{IsScope, with_entry};
 
 use smallvec::SmallVec;
@@ -121,7 +122,7 @@ impl Function {
 /// How many tuples a scope has.
 pub(crate) fn cells_of(sizes: &[u32], scope: &[u32]) -> u32
     requires scope { (place : ℕ) → place < length scope.now → slice_index scope.now place < length sizes.now }
-    requires few { cells (dims sizes.now scope.now) ≤ 4194304 }
+    requires few { cells (dims sizes.now scope.now) ≤ MOST_TUPLES }
     requires sizes { (x : ℕ) → x < length sizes.now → 0 < slice_index sizes.now x }
     ensures { result ≡ cells (dims sizes.now scope.now) }
 {

@@ -1,5 +1,6 @@
 //! The network, which does not change once it is built.
-ghost use Rattle.std.specs.Prelude.{◌≡◌, ◌≢◌, ℕ, ◌+◌, ◌-◌, ◌*◌, ◌^◌, ◌<◌, ◌≤◌, ◌↔◌, List, [], length, slice_index, IfOk, OnOk, OnErr};
+ghost use Rattle.std.specs.Prelude.{◌≡◌, ◌≢◌, ℕ, ◌+◌, ◌-◌, ◌*◌, ◌<◌, ◌≤◌, ◌↔◌, List, [], length, slice_index, IfOk, OnOk, OnErr};
+ghost use Rattle.cfn_model.specs.declared.limits.TheConstants.{GREATEST};
 ghost use Rattle.cfn_model.specs.Words.{IsWord};
 ghost use Rattle.cfn_model.specs.Network.{Fits, IsFunction, IsNetwork, function_at, scope_at, arity, dims_at, entry_at, restrict, cells, cell, cost, function_of};
 ghost use Rattle.cfn_net.specs.Building.{AreSizes, CanTake, IsScope, last, list_at_end, new_network, with_function};
@@ -186,7 +187,7 @@ impl Network {
     ) -> Result<Network, AllocError>
         requires name { IsWord name.now }
         requires sizes { AreSizes sizes.now }
-        requires upper { upper < 2 ^ 63 }
+        requires upper { upper ≤ GREATEST }
         ensures { IfOk result (λ n. n ≡ new_network name.now sizes.now upper) }
     {
         Ok(Network {

@@ -2,7 +2,7 @@
 use Rattle.std.proofs.Common.{◌≡◌, ℕ, zero, suc, ◌+◌, ◌<◌, ◌≤◌, List, [], ◌∷◌, length, get_or, set, take, replicate, sym, ap, ◌∙◌, arith}
 use Rattle.std.proofs.lemmas.List.{take-take, take-set, take_all, take_more_same, length-set, length-replicate, get_or-replicate, get_or-set_same}
 use Rattle.cfn_model.specs.Network.{Fits}
-use Rattle.cfn_net.proofs.Cells.{Fits-length, Fits-from_each}
+use Rattle.cfn_net.proofs.CallerLemmas.{Fits-length, Fits-from_each}
 
 -- the assignment of zeros fits where no domain is empty
 pub Fits-zeros : (sizes : List ℕ) → ((x : ℕ) → x < length sizes → 0 < get_or sizes x 0) → Fits sizes (replicate (length sizes) 0)

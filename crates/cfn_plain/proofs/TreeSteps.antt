@@ -12,7 +12,7 @@ use Rattle.cfn_proof.specs.declared.tree.End.TheVariants.{Free, Shut, Split}
 use Rattle.cfn_proof.specs.declared.tree.NodeId.{NodeId}
 use Rattle.cfn_proof.specs.declared.tree.Node.{Node}
 use Rattle.cfn_proof.specs.Nodes.{node_at, with_children, tree_at, IsLinked, IsFamily}
-use Rattle.cfn_proof.proofs.TreeLemmas.{tree_at_is}
+use Rattle.cfn_proof.proofs.CallerLemmas.{tree_at_is}
 
 -- the tree that begins at a node with a known end
 pub tree_is : (nodes : List Node) (i : ℕ) (node : Node) (e : End) → IsLinked nodes → i < length nodes → node ≡ node_at nodes i → node.end ≡ e → tree_at nodes i ≡ with_children node.block e (tree_at nodes)

@@ -1,7 +1,8 @@
 //! What a network says of a function that may not be there: a function that is missing has no variables and costs
 //! nothing.
 
-ghost use Rattle.std.specs.Prelude.{◌≡◌, ◌<◌, ◌+◌, ◌^◌, length};
+ghost use Rattle.std.specs.Prelude.{◌≡◌, ◌<◌, ◌+◌, ◌≤◌, length};
+ghost use Rattle.cfn_model.specs.declared.limits.TheConstants.{GREATEST};
 ghost use Rattle.cfn_model.specs.Network.{Fits, scope_at, variable_at, dims_at, entry_at, function_at, cell};
 ghost use Rattle.cfn_model.specs.Sums.{constant};
 
@@ -44,7 +45,7 @@ pub(crate) fn number(network: &Network, f: u32, tuple: &[u32]) -> u32
 pub(crate) fn entry(network: &Network, f: u32, tuple: &[u32]) -> u64
     requires { Fits (dims_at network.now f) tuple.now }
     ensures value { result ≡ entry_at network.now f tuple.now }
-    ensures small { result < 2 ^ 63 }
+    ensures small { result ≤ GREATEST }
 {
     network.limits();
     if f < network.functions() {

@@ -1,6 +1,7 @@
 //! The floor, unary costs and residual costs after a history, each added up from the whole history.
 
 ghost use Rattle.std.specs.Prelude.{◌≡◌, ◌<◌, ◌^◌, ◌==◌, ◌&&◌, [], length, slice_index, pos, neg_ℤ, ◌<ℤ◌, ◌≤ℤ◌, MatchBool};
+ghost use Rattle.cfn_model.specs.declared.limits.TheConstants.{GREATEST};
 ghost use Rattle.cfn_model.specs.Network.{Fits, dims_at, variable_at};
 ghost use Rattle.cfn_model.specs.Sums.{when, lifted, floor, unary_by, unary, residual_by, residual};
 
@@ -138,7 +139,7 @@ fn original(network: &Network, f: u32, tuple: &[u32]) -> i128
     requires { Fits (dims_at network.now f) tuple.now }
     ensures value { result ≡ residual network.now [] f tuple.now }
     ensures low { pos 0 ≤ℤ result }
-    ensures high { result <ℤ pos (2 ^ 63) }
+    ensures high { result ≤ℤ pos GREATEST }
 {
     when(
         !scope(network, f).is_empty(),

@@ -4,3 +4,4 @@ pub mod Histories
 pub mod WholeTree
 pub mod Written
 pub mod Rows
+pub mod CallerLemmas

@@ -2,6 +2,7 @@
 
 ghost use Rattle.std.specs.Prelude.{◌≤◌, IsTrue, is_some};
 ghost use Rattle.std.specs.Option.{ForSome};
+ghost use Rattle.cfn_model.specs.declared.limits.TheConstants.{GREATEST};
 
 use crate::tree::Tree;
 use cfn_net::Scored;
@@ -17,7 +18,7 @@ pub struct Certificate {
     pub best: Option<Scored>,
     pub lower: u64,
     pub tree: Tree,
-    pub ghost upper_fits: { upper ≤ 9223372036854775807 },
-    pub ghost lower_fits: { lower ≤ 9223372036854775807 },
+    pub ghost upper_fits: { upper ≤ GREATEST },
+    pub ghost lower_fits: { lower ≤ GREATEST },
     pub ghost best_is_held: { ForSome best (λ scored. IsTrue (is_some scored.held)) },
 }

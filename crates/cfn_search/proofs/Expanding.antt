@@ -13,7 +13,7 @@ use Rattle.cfn_net.specs.Scoring.{Scoring}
 use Rattle.cfn_proof.specs.declared.tree.NodeId.{NodeId}
 use Rattle.cfn_proof.specs.declared.tree.Node.{Node}
 use Rattle.cfn_proof.specs.Nodes.{IsTree, Before, split_at, close_at}
-use Rattle.cfn_proof.proofs.Histories.{before_some}
+use Rattle.cfn_proof.proofs.CallerLemmas.{before_some}
 use Rattle.cfn_search.specs.Closing.{Leaves}
 use Rattle.cfn_search.specs.Decisions.{low, high, InOrder, AreDomains, AllDecided, IsFewest}
 use Rattle.cfn_search.specs.Sound.{Sound, price_of}

@@ -3,6 +3,7 @@ use Rattle.std.proofs.Common.{◌≡◌, ◌≢◌, ℕ, suc, ◌<◌, ◌≤◌
 use Rattle.std.proofs.lemmas.Bool.{cases_eq}
 use Rattle.std.specs.Prelude.{slice_index, Option, Some, None, Bool, true, false, ◌==◌}
 use Rattle.std.specs.List.{AllByRecursion}
+use Rattle.cfn_model.specs.declared.limits.TheConstants.{MOST_VALUES}
 use Rattle.cfn_model.specs.declared.report.Row.{Row}
 use Rattle.cfn_model.specs.declared.step.Event.{Event}
 use Rattle.cfn_model.specs.Network.{Network, IsNetwork, Fits, cost}
@@ -12,13 +13,12 @@ use Rattle.cfn_model.specs.Words.{greatest}
 use Rattle.cfn_model.specs.Text.{IsSpelled, IsSpelledBest}
 use Rattle.cfn_model.specs.Tree.{bound, count, splits, open_leaves}
 use Rattle.cfn_model.specs.Certificate.{Solution, Certificate, IsBest, threshold_of, threshold}
-use Rattle.cfn_model.proofs.Bounding.{bound_low, fits_length}
+use Rattle.cfn_model.proofs.CallerLemmas.{bound_low, fits_length}
 use Rattle.cfn_net.specs.Scoring.{Scoring}
 use Rattle.cfn_proof.specs.declared.tree.NodeId.{NodeId}
 use Rattle.cfn_proof.specs.declared.tree.Node.{Node}
 use Rattle.cfn_proof.specs.Nodes.{node_at, tree_of, IsTree, IsFree, Before}
-use Rattle.cfn_proof.proofs.WholeTree.{valid_law, strict_law, open_below_law, bound_from_law, bound_at_law, spelled_law, none_open_law, some_open_law}
-use Rattle.cfn_proof.proofs.Histories.{before_some}
+use Rattle.cfn_proof.proofs.CallerLemmas.{valid_law, strict_law, open_below_law, bound_from_law, bound_at_law, spelled_law, none_open_law, some_open_law, before_some}
 use Rattle.cfn_proof.specs.declared.outcome.Stop.{Stop}
 use Rattle.cfn_proof.specs.declared.outcome.Stop.TheVariants.{Done, Budget, Memory}
 use Rattle.cfn_proof.specs.Outcome.{HasCause, IsSearched, RowHolds, opening}
@@ -28,7 +28,7 @@ use Rattle.cfn_search.proofs.Shifts.{total_split}
 use Rattle.cfn_search.proofs.Expanding.{price_small}
 
 -- an assignment's values have a spelling
-values_spelled : (sizes values : List ℕ) → ((x : ℕ) → x < length sizes → slice_index sizes x ≤ 4096) → Fits sizes values → AllByRecursion (λ a. a ≤ greatest) values
+values_spelled : (sizes values : List ℕ) → ((x : ℕ) → x < length sizes → slice_index sizes x ≤ MOST_VALUES) → Fits sizes values → AllByRecursion (λ a. a ≤ greatest) values
 values_spelled [] [] small fits = tt
 values_spelled [] (v ∷ values) small fits = absurd fits
 values_spelled (d ∷ sizes) [] small fits = absurd fits

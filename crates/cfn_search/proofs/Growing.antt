@@ -11,7 +11,7 @@ use Rattle.cfn_model.specs.Sums.{floor}
 use Rattle.cfn_model.specs.Steps.{IsValue, Run, after}
 use Rattle.cfn_model.specs.Tree.{CanClose, IsStrictSplit}
 use Rattle.cfn_model.specs.Certificate.{IsBest}
-use Rattle.cfn_model.proofs.Lowering.{run_lower, close_lower}
+use Rattle.cfn_model.proofs.CallerLemmas.{run_lower, close_lower}
 use Rattle.cfn_net.specs.Scoring.{Scoring}
 use Rattle.cfn_proof.specs.declared.tree.NodeId.{NodeId}
 use Rattle.cfn_proof.specs.declared.tree.End.{End}
@@ -19,8 +19,7 @@ use Rattle.cfn_proof.specs.declared.tree.End.TheVariants.{Free, Shut, Split}
 use Rattle.cfn_proof.specs.declared.tree.Node.{Node}
 use Rattle.cfn_proof.specs.Nodes.{node_at, open_node, IsTree, IsFree, Before, split_at, split_end, close_at}
 use Rattle.cfn_proof.specs.Local.{ValidNode, StrictNode}
-use Rattle.cfn_proof.proofs.Growth.{length-split_at, split_at-same, split_at-other, split_at-first, split_at-second, split_numbers, length-close_at, close_at-same, close_at-other}
-use Rattle.cfn_proof.proofs.Histories.{before_split, before_close, before_some, count_split, count_close, splits_split, splits_close}
+use Rattle.cfn_proof.proofs.CallerLemmas.{length-split_at, split_at-same, split_at-other, split_at-first, split_at-second, split_numbers, length-close_at, close_at-same, close_at-other, before_split, before_close, before_some, count_split, count_close, splits_split, splits_close}
 use Rattle.cfn_search.specs.Decisions.{low, high, InOrder}
 use Rattle.cfn_search.specs.Sound.{Sound, AreOpen, number_at, price_of}
 use Rattle.cfn_search.proofs.Live.{live_from, no_steps}

@@ -11,8 +11,7 @@ use Rattle.cfn_model.specs.declared.step.Event.TheVariants.{Did, Is, IsNot}
 use Rattle.cfn_model.specs.Network.{Function, Network, IsNetwork, Fits, restrict, scope_at, arity, variable_at, function_at, no_function, entry, entry_at, dims, dims_at, cell, cost}
 use Rattle.cfn_model.specs.Sums.{when, constant, constant_of, floor, unary, residual, is_live, is_cut, all_live}
 use Rattle.cfn_model.specs.Steps.{CanProject, CanLift, Allowed, Run, after}
-use Rattle.cfn_model.proofs.Equivalence.{restrict_at, when_true, when_false}
-use Rattle.cfn_model.proofs.Bounding.{fits_at}
+use Rattle.cfn_model.proofs.CallerLemmas.{restrict_at, when_true, when_false, fits_at}
 use Rattle.cfn_search.specs.Closing.{NoSteps, Leaves}
 use Rattle.cfn_search.specs.Shifting.{varying_of, varying, Shifted}
 

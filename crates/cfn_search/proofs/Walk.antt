@@ -12,7 +12,7 @@ use Rattle.cfn_proof.specs.declared.tree.End.{End}
 use Rattle.cfn_proof.specs.declared.tree.End.TheVariants.{Split}
 use Rattle.cfn_proof.specs.declared.tree.Node.{Node}
 use Rattle.cfn_proof.specs.Nodes.{node_at, IsLinked, Before}
-use Rattle.cfn_proof.proofs.Histories.{side_of}
+use Rattle.cfn_proof.proofs.CallerLemmas.{side_of}
 use Rattle.cfn_search.specs.Decisions.{low, high, AreDomains}
 
 pub low-after : (block : List Step) (history : List Event) (x : ℕ) → low (after block history) x ≡ low history x

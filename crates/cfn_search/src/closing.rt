@@ -5,6 +5,7 @@
 
 ghost use Rattle.std.specs.Prelude.{◌≡◌, ℕ, ◌+◌, ◌<◌, ◌≤◌, List, [], length, IfOk};
 ghost use Rattle.cfn_model.specs.declared.step.Event.{Event};
+ghost use Rattle.cfn_model.specs.declared.limits.TheConstants.{GREATEST};
 ghost use Rattle.cfn_model.specs.Network.{Fits, cost};
 ghost use Rattle.cfn_model.specs.Sums.{floor};
 ghost use Rattle.cfn_model.specs.Steps.{Run, after};
@@ -55,7 +56,7 @@ fn shift(
     requires function { f < length network.now.functions }
     requires fits { Fits network.now.sizes values.now }
     requires lacks { (0 < lacks) × (lacks ≤ k) }
-    requires small { k < 9223372036854775808 }
+    requires small { k ≤ GREATEST }
     ensures less { IfOk result (λ left. left ≤ lacks) }
     ensures shifted { IfOk result (λ left. (history : List Event) → Leaves network.now history values.now
         → Shifted network.now values.now history block.old k f lacks

@@ -5,6 +5,7 @@
 
 ghost use Rattle.std.specs.Prelude.{◌≡◌, ℕ, ◌+◌, ◌<◌, ◌≤◌, List, length, slice_index, IfOk, MatchOption};
 ghost use Rattle.std.specs.Prelude.{[]};
+ghost use Rattle.cfn_model.specs.declared.limits.TheConstants.{MOST_VARIABLES};
 ghost use Rattle.cfn_model.specs.declared.step.Event.{Event};
 ghost use Rattle.cfn_proof.specs.Nodes.{Before};
 ghost use Rattle.cfn_search.specs.Decisions.{AreDomains, AllDecided, IsFewest};
@@ -53,7 +54,7 @@ impl Domains {
     /// variable has at most one value left.
     pub fn fewest(&self) -> Option<u32>
         requires same { length self.now.low.items ≡ length self.now.high.items }
-        requires few { length self.now.low.items ≤ 1048576 }
+        requires few { length self.now.low.items ≤ MOST_VARIABLES }
         ensures { MatchOption result (AllDecided self.now.low.items self.now.high.items)
             (IsFewest self.now.low.items self.now.high.items) }
     {
@@ -106,7 +107,7 @@ fn restrict_along(tree: &Tree, leaf: NodeId, low: &mut [u32], high: &mut [u32])
 
 fn fewest_of(low: &[u32], high: &[u32]) -> Option<u32>
     requires same { length low.now ≡ length high.now }
-    requires few { length low.now ≤ 1048576 }
+    requires few { length low.now ≤ MOST_VARIABLES }
     ensures { MatchOption result (AllDecided low.now high.now) (IsFewest low.now high.now) }
 {
     let mut best: Option<u32> = None;

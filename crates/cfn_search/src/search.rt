@@ -2,6 +2,7 @@
 
 ghost use Rattle.std.specs.Prelude.{◌≡◌, ℕ, ◌+◌, ◌<◌, ◌≤◌, min, List, [], ◌∷◌, length, IsTrue, is_some, IfOk, OnOk, OnErr, vec_capacity};
 ghost use Rattle.std.specs.Option.{ForSome};
+ghost use Rattle.cfn_model.specs.declared.limits.TheConstants.{GREATEST};
 ghost use Rattle.cfn_model.specs.Certificate.{IsBest};
 ghost use Rattle.cfn_model.specs.Network.{Fits, cost, function_at};
 ghost use Rattle.cfn_model.specs.Sums.{constant, floor};
@@ -70,7 +71,7 @@ impl State {
         requires sound { IsSearching network.now self.old }
         requires lowest { lowest ≡ min network.now.upper (floor network.now []) }
         requires allowed { self.old.nodes ≤ budget }
-        requires budget { budget ≤ 9223372036854775807 }
+        requires budget { budget ≤ GREATEST }
         ensures sound { IsSearching network.now self.new }
         ensures allowed { self.new.nodes ≤ budget }
     {
@@ -129,7 +130,7 @@ impl State {
         requires sound { IsSearching network.now self.old }
         requires lowest { lowest ≡ min network.now.upper (floor network.now []) }
         requires some { 0 < length self.old.leaves.items }
-        requires room { self.old.nodes < 9223372036854775808 }
+        requires room { self.old.nodes ≤ GREATEST }
         ensures sound { IsSearching network.now self.new }
         ensures ok { OnOk result (self.new.nodes ≡ self.old.nodes + 1) }
         ensures err { OnErr result (self.new.nodes ≡ self.old.nodes) }
@@ -232,7 +233,7 @@ impl State {
 /// The newest open leaf is expanded first, and of two new children the first. Where memory is refused the search
 /// stops with the leaf still open, and hands out what it has; an `Err` is want of memory before the search stands.
 pub fn solve(alloc: Global, network: &Network, budget: u64) -> Result<Outcome, AllocError>
-    requires { budget ≤ 9223372036854775807 }
+    requires { budget ≤ GREATEST }
     ensures { IfOk result (IsOutcome network.now budget) }
 {
     let lowest = opening_floor(network);

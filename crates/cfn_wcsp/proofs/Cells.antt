@@ -3,6 +3,7 @@ use Rattle.std.proofs.Common.{◌≡◌, ℕ, suc, ◌+◌, ◌*◌, ◌≤◌, 
 use Rattle.std.specs.Prelude.{slice_index}
 use Rattle.std.proofs.lemmas.List.{map_push, drop_more, drop_all, get_or-drop, get_or-map, length-drop, length-map}
 use Rattle.std.proofs.Math.Nat.{mul_assoc, mul-le-mul_right, mul-le-mul_left}
+use Rattle.cfn_model.specs.declared.limits.TheConstants.{MOST_TUPLES}
 use Rattle.cfn_model.specs.declared.reading.Refusal.{Refusal}
 use Rattle.cfn_model.specs.Network.{cells, cell_from, dims}
 use Rattle.cfn_model.specs.Reading.{◌>>=◌, At, natural_at, tuple_at, check_value}
@@ -85,7 +86,7 @@ pub size_at : (sizes variables : List ℕ) (i : ℕ) → i < length variables �
 size_at sizes variables i lt = sym (get_or-map (slice_index sizes) variables i 0 0 lt)
 
 pub below_all : (sizes variables : List ℕ) (c i v : ℕ) → AreSizes sizes → IsScope sizes variables → i < length variables → v < slice_index sizes (slice_index variables i)
-    → (c + 1) * cells (drop i (dims sizes variables)) ≤ cells (dims sizes variables) → c * slice_index sizes (slice_index variables i) + v < 4194304
+    → (c + 1) * cells (drop i (dims sizes variables)) ≤ cells (dims sizes variables) → c * slice_index sizes (slice_index variables i) + v < MOST_TUPLES
 below_all sizes variables c i v are is lt below so_far =
     let size = slice_index sizes (slice_index variables i) in
     let ds = dims sizes variables in

@@ -3,6 +3,7 @@ use Rattle.std.proofs.Common.{◌≡◌, ℕ, suc, ◌-◌, ◌+◌, ◌≤◌, 
 use Rattle.std.specs.Prelude.{slice_index}
 use Rattle.std.proofs.lemmas.Bool.{cases_lt}
 use Rattle.std.proofs.lemmas.List.{append-nil, get_or_append_left, get_or_push, length_push}
+use Rattle.cfn_model.specs.declared.limits.TheConstants.{MOST_VALUES}
 use Rattle.cfn_model.specs.declared.reading.Refusal.{Refusal}
 use Rattle.cfn_model.specs.Reading.{◌>>=◌, At, natural_at, sizes_at, check_domain, scope_from, check_variable}
 use Rattle.cfn_wcsp.specs.declared.fault.ReadFault.{ReadFault}
@@ -43,9 +44,9 @@ done front count i s total le so_far =
 
 -- each size so far is in range
 abbrev pub SizesSoFar : List ℕ → Type 0
-SizesSoFar sizes = (x : ℕ) → x < length sizes → (0 < slice_index sizes x) × (slice_index sizes x ≤ 4096)
+SizesSoFar sizes = (x : ℕ) → x < length sizes → (0 < slice_index sizes x) × (slice_index sizes x ≤ MOST_VALUES)
 
-pub one_more : (sizes : List ℕ) (n : ℕ) → SizesSoFar sizes → 0 < n → n ≤ 4096 → SizesSoFar (sizes ++ n ∷ [])
+pub one_more : (sizes : List ℕ) (n : ℕ) → SizesSoFar sizes → 0 < n → n ≤ MOST_VALUES → SizesSoFar (sizes ++ n ∷ [])
 one_more sizes n are some few x lt =
     elim (cases_lt x (length sizes)) [
       | inl before ↦ rw (get_or_append_left sizes (n ∷ []) 0 x before) (are x before)

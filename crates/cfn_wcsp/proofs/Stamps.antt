@@ -5,6 +5,7 @@ use Rattle.std.specs.List.{list_any}
 use Rattle.std.proofs.lemmas.Bool.{cases_lt, cases_eq, ltb-false, eq-eqb, ne_eqb}
 use Rattle.std.proofs.lemmas.List.{get_or_append_left, get_or_push, length_push, length-set, get_or-set_same, get_or-set_other}
 use Rattle.std.proofs.lemmas.List.Folds.{list_any-append, list_any_at}
+use Rattle.cfn_model.specs.declared.limits.TheConstants.{MOST_TUPLES}
 use Rattle.cfn_model.specs.declared.reading.Kind.{Kind}
 use Rattle.cfn_model.specs.declared.reading.Kind.TheVariants.{VariableOutOfRange, RepeatedVariable, TableTooWide}
 use Rattle.cfn_model.specs.Network.{cells, dims}
@@ -24,12 +25,12 @@ none_failed false false false false k l m e = (refl, refl, refl)
 pub record Passes (sizes scope : List ℕ) (x : ℕ) : Type 0 where
   pub in_range : x < length sizes
   pub fresh : list_any (λ y. y == x) scope ≡ false
-  pub few : cells (dims sizes scope) * slice_index sizes x ≤ 4194304
+  pub few : cells (dims sizes scope) * slice_index sizes x ≤ MOST_TUPLES
 
 pub passes : (sizes scope : List ℕ) (x : ℕ) → check_variable sizes scope (pos x) ≡ None → Passes sizes scope x
 passes sizes scope x e =
-    let h = none_failed (int_lt (pos x) (pos 0)) (int_lt (pos (length sizes)) (pos (suc x))) (list_any (λ y. y == x) scope) (ltb 4194304 (cells (dims sizes scope) * slice_index sizes x)) VariableOutOfRange RepeatedVariable TableTooWide e in
-    record { in_range = omega (arith, ltb-false (length sizes) (suc x) h.0); fresh = h.1; few = ltb-false 4194304 (cells (dims sizes scope) * slice_index sizes x) h.2 }
+    let h = none_failed (int_lt (pos x) (pos 0)) (int_lt (pos (length sizes)) (pos (suc x))) (list_any (λ y. y == x) scope) (ltb MOST_TUPLES (cells (dims sizes scope) * slice_index sizes x)) VariableOutOfRange RepeatedVariable TableTooWide e in
+    record { in_range = omega (arith, ltb-false (length sizes) (suc x) h.0); fresh = h.1; few = ltb-false MOST_TUPLES (cells (dims sizes scope) * slice_index sizes x) h.2 }
 
 absent : (scope : List ℕ) (x place : ℕ) → list_any (λ y. y == x) scope ≡ false → place < length scope → slice_index scope place ≡ x → ⊥
 absent scope x place fresh lt e =

@@ -1,5 +1,6 @@
 -- The checks of each field, and the numbers that pass them.
-use Rattle.std.specs.Prelude.{ℕ, ◌<◌, ◌≤◌, ◌^◌, ℤ, Option}
+use Rattle.std.specs.Prelude.{ℕ, ◌<◌, ◌≤◌, ℤ, Option}
+use Rattle.cfn_model.specs.declared.limits.TheConstants.{GREATEST, MOST_VARIABLES, MOST_VALUES, MOST_FUNCTIONS, MOST_CELLS}
 use Rattle.cfn_model.specs.declared.reading.Kind.{Kind}
 use Rattle.cfn_model.specs.Reading.{check_variables, check_size, check_functions, check_cost, check_domain, check_arity, check_default, check_count, check_value}
 use Rattle.cfn_wcsp.specs.declared.field.Field.{Field}
@@ -19,12 +20,12 @@ check_of (Value size) z = check_value size z
 
 -- Where numbers lie that pass the checks of their field, and the cells that a default cost is checked with.
 abbrev pub InRange : Field → ℕ → Type 0
-InRange Variables n = (0 < n) × (n ≤ 1048576)
+InRange Variables n = (0 < n) × (n ≤ MOST_VARIABLES)
 InRange Widest n = 0 < n
-InRange Functions n = n ≤ 1048576
-InRange Cost n = n < 2 ^ 63
-InRange Domain n = (0 < n) × (n ≤ 4096)
-InRange Arity n = n < 2 ^ 63
-InRange (Default all_cells) n = (n < 2 ^ 63) × (all_cells ≤ 67108864)
-InRange Tuples n = n ≤ 67108864
+InRange Functions n = n ≤ MOST_FUNCTIONS
+InRange Cost n = n ≤ GREATEST
+InRange Domain n = (0 < n) × (n ≤ MOST_VALUES)
+InRange Arity n = n ≤ GREATEST
+InRange (Default all_cells) n = (n ≤ GREATEST) × (all_cells ≤ MOST_CELLS)
+InRange Tuples n = n ≤ MOST_CELLS
 InRange (Value size) n = n < size

@@ -3,7 +3,7 @@
 ghost use Rattle.std.specs.Prelude.{◌≡◌};
 ghost use Rattle.cfn_wcsp.specs.Fields.{check_of};
 
-use cfn_model::Kind;
+use cfn_model::{Kind, MOST_CELLS, MOST_FUNCTIONS, MOST_VALUES, MOST_VARIABLES};
 
 /// What a number of the file says.
 #[derive(Clone, Copy)]
@@ -36,21 +36,21 @@ impl Field {
     {
         match self {
             Field::Variables if number < 1 => Some(Kind::NoVariables),
-            Field::Variables if number > 1_048_576 => Some(Kind::TooMany),
+            Field::Variables if number > i64::from(MOST_VARIABLES) => Some(Kind::TooMany),
             Field::Widest if number < 0 => Some(Kind::IntervalDomain),
             Field::Widest if number < 1 => Some(Kind::EmptyDomain),
             Field::Functions if number < 0 => Some(Kind::NegativeCount),
-            Field::Functions if number > 1_048_576 => Some(Kind::TooMany),
+            Field::Functions if number > i64::from(MOST_FUNCTIONS) => Some(Kind::TooMany),
             Field::Cost if number < 0 => Some(Kind::NegativeCost),
             Field::Domain if number < 0 => Some(Kind::IntervalDomain),
             Field::Domain if number < 1 => Some(Kind::EmptyDomain),
-            Field::Domain if number > 4_096 => Some(Kind::DomainTooLarge),
+            Field::Domain if number > i64::from(MOST_VALUES) => Some(Kind::DomainTooLarge),
             Field::Arity if number < 0 => Some(Kind::SharedTable),
             Field::Default { .. } if number == -1 => Some(Kind::Keyword),
             Field::Default { .. } if number < 0 => Some(Kind::NegativeCost),
-            Field::Default { cells } if cells > 67_108_864 => Some(Kind::TooMany),
+            Field::Default { cells } if cells > u64::from(MOST_CELLS) => Some(Kind::TooMany),
             Field::Tuples if number < 0 => Some(Kind::SharedTable),
-            Field::Tuples if number > 67_108_864 => Some(Kind::TooMany),
+            Field::Tuples if number > i64::from(MOST_CELLS) => Some(Kind::TooMany),
             Field::Value { size } if number < 0 || number >= i64::from(size) => {
                 Some(Kind::ValueOutOfRange)
             }

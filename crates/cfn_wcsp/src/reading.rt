@@ -1,6 +1,7 @@
 //! A whole file, from its name to its last cost function.
 
 ghost use Rattle.std.specs.Prelude.{◌≡◌, ◌+◌, ◌<◌, ◌≤◌, ◌^◌, length};
+ghost use Rattle.cfn_model.specs.declared.limits.TheConstants.{MOST_FUNCTIONS};
 ghost use Rattle.cfn_model.specs.Reading.{network_at, reading};
 ghost use Rattle.cfn_wcsp.specs.Giving.{Gives, state};
 ghost use Rattle.cfn_wcsp.specs.Tables.{functions_onto};
@@ -24,7 +25,7 @@ fn functions(
 ) -> Result<(), ReadFault>
     requires sizes { scope.old.sizes ≡ builder.old.sizes }
     requires number { scope.old.number + count < 2 ^ 32 }
-    requires room { length builder.old.functions + count ≤ 1048576 }
+    requires room { length builder.old.functions + count ≤ MOST_FUNCTIONS }
     ensures { Gives (λ _. (builder.new, state words.new)) result
         (functions_onto builder.old count (state words.old)) }
 {

@@ -8,7 +8,7 @@ ghost use Rattle.std.specs.Prelude.{◌≡◌, ◌+◌, ◌<◌, ◌^◌, [], �
 ghost use Rattle.cfn_model.specs.Network.{cells};
 ghost use Rattle.cfn_net.specs.Building.{IsScope, AreSizes};
 
-use cfn_model::Kind;
+use cfn_model::{Kind, MOST_TUPLES};
 use std::alloc::{AllocError, Global};
 use std::marker::Model;
 
@@ -73,7 +73,7 @@ impl<'a> Scope<'a> {
         if self.stamps[x] == self.number {
             return Err(Kind::RepeatedVariable);
         }
-        if u64::from(self.cells) * u64::from(self.sizes[x]) > 4_194_304 {
+        if u64::from(self.cells) * u64::from(self.sizes[x]) > u64::from(MOST_TUPLES) {
             return Err(Kind::TableTooWide);
         }
         Ok(x as u32)

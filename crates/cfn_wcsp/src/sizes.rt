@@ -1,6 +1,7 @@
 //! The domain sizes of a file.
 
 ghost use Rattle.std.specs.Prelude.{◌<◌, ◌≤◌, IfOk};
+ghost use Rattle.cfn_model.specs.declared.limits.TheConstants.{MOST_VARIABLES};
 ghost use Rattle.cfn_model.specs.Reading.{sizes_at};
 ghost use Rattle.cfn_wcsp.specs.Giving.{Gives, state};
 ghost use Rattle.cfn_net.specs.Building.{AreSizes};
@@ -18,7 +19,7 @@ pub(crate) fn domains(
     variables: u32,
 ) -> Result<Vec<u32>, ReadFault>
     requires some { 0 < variables }
-    requires few { variables ≤ 1048576 }
+    requires few { variables ≤ MOST_VARIABLES }
     ensures gives { Gives (λ v. (v.items, state words.new)) result
         (sizes_at variables (state words.old)) }
     ensures sizes { IfOk result (λ v. AreSizes v.items) }

@@ -1,6 +1,7 @@
 //! One cost function of a file: its scope, its default cost and its tuples.
 
 ghost use Rattle.std.specs.Prelude.{◌≡◌, ◌+◌, ◌<◌, ◌^◌, length, IfOk, OnOk};
+ghost use Rattle.cfn_model.specs.declared.limits.TheConstants.{MOST_FUNCTIONS};
 ghost use Rattle.cfn_model.specs.Network.{cells, dims_at};
 ghost use Rattle.cfn_model.specs.Reading.{scope_from};
 ghost use Rattle.cfn_wcsp.specs.Giving.{Gives, state};
@@ -81,7 +82,7 @@ pub(crate) fn function(
 ) -> Result<(), ReadFault>
     requires sizes { scope.old.sizes ≡ builder.old.sizes }
     requires number { scope.old.number + 1 < 2 ^ 32 }
-    requires room { length builder.old.functions < 1048576 }
+    requires room { length builder.old.functions < MOST_FUNCTIONS }
     ensures gives { Gives (λ _. (builder.new, state words.new)) result
         (function_onto builder.old (state words.old)) }
     ensures sizes { scope.new.sizes ≡ scope.old.sizes }

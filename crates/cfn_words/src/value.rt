@@ -4,10 +4,7 @@ ghost use Rattle.std.specs.Prelude.{◌≡◌, ◌≤◌, ◌<◌, Option, Some,
 ghost use Rattle.std.specs.List.{list_all};
 ghost use Rattle.cfn_model.specs.Words.{number_of, digits_behind, is_digit, greatest};
 
-use cfn_model::NumberFault;
-
-/// The greatest number that a word may be.
-const GREATEST: u64 = 9_223_372_036_854_775_807;
+use cfn_model::{GREATEST, NumberFault};
 
 /// The number that a word is: an optional `-` and one or more decimal digits, whose number is at most
 /// 9,223,372,036,854,775,807. Leading zeros and `-0` are taken.

@@ -2,7 +2,7 @@ use Rattle.std.proofs.Common.{get_or, inl, inr, ap, sym, ◌∙◌, arith}
 use Rattle.std.proofs.lemmas.Bool.{cases_eq}
 use Rattle.std.proofs.lemmas.List.{take-set}
 use Rattle.cfn_model.specs.Network.{cost}
-use Rattle.cfn_net.proofs.Cells.{Fits-length, Fits-at}
+use Rattle.cfn_net.proofs.CallerLemmas.{Fits-length, Fits-at}
 use Rattle.cfn_plain.proofs.Assignments.{Fits-set, agree_less, agree_more, agree_all}
 use Rattle.cfn_plain.proofs.costs.+least_from.Goals as goal
 

@@ -2,7 +2,7 @@ use Rattle.std.proofs.Common.{ℕ, List, length, get_or, inl, inr, refl, ap, sym
 use Rattle.std.proofs.lemmas.Bool.{cases_eq, false≢true}
 use Rattle.std.proofs.lemmas.List.{take-set}
 use Rattle.cfn_model.specs.Network.{dims_at, scope_at}
-use Rattle.cfn_net.proofs.Cells.{Fits-length, Fits-at, get_or-dims, length-dims}
+use Rattle.cfn_net.proofs.CallerLemmas.{Fits-length, Fits-at, get_or-dims, length-dims}
 use Rattle.cfn_plain.specs.Tuples.{function_in, TupleAllows}
 use Rattle.cfn_plain.proofs.Assignments.{Fits-set, agree_less, agree_more, agree_all}
 use Rattle.cfn_plain.proofs.tuples.+tuples_allow.Goals as goal

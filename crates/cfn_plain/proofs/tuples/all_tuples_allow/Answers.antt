@@ -1,6 +1,6 @@
 use Rattle.std.proofs.Common.{List, ℕ, ◌<◌, get_or, length, ap, ◌∙◌, sym, subst, replicate, arith}
 use Rattle.cfn_model.specs.Network.{Fits, scope_at, dims_at}
-use Rattle.cfn_net.proofs.Cells.{length-dims, get_or-dims}
+use Rattle.cfn_net.proofs.CallerLemmas.{length-dims, get_or-dims}
 use Rattle.cfn_plain.specs.Tuples.{function_in}
 use Rattle.cfn_plain.proofs.Assignments.{Fits-zeros}
 use Rattle.cfn_plain.proofs.tuples.all_tuples_allow.Goals as goal

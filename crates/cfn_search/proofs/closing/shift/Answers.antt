@@ -1,7 +1,7 @@
 use Rattle.std.proofs.Common.{◌≡◌, ◌∙◌, ◌<◌, [], ◌∷◌, ◌++◌, length, slice_index, min, ap, arith}
 use Rattle.cfn_model.specs.declared.step.Step.TheVariants.{Project, Lift}
 use Rattle.cfn_model.specs.Network.{arity, scope_at, variable_at, entry_at, restrict}
-use Rattle.cfn_model.proofs.Bounding.{fits_length}
+use Rattle.cfn_model.proofs.CallerLemmas.{fits_length}
 use Rattle.cfn_search.proofs.Shifts.{one_shift, some_place}
 use Rattle.cfn_search.proofs.closing.shift.Goals as goal
 

@@ -1,9 +1,10 @@
 -- The walk's goals: a parent stands before its children, its split names a value, and what was met stays right.
 use Rattle.std.proofs.Common.{◌≡◌, ◌≢◌, ℕ, ◌+◌, ◌<◌, ◌≤◌, List, length, slice_index, min, max, sym, ap, ◌∙◌, subst, arith, Some, Fits, w32}
+use Rattle.cfn_model.specs.declared.limits.TheConstants.{MOST_VALUES}
 use Rattle.cfn_proof.specs.declared.tree.Node.{Node}
 use Rattle.cfn_proof.specs.declared.tree.End.TheVariants.{Split}
 use Rattle.cfn_proof.specs.Nodes.{node_at}
-use Rattle.cfn_proof.proofs.Histories.{named}
+use Rattle.cfn_proof.proofs.CallerLemmas.{named}
 use Rattle.cfn_search.proofs.Walk.{Rest, rest_first, rest_second, at_root_is, at_leaf_is, still_small, same_from, other_from}
 use Rattle.cfn_search.proofs.domains.restrict_along.Goals as goal
 
@@ -82,7 +83,7 @@ overflow_add-value c =
     let there : c.in-Some.parent.number < length c.args.tree.now = omega (arith, u.0, c.loop-parent.invariant.there) in
     let is : (node_at c.args.tree.now c.in-Some.parent.number).end ≡ Split c.in-Split.variable c.in-Split.value c.in-Split.first c.in-Split.second = ap (λ (n : Node). n.end) (sym c.node-in-Some.ensures) ∙ c.in-Split.is in
     let range = c.requires.splits.each c.in-Some.parent.number c.in-Split.variable c.in-Split.value c.in-Split.first c.in-Split.second there is in
-    let small : c.in-Split.value < 4096 = range.2 in omega (arith, small)
+    let small : c.in-Split.value < MOST_VALUES = range.2 in omega (arith, small)
 
 pub overflow_add-value-else-eq : goal.overflow_add-value-else-eq
 overflow_add-value-else-eq c =
@@ -91,7 +92,7 @@ overflow_add-value-else-eq c =
     let there : c.in-Some.parent.number < length c.args.tree.now = omega (arith, u.0, c.loop-parent.invariant.there) in
     let is : (node_at c.args.tree.now c.in-Some.parent.number).end ≡ Split c.in-Split.variable c.in-Split.value c.in-Split.first c.in-Split.second = ap (λ (n : Node). n.end) (sym c.node-in-Some.ensures) ∙ c.in-Split.is in
     let range = c.requires.splits.each c.in-Some.parent.number c.in-Split.variable c.in-Split.value c.in-Split.first c.in-Split.second there is in
-    let small : c.in-Split.value < 4096 = range.2 in omega (arith, small)
+    let small : c.in-Split.value < MOST_VALUES = range.2 in omega (arith, small)
 
 pub loop-parent-smaller-then-eq : goal.loop-parent-smaller-then-eq
 loop-parent-smaller-then-eq c =

@@ -1,5 +1,5 @@
 use Rattle.std.proofs.Common.{sym, ◌∙◌}
-use Rattle.cfn_fault.proofs.Bytes.{words_some}
+use Rattle.cfn_fault.proofs.CallerLemmas.{words_some}
 use Rattle.cfn_certtext.proofs.fields.Fields.end.Goals as goal
 
 pub returns-else-self-clause-none : goal.returns-else-self-clause-none

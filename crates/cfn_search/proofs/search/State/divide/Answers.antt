@@ -1,7 +1,7 @@
 use Rattle.std.proofs.Common.{◌≡◌, ◌∙◌, ◌+◌, ◌≤◌, ◌^◌, [], ◌∷◌, ◌++◌, length, slice_index, sym, ap, subst, arith, append_assoc}
 use Rattle.std.proofs.lemmas.List.{get_or_read}
 use Rattle.cfn_proof.specs.Nodes.{split_at}
-use Rattle.cfn_proof.proofs.Growth.{length-split_at}
+use Rattle.cfn_proof.proofs.CallerLemmas.{length-split_at}
 use Rattle.cfn_search.specs.Sound.{Sound}
 use Rattle.cfn_search.proofs.Growing.{last_there}
 use Rattle.cfn_search.proofs.Expanding.{halved}
