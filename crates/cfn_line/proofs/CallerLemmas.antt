@@ -6,18 +6,11 @@ use Rattle.std.proofs.lemmas.List.{append-nil, drop_more}
 use Rattle.std.proofs.Math.ListN.{drop_of_length-le}
 use Rattle.std.proofs.lemmas.List.Concat.{flat_map-append}
 use Rattle.cfn_model.specs.Text.{line, text}
-use Rattle.cfn_desk.specs.Outside.{Outside, Call, Put, Say, Written, Idle, Writing, Spoiled, IsWritten, IsWriting, after_put, after_say, puts, says, with_byte, written}
+use Rattle.cfn_desk.specs.Outside.{Outside, Call, IsWriting, after_put, after_say}
+use Rattle.cfn_desk.proofs.CallerLemmas.{IsWriting-puts, puts-append, says-append}
 use Rattle.cfn_line.specs.declared.channel.Channel.{Channel}
 use Rattle.cfn_line.specs.declared.channel.Channel.TheVariants.{File, Screen}
 use Rattle.cfn_line.specs.Appending.{Appends, IsCut, IsOpen, Midway, sent, failed, done}
-
-pub puts-append : (first rest : List ℕ) (calls : List Call) → puts (first ++ rest) calls ≡ puts rest (puts first calls)
-puts-append [] rest calls = refl
-puts-append (byte ∷ first) rest calls = puts-append first rest (Put byte ∷ calls)
-
-pub says-append : (first rest : List ℕ) (calls : List Call) → says (first ++ rest) calls ≡ says rest (says first calls)
-says-append [] rest calls = refl
-says-append (byte ∷ first) rest calls = says-append first rest (Say byte ∷ calls)
 
 sent-append : (channel : Channel) (first rest : List ℕ) (calls : List Call) → sent channel (first ++ rest) calls ≡ sent channel rest (sent channel first calls)
 sent-append File first rest calls = puts-append first rest calls
@@ -51,16 +44,6 @@ ok T E x = Ok x
 abbrev pub err : (T E : Type 0) → E → Result T E
 err T E e = Err e
 
-written_byte : (byte : ℕ) (file : Written) → IsWritten file → IsWritten (with_byte byte file)
-written_byte byte Idle is_written = is_written
-written_byte byte (Writing name bytes) is_written = tt
-written_byte byte Spoiled is_written = is_written
-
--- a file goes on being written
-pub writing_puts : (bytes : List ℕ) (calls : List Call) → IsWriting calls → IsWriting (puts bytes calls)
-writing_puts [] calls is_writing = is_writing
-writing_puts (byte ∷ bytes) calls is_writing = writing_puts bytes (Put byte ∷ calls) (written_byte byte (written calls) is_writing)
-
 cut_at_once : (channel : Channel) (before : List Call) (piece : List ℕ) → IsCut channel before piece (failed channel piece ∷ before)
 cut_at_once File before piece = record {
   front = [];
@@ -83,7 +66,7 @@ put_once before now bytes (Ok x) is_writing called = record {
   sends = ap (λ o. o.calls) called;
   cut = tt;
   files = ap (λ o. o.files) called;
-  still = subst (λ (cs : List Call). IsWriting cs) (sym (ap (λ o. o.calls) called)) (writing_puts bytes before.calls is_writing);
+  still = subst (λ (cs : List Call). IsWriting cs) (sym (ap (λ o. o.calls) called)) (IsWriting-puts bytes before.calls is_writing);
 }
 put_once before now bytes (Err e) is_writing called = record {
   sends = tt;

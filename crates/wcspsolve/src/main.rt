@@ -2,7 +2,6 @@
 #![tactic(auto)]
 
 ghost use Rattle.std.specs.Prelude.{◌≡◌, [], IfOk};
-ghost use Rattle.std.specs.Process.{exit_status};
 ghost use Rattle.wcspsolve.specs.Ending.{Ended, Ran};
 
 use cfn_app::{OpenGate, Status, run};
@@ -12,19 +11,39 @@ use std::env;
 use std::env::{Args, Env};
 use std::fs::Files;
 use std::io::{Eprint, ErrorKind, Print};
-use std::process::ExitCode;
+use std::process::{ExitCode, Termination};
 
-fn main(rt: HostRuntime) -> ExitCode {
-    exit_of(&rt)
+/// The number that the program ends with. It keeps that a run ended so.
+#[derive(Drop)]
+struct Exit {
+    number: u8,
+    ghost ended: { ∥ Ended number ∥₁ },
 }
 
-/// Runs the program, and ends with its status, or with 6 where memory was refused before there was a run.
-fn exit_of<R: Env + AllocGlobal + Files + Print + Eprint + Sync>(rt: &R) -> ExitCode
-    ensures { Ended (exit_status result) }
+impl Termination for Exit {
+    ghost use Rattle.std.specs.Prelude.{◌≡◌};
+    ghost use Rattle.std.specs.Process.{exit_status};
+
+    fn report<R: Eprint>(self, _rt: &R) -> ExitCode
+        ensures { exit_status result ≡ self.number }
+    {
+        ExitCode::from(self.number)
+    }
+}
+
+fn main(rt: HostRuntime) -> Exit {
+    Exit {
+        number: exit_number(&rt),
+    }
+}
+
+/// Runs the program, and answers the number of its status, or 6 where memory was refused before there was a run.
+fn exit_number<R: Env + AllocGlobal + Files + Print + Eprint + Sync>(rt: &R) -> u8
+    ensures { Ended result }
 {
     match end_of(rt) {
-        Ok(status) => ExitCode::from(status.code()),
-        Err(AllocError) => ExitCode::from(Status::NoMemory.code()),
+        Ok(status) => status.code(),
+        Err(AllocError) => Status::NoMemory.code(),
     }
 }
 
