@@ -9,7 +9,7 @@ use Rattle.cfn_model.specs.Network.{Network, IsNetwork, Fits, cost}
 use Rattle.cfn_model.specs.Sums.{floor}
 use Rattle.cfn_model.specs.Steps.{after}
 use Rattle.cfn_model.specs.Tree.{Tree, Open, Closed, Split, IsClosed, leaf, bound, open_leaves}
-use Rattle.cfn_model.proofs.Bounding.{bounds, closed_leaves}
+use Rattle.cfn_model.proofs.CallerLemmas.{bounds, closed_leaves}
 use Rattle.cfn_core.specs.Pool.{Mark, Free, Out, leaf_of, PoolTree, Leaf, Shut, Fork, tree_of, IsLeaf, View}
 use Rattle.cfn_core.specs.World.{World, price, view_at, least_price, KeepsFitting, opening}
 use Rattle.cfn_core.specs.Laws.{IsWorld, AreNumbered, IsHanded, IsCovered, Always, Holds, IsFound, Solves}

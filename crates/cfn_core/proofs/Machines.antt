@@ -1,6 +1,7 @@
 -- What a machine keeps.
-use Rattle.std.proofs.Common.{◌≡◌, ℕ, ◌+◌, ◌*◌, ◌<◌, ◌≤◌, ◌^◌, List, [], ◌∷◌, ◌++◌, replicate, refl, sym, subst, ◌-◌, Some, arith}
+use Rattle.std.proofs.Common.{◌≡◌, ℕ, ◌+◌, ◌*◌, ◌<◌, ◌≤◌, List, [], ◌∷◌, ◌++◌, replicate, refl, sym, subst, ◌-◌, Some, arith}
 use Rattle.std.specs.List.{AllByRecursion}
+use Rattle.cfn_model.specs.declared.limits.TheConstants.{GREATEST}
 use Rattle.cfn_model.specs.Network.{Network, IsNetwork}
 use Rattle.cfn_core.specs.Pool.{Free, Leaf}
 use Rattle.cfn_core.specs.World.{World, new_view, opening}
@@ -19,7 +20,7 @@ opened P workers budget m network nodes next allowed spent view word views notes
     let tree : pool_tree m.nodes ≡ Leaf 0 Free = tree_read P (Leaf 0 Free) m.nodes nodes in cc
 
 pub is_opened : (P : Network) (workers budget : ℕ) (m : Machine) → m.network ≡ P → m.nodes ≡ nodes_of P [] (Leaf 0 Free) → m.next ≡ 1 → m.budget ≡ budget → m.spent ≡ 0 →
-    world_of m ≡ opening P workers budget → IsNetwork P → workers ≤ 64 → budget < 2 ^ 63 → IsMachine m
+    world_of m ≡ opening P workers budget → IsNetwork P → workers ≤ 64 → budget ≤ GREATEST → IsMachine m
 is_opened P workers budget m network nodes next allowed spent world is few small = record {
   network = subst IsNetwork (sym network) is;
   world = subst (λ Q. IsWorld Q (world_of m)) (sym network) (subst (IsWorld P) (sym world) (opens P workers budget is few));

@@ -11,7 +11,7 @@ use Rattle.cfn_proof.specs.declared.tree.End.{End as TreeEnd}
 use Rattle.cfn_proof.specs.declared.tree.End.TheVariants.{Free, Shut, Split as Divides}
 use Rattle.cfn_proof.specs.declared.tree.Node.{Node as Branching}
 use Rattle.cfn_proof.specs.Nodes.{node_at, with_children, tree_at, IsLinked}
-use Rattle.cfn_proof.proofs.TreeLemmas.{tree_at_is}
+use Rattle.cfn_proof.proofs.CallerLemmas.{tree_at_is}
 use Rattle.cfn_core.specs.declared.node.End.TheVariants.{FreeLeaf, ShutLeaf, Branch}
 use Rattle.cfn_core.specs.declared.node.Node.{Node}
 use Rattle.cfn_core.specs.declared.walk.Ahead.{Ahead}

@@ -1,7 +1,8 @@
 -- What contracts see of the machine that runs: its network, and the world as the definitions have it, with the pool's
 -- tree as the list of its nodes.
-use Rattle.std.specs.Prelude.{◌≡◌, ℕ, ◌+◌, ◌*◌, ◌<◌, ◌≤◌, ◌^◌, List, length, slice_index_or, Option, Some, None, if◌then◌else◌}
+use Rattle.std.specs.Prelude.{◌≡◌, ℕ, ◌+◌, ◌*◌, ◌<◌, ◌≤◌, List, length, slice_index_or, Option, Some, None, if◌then◌else◌}
 use Rattle.std.specs.List.{AllByRecursion}
+use Rattle.cfn_model.specs.declared.limits.TheConstants.{GREATEST}
 use Rattle.cfn_model.specs.Certificate.{Solution}
 use Rattle.cfn_model.specs.Network.{Network, IsNetwork}
 use Rattle.cfn_net.specs.Scoring.{Scoring}
@@ -118,7 +119,7 @@ pub record IsMachine (m : Machine) : Type 0 where
   pub numbered : AreNumbered (world_of m).pool
   pub handed : IsHanded m.network (world_of m)
   pub listed : IsListed m.network m.nodes
-  pub budget : m.budget < 2 ^ 63
+  pub budget : m.budget ≤ GREATEST
   pub next : m.next ≤ 1 + 2 * m.spent
 
 -- The assignments that are kept are of the network.

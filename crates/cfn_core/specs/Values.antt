@@ -1,5 +1,6 @@
 -- What contracts see of tasks and pieces: beside each the network that it is of.
 use Rattle.std.specs.Prelude.{◌≡◌, ℕ, ◌≤◌, List}
+use Rattle.cfn_model.specs.declared.limits.TheConstants.{GREATEST}
 use Rattle.cfn_model.specs.Network.{Network}
 use Rattle.cfn_proof.specs.declared.tree.Node.{Node as Branching}
 use Rattle.cfn_proof.specs.Nodes.{tree_of}
@@ -24,7 +25,7 @@ piece_of p = record { task = p.task; tree = tree_of p.nodes; threshold = p.thres
 -- It keeps what pieces keep, at a threshold that fits.
 pub record IsPieceValue (p : PieceValue) : Type 0 where
   pub piece : IsPiece p.network (piece_of p)
-  pub threshold : p.threshold ≤ 9223372036854775807
+  pub threshold : p.threshold ≤ GREATEST
 
 -- A task is of this network.
 abbrev pub IsTaskOf : Network → TaskValue → Type 0

@@ -1,6 +1,7 @@
 //! What a worker made of a task.
 
 ghost use Rattle.std.specs.Prelude.{◌≡◌, ◌≤◌};
+ghost use Rattle.cfn_model.specs.declared.limits.TheConstants.{GREATEST};
 ghost use Rattle.cfn_model.specs.Tree.{Valid, Strict, count};
 ghost use Rattle.cfn_proof.specs.Nodes.{tree_of};
 ghost use Rattle.cfn_core.specs.Pool.{IsPiece, HasEmptyOpen, Tame};
@@ -42,7 +43,7 @@ impl Piece {
         requires empty { HasEmptyOpen (tree_of tree) }
         requires some { 1 ≤ count (tree_of tree) }
         requires few { count (tree_of tree) ≤ task.task.grant }
-        requires threshold { threshold ≤ 9223372036854775807 }
+        requires threshold { threshold ≤ GREATEST }
         ensures { result ≡ record { network = task.network; task = task.task; nodes = tree; threshold = threshold } }
     {
         Piece {
@@ -55,7 +56,7 @@ impl Piece {
     /// Nothing: its contract tells a caller what a piece keeps.
     pub fn kept(&self)
         ensures piece { IsPiece self.now.network (piece_of self.now) }
-        ensures threshold { self.now.threshold ≤ 9223372036854775807 }
+        ensures threshold { self.now.threshold ≤ GREATEST }
     {
         let _ = &self.threshold;
     }

@@ -1,7 +1,8 @@
 //! The machine at work, on three variables of which each two cost 1 where they agree.
 
-ghost use Rattle.std.specs.Prelude.{◌≡◌, ◌<◌, ◌^◌, IsTrue, IfOk, IfSome};
+ghost use Rattle.std.specs.Prelude.{◌≡◌, ◌≤◌, IsTrue, IfOk, IfSome};
 ghost use Rattle.std.specs.List.{AllByRecursion};
+ghost use Rattle.cfn_model.specs.declared.limits.TheConstants.{GREATEST};
 ghost use Rattle.cfn_model.specs.Sums.{is_live, removes};
 ghost use Rattle.cfn_core.specs.Machine.{IsOf};
 ghost use Rattle.cfn_core.specs.Values.{IsTaskOf};
@@ -81,7 +82,7 @@ fn halved(
 
 /// The opening for one worker.
 fn opened<'n>(alloc: Global, network: &'n Network, budget: u64) -> Result<World<'n>, AllocError>
-    requires { budget < 2 ^ 63 }
+    requires { budget ≤ GREATEST }
     ensures { IfOk result (λ world. world.network ≡ network.now) }
 {
     World::start(alloc, network, 1, budget)

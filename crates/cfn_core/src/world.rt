@@ -1,7 +1,8 @@
 //! The machine that runs.
 
-ghost use Rattle.std.specs.Prelude.{◌≡◌, ◌<◌, ◌≤◌, ◌^◌, List, length, map, take, All, IfOk, IfErr, OnOk, OnErr};
+ghost use Rattle.std.specs.Prelude.{◌≡◌, ◌<◌, ◌≤◌, List, length, map, take, All, IfOk, IfErr, OnOk, OnErr};
 ghost use Rattle.std.specs.List.{AllByRecursion};
+ghost use Rattle.cfn_model.specs.declared.limits.TheConstants.{GREATEST};
 ghost use Rattle.cfn_core.specs.World.{opening};
 ghost use Rattle.cfn_core.specs.Actions.{Acts, Runs, TakesMemory, TakesMemoryAt, Reply as Answer};
 ghost use Rattle.cfn_core.specs.Laws.{Always, AreKept, AreOut, IsKept, IsNoRecall};
@@ -93,7 +94,7 @@ impl<'n> World<'n> {
     ) -> Result<World<'n>, AllocError>
         requires some { 1 ≤ workers }
         requires few { workers ≤ 64 }
-        requires budget { budget < 2 ^ 63 }
+        requires budget { budget ≤ GREATEST }
         ensures network { IfOk result (λ world. world.network ≡ network.now) }
         ensures world { IfOk result (λ world. world_of world ≡ opening network.now workers budget) }
         ensures out { IfOk result (λ world. AreOut (world_of world)) }
