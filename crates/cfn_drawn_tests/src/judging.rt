@@ -1,9 +1,9 @@
 //! A plain judge of a certificate's lines, which stands on the plain definitions alone: it shares no code with the
 //! checker, knows a place in the tree by its whole history, and asks the plain program of each step.
 
-use cfn_testing::drawing::MOST;
 use cfn_model::{Event, Step};
 use cfn_net::{Fit, Network};
+use cfn_testing::drawing::MOST;
 use std::alloc::{AllocError, Global};
 
 /// What a plain judge answers: how a line fails and which one, or that the certificate is good.

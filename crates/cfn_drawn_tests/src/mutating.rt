@@ -1,10 +1,10 @@
 //! Good certificates with one word or one line changed: what a run of `check` says of them is what the plain judge
 //! says.
 
-use cfn_testing::drawing::{Dice, MOST, draw, file_of};
 use crate::judging::{Kind, Verdict, number, verdict_of, words_of};
-use cfn_testing::running::{certificate_of, check_answers};
 use cfn_net::Network;
+use cfn_testing::drawing::{Dice, MOST, draw, file_of};
+use cfn_testing::running::{certificate_of, check_answers};
 use std::alloc::{AllocError, Global};
 use std::test::Fail;
 

@@ -21,7 +21,12 @@ fn writing_desk(rt: &HostRuntime, failing: &[u64]) -> Result<MemoryDesk, Fail>
 /// A word is one put, and one that is longer than 31 bytes two.
 #[test]
 fn file_takes_a_word_at_a_time(rt: HostRuntime) -> Result<(), Fail> {
-    let words = [Word::Name("u"), Word::Number(0), Word::Name(LONG), Word::Number(u64::MAX)];
+    let words = [
+        Word::Name("u"),
+        Word::Number(0),
+        Word::Name(LONG),
+        Word::Number(u64::MAX),
+    ];
     let mut desk = writing_desk(&rt, &[])?;
     assert_eq!(rt; write_line(Channel::File, &words, &mut desk), Ok(()));
     let text = b"u 0 a-word-that-is-longer-than-a-piece 18446744073709551615\n";
@@ -32,7 +37,12 @@ fn file_takes_a_word_at_a_time(rt: HostRuntime) -> Result<(), Fail> {
 /// Each of the five puts of that line in turn fails, and there is no sixth.
 #[test]
 fn each_put_of_a_line_may_fail(rt: HostRuntime) -> Result<(), Fail> {
-    let words = [Word::Name("u"), Word::Number(0), Word::Name(LONG), Word::Number(7)];
+    let words = [
+        Word::Name("u"),
+        Word::Number(0),
+        Word::Name(LONG),
+        Word::Number(7),
+    ];
     for failing in 2..7 {
         let mut desk = writing_desk(&rt, &[failing])?;
         assert_eq!(rt; write_line(Channel::File, &words, &mut desk), Err(Failed));
@@ -47,12 +57,21 @@ fn each_put_of_a_line_may_fail(rt: HostRuntime) -> Result<(), Fail> {
 fn screen_takes_a_line_at_a_time(rt: HostRuntime) -> Result<(), Fail> {
     let mut desk = MemoryDesk::make(rt.alloc(), &[], 0, 8192, &[2])?;
     let short = [7; 2045];
-    assert_eq!(rt; write_list(Channel::Screen, "list", &short, &mut desk), Ok(()));
+    assert_eq!(rt;
+        write_list(Channel::Screen, "list", &short, &mut desk),
+        Ok(())
+    );
     assert_eq!(rt; desk.said_bytes().len(), 4095);
-    assert_eq!(rt; write_list(Channel::Screen, "list", &short, &mut desk), Err(Failed));
+    assert_eq!(rt;
+        write_list(Channel::Screen, "list", &short, &mut desk),
+        Err(Failed)
+    );
     let mut desk = MemoryDesk::make(rt.alloc(), &[], 0, 8192, &[])?;
     let long = [7; 3000];
-    assert_eq!(rt; write_list(Channel::Screen, "list", &long, &mut desk), Ok(()));
+    assert_eq!(rt;
+        write_list(Channel::Screen, "list", &long, &mut desk),
+        Ok(())
+    );
     assert_eq!(rt; desk.said_bytes().len(), 6005);
     assert!(rt; desk.said_bytes().ends_with(b"7 7\n"));
     Ok(())

@@ -74,11 +74,7 @@ impl Run {
 }
 
 /// The certificate that `solve` writes of a file with this budget, or nothing where there is none.
-pub fn certificate_of(
-    rt: &HostRuntime,
-    file: &[u8],
-    budget: &str,
-) -> Result<Vec<u8>, AllocError> {
+pub fn certificate_of(rt: &HostRuntime, file: &[u8], budget: &str) -> Result<Vec<u8>, AllocError> {
     let mut desk = MemoryDesk::make(rt.alloc(), &[("in", file)], 20_000, 2_000, &[])?;
     let words = ["wcspsolve", "solve", "in", "out", "--budget", budget];
     let _status = run(rt, rt.alloc(), &words, &mut desk, &OpenGate);
