@@ -15,7 +15,7 @@ pub struct Failed;
 
 /// Named files, one file that is being written, and a place to say text.
 ///
-/// Names and files are bytes. Only `load` takes memory. Every desk tells the calls that were made, with their bytes and
+/// Names and files are bytes. Only `load` takes memory, and the real desk to follow a link. Every desk tells the calls that were made, with their bytes and
 /// answers; one that tells its files goes on telling them.
 pub trait Desk {
     ghost use Rattle.std.specs.Prelude.{◌≡◌, [], ◌∷◌, OnOk, OnErr, is_ok};

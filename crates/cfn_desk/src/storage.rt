@@ -67,7 +67,6 @@ pub trait Storage: Drop {
 
     /// Opens what stands at that name and is no regular file. Files that are told have no such thing.
     fn open_in_place(&mut self, name: &str) -> io::Result<()>
-        requires { files self.old ≡ None }
         ensures none { new_file self.new ≡ None }
         ensures same_files { files self.new ≡ files self.old };
 
@@ -88,7 +87,6 @@ pub trait Storage: Drop {
 
     /// Ends what was opened in place.
     fn close(&mut self)
-        requires { files self.old ≡ None }
         ensures none { new_file self.new ≡ None }
         ensures same_files { files self.new ≡ files self.old };
 
