@@ -1,19 +1,21 @@
 -- In a valid tree no assignment below the threshold has a closed leaf, and the bound is at most every cost.
 use Rattle.std.proofs.Common.{◌≡◌, ◌≢◌, ℕ, zero, suc, ◌<◌, ◌≤◌, inl, inr, min, List, [], ◌∷◌, length, refl, sym, ap, ◌∙◌, subst, arith}
-use Rattle.std.proofs.lemmas.Bool.{cases_lt}
+use Rattle.std.proofs.lemmas.Bool.{cases_lt, cases_Bool}
 use Rattle.std.proofs.lemmas.Int.{ints}
 use Rattle.std.proofs.lemmas.List.Sums.{get_or-le-sum_by}
 use Rattle.std.specs.Prelude.{ℤ, pos, ◌+ℤ◌, ◌≤ℤ◌, neg_ℤ, Bool, true, false, not, ◌&&◌, ◌||◌, ◌==◌, IsTrue, slice_index, nat_lt, if◌then◌else◌, Option, Some, None}
 use Rattle.cfn_model.specs.declared.step.Step.{Step}
 use Rattle.cfn_model.specs.declared.step.Step.TheVariants.{Project, Extend, Lift, CutValue, CutTuple}
+use Rattle.cfn_model.specs.declared.step.Decision.{Decision}
 use Rattle.cfn_model.specs.declared.step.Event.{Event}
-use Rattle.cfn_model.specs.declared.step.Event.TheVariants.{Did, Is, IsNot}
+use Rattle.cfn_model.specs.declared.step.Event.TheVariants.{Did, Took, Refused}
 use Rattle.cfn_model.specs.Network.{Function, Network, IsNetwork, Fits, restrict, scope_at, arity, variable_at, no_function, entry, entry_at, dims, dims_at, cell, total}
+use Rattle.cfn_model.specs.Decisions.{variable_of, keeps, holds}
 use Rattle.cfn_model.specs.Sums.{when, floor, unary, residual, is_live, is_cut, all_live, is_live_tuple}
 use Rattle.cfn_model.specs.Steps.{AllInRange, Allowed, Run, after}
-use Rattle.cfn_model.specs.Tree.{Tree, Open, Closed, Split, IsClosed, leaf, CanClose, Valid, bound}
+use Rattle.cfn_model.specs.Tree.{Tree, Open, Closed, Split, IsOpen, IsClosed, leaf, leaf_history, CanClose, Valid, bound}
 use Rattle.cfn_model.specs.Certificate.{Solution, Certificate, Good, IsSolution, IsBest, threshold}
-use Rattle.cfn_model.specs.Laws.{Bounds, ClosedLeaves, LowerBounds, Optimum, NoneBelow}
+use Rattle.cfn_model.specs.Laws.{Bounds, ClosedLeaves, EachLeaf, LowerBounds, Optimum, NoneBelow}
 use Rattle.cfn_model.proofs.Sum.{sum_below-not_negative, sum_below-at_least}
 use Rattle.cfn_model.proofs.Equivalence.{equivalence}
 
@@ -119,22 +121,41 @@ still_uncut : (b c : Bool) → (b ≡ true → ⊥) → c ≡ false → (b || c)
 still_uncut true c never h = absurd (never refl)
 still_uncut false c never h = h
 
-not_different : (a b : ℕ) → a ≡ b → not (a == b) ≡ true → ⊥
-not_different a b h k = grind arith
+-- what is said of an assignment that costs less than the threshold: its leaf is open, with a floor of at most its total
+pub record AtLeaf (P : Network) (history : List Event) (tree : Tree) (values : List ℕ) (k : ℕ) : Type 0 where
+  pub open_leaf : IsOpen (leaf values tree)
+  pub floor_below : floor P (leaf_history values history tree) ≤ total P values
+  pub bound_below : bound P history tree k ≤ total P values
 
-different_of : (a b : ℕ) → (a == b) ≡ false → a ≢ b
-different_of a b h e = grind arith
-
--- the leaf and the bound of a split, by the side that the assignment takes
-split_case : (values : List ℕ) (b : Bool) (first second : Tree) (m n t : ℕ) → (b ≡ true → (IsClosed (leaf values first) → ⊥) × (m ≤ t)) → (b ≡ false → (IsClosed (leaf values second) → ⊥) × (n ≤ t)) → (IsClosed (if b then leaf values first else leaf values second) → ⊥) × (min m n ≤ t)
-split_case values true first second m n t left right = let l = left refl in (l.0, omega (arith, l.1))
-split_case values false first second m n t left right = let r = right refl in (r.0, omega (arith, r.1))
+-- at a split it is said of the side that the assignment takes
+split_case : (P : Network) (history : List Event) (block : List Step) (d : Decision) (first second : Tree) (values : List ℕ) (k : ℕ)
+    → (holds d values ≡ true → AtLeaf P (Took d ∷ after block history) first values k) → (holds d values ≡ false → AtLeaf P (Refused d ∷ after block history) second values k)
+    → AtLeaf P history (Split block d first second) values k
+split_case P history block d first second values k left right = elim (cases_Bool (holds d values)) [
+  | inl is ↦ (let l = left is in record {
+      open_leaf = rw is l.open_leaf;
+      floor_below = rw is l.floor_below;
+      bound_below = omega (arith, l.bound_below);
+    })
+  | inr not ↦ (let r = right not in record {
+      open_leaf = rw not r.open_leaf;
+      floor_below = rw not r.floor_below;
+      bound_below = omega (arith, r.bound_below);
+    })
+]
 
 -- the bound is at most the threshold
 pub bound_low : (P : Network) (history : List Event) (tree : Tree) (k : ℕ) → bound P history tree k ≤ k
 bound_low P history (Open block) k = omega arith
 bound_low P history (Closed block) k = omega arith
-bound_low P history (Split block x a first second) k = let l = bound_low P (Is x a ∷ after block history) first k in omega (arith, l)
+bound_low P history (Split block d first second) k = let l = bound_low P (Took d ∷ after block history) first k in omega (arith, l)
+
+both_ways : {b : Bool} → b ≡ true → b ≡ false → ⊥
+both_ways h k = cc
+
+not_both : (b : Bool) → b ≡ true → not b ≡ true → ⊥
+not_both true h k = let c : false ≡ true = k in cc
+not_both false h k = let c : false ≡ true = h in cc
 
 module _ (P : Network) (values : List ℕ) (k : ℕ) (network : IsNetwork P) (fits : Fits P.sizes values) (low : k ≤ P.upper) (cheap : total P values < k) where
   step_kept : (history : List Event) (step : Step) → Along P history values → Allowed P history k step → Along P (Did step ∷ history) values
@@ -195,23 +216,23 @@ module _ (P : Network) (values : List ℕ) (k : ℕ) (network : IsNetwork P) (fi
   run_kept history [] along run = along
   run_kept history (step ∷ block) along run = run_kept (Did step ∷ history) block (step_kept history step along run.0) run.1
 
-  is_kept : (history : List Event) (x a : ℕ) → Along P history values → slice_index values x ≡ a → Along P (Is x a ∷ history) values
-  is_kept history x a along is = record {
+  took_kept : (history : List Event) (d : Decision) → Along P history values → holds d values ≡ true → Along P (Took d ∷ history) values
+  took_kept history d along is = record {
     in_range = (tt, along.in_range);
-    live = λ y h. still_live ((x == y) && not (a == slice_index values y)) _ (λ test.
-        let p = and_true (x == y) (not (a == slice_index values y)) test in
-        not_different a (slice_index values y) (sym is ∙ ap (slice_index values) (same_of x y p.0)) p.1) (along.live y h);
+    live = λ y h. still_live ((variable_of d == y) && not (keeps d (slice_index values y))) _ (λ test.
+        let p = and_true (variable_of d == y) (not (keeps d (slice_index values y))) test in
+        not_both (keeps d (slice_index values y)) (sym (ap (λ x. keeps d (slice_index values x)) (same_of (variable_of d) y p.0)) ∙ is) p.1) (along.live y h);
     uncut = along.uncut;
     unary_costs = λ y h. let u = along.unary_costs y h in omega (arith, ints, u);
     residual_costs = λ g h. let r = along.residual_costs g h in omega (arith, ints, r);
   }
 
-  is_not_kept : (history : List Event) (x a : ℕ) → Along P history values → slice_index values x ≢ a → Along P (IsNot x a ∷ history) values
-  is_not_kept history x a along other = record {
+  refused_kept : (history : List Event) (d : Decision) → Along P history values → holds d values ≡ false → Along P (Refused d ∷ history) values
+  refused_kept history d along is = record {
     in_range = (tt, along.in_range);
-    live = λ y h. still_live ((x == y) && (a == slice_index values y)) _ (λ test.
-        let same = both_same x y a (slice_index values y) test in
-        other (ap (slice_index values) same.0 ∙ sym same.1)) (along.live y h);
+    live = λ y h. still_live ((variable_of d == y) && keeps d (slice_index values y)) _ (λ test.
+        let p = and_true (variable_of d == y) (keeps d (slice_index values y)) test in
+        both_ways p.1 (sym (ap (λ x. keeps d (slice_index values x)) (same_of (variable_of d) y p.0)) ∙ is)) (along.live y h);
     uncut = along.uncut;
     unary_costs = λ y h. let u = along.unary_costs y h in omega (arith, ints, u);
     residual_costs = λ g h. let r = along.residual_costs g h in omega (arith, ints, r);
@@ -223,30 +244,38 @@ module _ (P : Network) (values : List ℕ) (k : ℕ) (network : IsNetwork P) (fi
       let live = along.live wiped.0 wiped.1 in
       let dead = wiped.2 (slice_index values wiped.0) (fits_at P.sizes values wiped.0 fits wiped.1) in
       both_ways live dead
-    where
-      both_ways : {b : Bool} → b ≡ true → b ≡ false → ⊥
-      both_ways h k = cc
 
-  at_leaf : (tree : Tree) (history : List Event) → Along P history values → Valid P history tree k → (IsClosed (leaf values tree) → ⊥) × (bound P history tree k ≤ total P values)
+  at_leaf : (tree : Tree) (history : List Event) → Along P history values → Valid P history tree k → AtLeaf P history tree values k
   at_leaf (Open block) history along valid =
       let f = floor_below P (after block history) values network fits (run_kept history block along valid) in
-      (λ closed. closed, omega (arith, f))
+      record { open_leaf = tt; floor_below = f; bound_below = omega (arith, f) }
   at_leaf (Closed block) history along valid = absurd (contradiction (after block history) (run_kept history block along valid.0) valid.1)
-  at_leaf (Split block x a first second) history along valid =
+  at_leaf (Split block d first second) history along valid =
       let here = run_kept history block along valid.0 in
-      split_case values (slice_index values x == a) first second _ _ _
-      (λ test. at_leaf first (Is x a ∷ after block history) (is_kept (after block history) x a here (same_of (slice_index values x) a test)) valid.2)
-      (λ test. at_leaf second (IsNot x a ∷ after block history) (is_not_kept (after block history) x a here (different_of (slice_index values x) a test)) valid.3)
+      split_case P history block d first second values k
+      (λ is. at_leaf first (Took d ∷ after block history) (took_kept (after block history) d here is) valid.2)
+      (λ is. at_leaf second (Refused d ∷ after block history) (refused_kept (after block history) d here is) valid.3)
 
 pub bounds : Bounds
 bounds P tree k values network low valid fits = elim (cases_lt (total P values) k) [
-  | inl cheap ↦ (let l = at_leaf P values k network fits low cheap tree [] (at_none P values) valid in let b = bound_low P [] tree k in omega (arith, l.1, b))
+  | inl cheap ↦ (let l = at_leaf P values k network fits low cheap tree [] (at_none P values) valid in let b = bound_low P [] tree k in omega (arith, l.bound_below, b))
   | inr dear ↦ (let b = bound_low P [] tree k in omega (arith, b))
 ]
 
+open_not_closed : (tree : Tree) → IsOpen tree → IsClosed tree → ⊥
+open_not_closed (Open block) opened closed = closed
+open_not_closed (Closed block) opened closed = opened
+open_not_closed (Split block d first second) opened closed = opened
+
 pub closed_leaves : ClosedLeaves
 closed_leaves P tree k values network low valid fits cheap closed =
-    (at_leaf P values k network fits low (omega arith) tree [] (at_none P values) valid).0 closed
+    open_not_closed (leaf values tree) (at_leaf P values k network fits low (omega arith) tree [] (at_none P values) valid).open_leaf closed
+
+pub each_leaf : EachLeaf
+each_leaf P tree k values network low valid fits = elim (cases_lt (total P values) k) [
+  | inl cheap ↦ (let l = at_leaf P values k network fits low cheap tree [] (at_none P values) valid in inl (l.open_leaf, l.floor_below))
+  | inr dear ↦ inr (omega (arith, low, dear))
+]
 
 threshold_low : (P : Network) (c : Certificate) → Good P c → threshold c ≤ P.upper
 threshold_low P c good = by_best c.best refl

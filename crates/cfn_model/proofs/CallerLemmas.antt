@@ -1,6 +1,6 @@
 -- What the crates above cite of the proofs here.
 pub use Rattle.cfn_model.proofs.Equivalence.{restrict_at, when_true, when_false, eqb_same, eqb_other}
-pub use Rattle.cfn_model.proofs.Bounding.{bound_low, bounds, closed_leaves, fits_at, fits_length, lower_bounds, none_below, optimum}
+pub use Rattle.cfn_model.proofs.Bounding.{bound_low, bounds, closed_leaves, each_leaf, fits_at, fits_length, lower_bounds, none_below, optimum}
 pub use Rattle.cfn_model.proofs.Lowering.{close_lower, run_lower, valid_lower}
 pub use Rattle.cfn_model.proofs.KeptLimits.{read_networks}
 pub use Rattle.cfn_model.proofs.Trying.{at_most}

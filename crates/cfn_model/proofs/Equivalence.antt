@@ -5,7 +5,7 @@ use Rattle.std.proofs.lemmas.List.Sums.{sum_by-cons}
 use Rattle.std.specs.Prelude.{ℤ, pos, ◌+ℤ◌, neg_ℤ, Bool, true, false, ◌&&◌, ◌==◌, sum_by, slice_index, slice_index_or, nat_lt}
 use Rattle.cfn_model.specs.declared.step.Step.TheVariants.{Project, Extend, Lift, CutValue, CutTuple}
 use Rattle.cfn_model.specs.declared.step.Event.{Event}
-use Rattle.cfn_model.specs.declared.step.Event.TheVariants.{Did, Is, IsNot}
+use Rattle.cfn_model.specs.declared.step.Event.TheVariants.{Did, Took, Refused}
 use Rattle.cfn_model.specs.Network.{Function, Network, IsNetwork, restrict, scope_at, variable_at, no_function, entry, dims, cell, total}
 use Rattle.cfn_model.specs.Sums.{when, constant, constant_of, lifted, unary_by, unary, residual_by, residual}
 use Rattle.cfn_model.specs.Steps.{EventInRange}
@@ -103,8 +103,8 @@ nothing P (Did (Lift x m)) values network range =
     omega (arith, ints, left, right)
 nothing P (Did (CutValue x a)) values network range = let left = sum_below-zero (length P.sizes) in let right = sum_below-zero (length P.functions) in omega (arith, ints, left, right)
 nothing P (Did (CutTuple f c)) values network range = let left = sum_below-zero (length P.sizes) in let right = sum_below-zero (length P.functions) in omega (arith, ints, left, right)
-nothing P (Is x a) values network range = let left = sum_below-zero (length P.sizes) in let right = sum_below-zero (length P.functions) in omega (arith, ints, left, right)
-nothing P (IsNot x a) values network range = let left = sum_below-zero (length P.sizes) in let right = sum_below-zero (length P.functions) in omega (arith, ints, left, right)
+nothing P (Took d) values network range = let left = sum_below-zero (length P.sizes) in let right = sum_below-zero (length P.functions) in omega (arith, ints, left, right)
+nothing P (Refused d) values network range = let left = sum_below-zero (length P.sizes) in let right = sum_below-zero (length P.functions) in omega (arith, ints, left, right)
 
 pub equivalence : Equivalence
 equivalence P [] values network fits range =

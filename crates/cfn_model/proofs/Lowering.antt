@@ -5,7 +5,7 @@ use Rattle.std.specs.Prelude.{ℤ, pos, ◌≤ℤ◌}
 use Rattle.cfn_model.specs.declared.step.Step.{Step}
 use Rattle.cfn_model.specs.declared.step.Step.TheVariants.{Project, Extend, Lift, CutValue, CutTuple}
 use Rattle.cfn_model.specs.declared.step.Event.{Event}
-use Rattle.cfn_model.specs.declared.step.Event.TheVariants.{Did, Is, IsNot}
+use Rattle.cfn_model.specs.declared.step.Event.TheVariants.{Did, Took, Refused}
 use Rattle.cfn_model.specs.Network.{Network}
 use Rattle.cfn_model.specs.Steps.{Allowed, after}
 use Rattle.cfn_model.specs.Tree.{Open, Closed, Split, CanClose}
@@ -32,5 +32,5 @@ close_lower P history k low h (inr wiped) = inr wiped
 pub valid_lower : ValidLowering
 valid_lower P history (Open block) k low h valid = run_lower P history block k low h valid
 valid_lower P history (Closed block) k low h valid = (run_lower P history block k low h valid.0, close_lower P (after block history) k low h valid.1)
-valid_lower P history (Split block x a first second) k low h valid =
-    (run_lower P history block k low h valid.0, valid.1, valid_lower P (Is x a ∷ after block history) first k low h valid.2, valid_lower P (IsNot x a ∷ after block history) second k low h valid.3)
+valid_lower P history (Split block d first second) k low h valid =
+    (run_lower P history block k low h valid.0, valid.1, valid_lower P (Took d ∷ after block history) first k low h valid.2, valid_lower P (Refused d ∷ after block history) second k low h valid.3)

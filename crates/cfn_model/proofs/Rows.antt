@@ -12,6 +12,7 @@ use Rattle.cfn_model.specs.Network.{Function, Network, Fits, Least, cost}
 use Rattle.cfn_model.specs.Sums.{floor, unary, residual}
 use Rattle.cfn_model.specs.Steps.{CanProject, CanLift}
 use Rattle.cfn_model.specs.Tree.{Open, Closed}
+use Rattle.cfn_model.specs.declared.version.Version.TheVariants.{First, Second}
 use Rattle.cfn_model.specs.Certificate.{Certificate, Good}
 use Rattle.cfn_model.specs.Text.{spelling, IsSpelledStep, Spells}
 use Rattle.cfn_model.specs.Reading.{Reads, Refuses, check_variable, check_default, check_count, natural_at, sizes_at, scope_from, tuple_at, listing_at, listings_at, function_from, functions_from, network_at}
@@ -262,12 +263,12 @@ pub shifted_other_residual : residual tiny shifted 0 (1 ∷ []) ≡ pos 0
 shifted_other_residual = refl
 
 -- the text of two certificates
-pub open_text : spelling (record { variables = 1; functions = 1; upper = 10; best = None; lower = 4; tree = Open [] }) ≡ codes "wcspcert 1\nnetwork 1 1 10\nlower 4\nbest none\ntree\nopen\nend\n"
+pub open_text : spelling (record { version = First; variables = 1; functions = 1; upper = 10; best = None; lower = 4; tree = Open [] }) ≡ codes "wcspcert 1\nnetwork 1 1 10\nlower 4\nbest none\ntree\nopen\nend\n"
 unfolding digits
 open_text = refl
 
 abbrev tiny_certificate : ℕ → ℕ → ℕ → Certificate
-tiny_certificate upper lower amount = record { variables = 1; functions = 1; upper = upper; best = Some (record { cost = 1; values = 1 ∷ [] }); lower = lower; tree = Closed (Project 0 0 0 3 ∷ Project 0 0 1 1 ∷ Lift 0 amount ∷ []) }
+tiny_certificate upper lower amount = record { version = First; variables = 1; functions = 1; upper = upper; best = Some (record { cost = 1; values = 1 ∷ [] }); lower = lower; tree = Closed (Project 0 0 0 3 ∷ Project 0 0 1 1 ∷ Lift 0 amount ∷ []) }
 
 pub tiny_text : spelling (tiny_certificate 10 1 1) ≡ codes "wcspcert 1\nnetwork 1 1 10\nlower 1\nbest 1\nvalues 1\ntree\np 0 0 0 3\np 0 0 1 1\nu 0 1\nclosed\nend\n"
 unfolding digits
@@ -284,11 +285,12 @@ tiny_spelled = record {
     best = (lit≤ tt, lit< tt, (lit≤ tt, tt));
     lower = lit≤ tt;
     tree = ((lit≤ tt, lit≤ tt, lit≤ tt, lit< tt, lit≤ tt), ((lit≤ tt, lit≤ tt, lit≤ tt, lit< tt, lit≤ tt), ((lit≤ tt, lit< tt, lit≤ tt), tt)));
+    has_tree = tt;
   };
   exact = refl;
 }
 
-pub byte_behind_end : Spells (record { variables = 1; functions = 1; upper = 10; best = None; lower = 4; tree = Open [] }) (codes "wcspcert 1\nnetwork 1 1 10\nlower 4\nbest none\ntree\nopen\nend\n\n") → ⊥
+pub byte_behind_end : Spells (record { version = First; variables = 1; functions = 1; upper = 10; best = None; lower = 4; tree = Open [] }) (codes "wcspcert 1\nnetwork 1 1 10\nlower 4\nbest none\ntree\nopen\nend\n\n") → ⊥
 unfolding digits
 byte_behind_end spells = apart 59 58 (ap length spells.exact) (lit< tt)
 

@@ -2,8 +2,9 @@
 use Rattle.std.proofs.Common.{◌≡◌, zero, suc, ◌<◌, arith, List, [], ◌∷◌, true, false, refl, lit<}
 use Rattle.std.specs.Prelude.{codes, pos, negsuc}
 use Rattle.cfn_model.specs.declared.step.Step.TheVariants.{Project, Extend, Lift, CutValue, CutTuple}
+use Rattle.cfn_model.specs.declared.step.Decision.TheVariants.{Is, Most}
 use Rattle.cfn_model.specs.declared.step.Event.{Event}
-use Rattle.cfn_model.specs.declared.step.Event.TheVariants.{Did, Is, IsNot}
+use Rattle.cfn_model.specs.declared.step.Event.TheVariants.{Did, Took, Refused}
 use Rattle.cfn_model.specs.Network.{Network, cell}
 use Rattle.cfn_model.specs.Sums.{floor, unary, residual, is_live, is_live_tuple}
 use Rattle.cfn_model.specs.Steps.{Allowed, CanProject, CanLift}
@@ -85,10 +86,10 @@ pub project_of_0 : Allowed pair [] 10 (Project 1 1 0 0) → ⊥
 project_of_0 allowed = let h : 0 < 0 = allowed.1 in absurd (omega arith)
 
 -- a tuple with an entry at the upper bound is dead, so any amount may be projected from it
-pub project_from_dead_tuple : Allowed pair (Is 0 1 ∷ []) 10 (Project 1 1 1 9223372036854775807)
-project_from_dead_tuple = (record { function = lit< tt; place = lit< tt; value = lit< tt }, lit< tt, can_project pair (Is 0 1 ∷ []) 1 1 1 9223372036854775807 refl refl)
+pub project_from_dead_tuple : Allowed pair (Took (Is 0 1) ∷ []) 10 (Project 1 1 1 9223372036854775807)
+project_from_dead_tuple = (record { function = lit< tt; place = lit< tt; value = lit< tt }, lit< tt, can_project pair (Took (Is 0 1) ∷ []) 1 1 1 9223372036854775807 refl refl)
 
-pub project_from_live_tuple : Allowed pair (Is 0 0 ∷ []) 10 (Project 1 1 1 1) → ⊥
+pub project_from_live_tuple : Allowed pair (Took (Is 0 0) ∷ []) 10 (Project 1 1 1 1) → ⊥
 project_from_live_tuple allowed = (allowed.2 (0 ∷ 1 ∷ []) (lit< tt, (lit< tt, tt)) refl refl).le
 
 -- an extend is allowed as far as the value has enough
@@ -179,24 +180,30 @@ cut_of_no_tuple allowed = let h : 4 < 4 = allowed.0.cell in absurd (omega arith)
 pub cut_values : (is_live (Did (CutValue 0 1) ∷ []) 0 1 ≡ false) × (is_live (Did (CutValue 0 1) ∷ []) 0 0 ≡ true) × (is_live (Did (CutValue 0 1) ∷ []) 1 1 ≡ true)
 cut_values = (refl, refl, refl)
 
-pub is_values : (is_live (Is 0 1 ∷ []) 0 0 ≡ false) × (is_live (Is 0 1 ∷ []) 0 1 ≡ true) × (is_live (Is 0 1 ∷ []) 0 2 ≡ false) × (is_live (Is 0 1 ∷ []) 1 0 ≡ true)
+pub is_values : (is_live (Took (Is 0 1) ∷ []) 0 0 ≡ false) × (is_live (Took (Is 0 1) ∷ []) 0 1 ≡ true) × (is_live (Took (Is 0 1) ∷ []) 0 2 ≡ false) × (is_live (Took (Is 0 1) ∷ []) 1 0 ≡ true)
 is_values = (refl, refl, refl, refl)
 
-pub is_not_values : (is_live (IsNot 0 1 ∷ []) 0 0 ≡ true) × (is_live (IsNot 0 1 ∷ []) 0 1 ≡ false) × (is_live (IsNot 0 1 ∷ []) 0 2 ≡ true) × (is_live (IsNot 0 1 ∷ []) 1 1 ≡ true)
+pub is_not_values : (is_live (Refused (Is 0 1) ∷ []) 0 0 ≡ true) × (is_live (Refused (Is 0 1) ∷ []) 0 1 ≡ false) × (is_live (Refused (Is 0 1) ∷ []) 0 2 ≡ true) × (is_live (Refused (Is 0 1) ∷ []) 1 1 ≡ true)
 is_not_values = (refl, refl, refl, refl)
 
+pub most_values : (is_live (Took (Most 0 1) ∷ []) 0 0 ≡ true) × (is_live (Took (Most 0 1) ∷ []) 0 1 ≡ true) × (is_live (Took (Most 0 1) ∷ []) 0 2 ≡ false) × (is_live (Took (Most 0 1) ∷ []) 1 2 ≡ true)
+most_values = (refl, refl, refl, refl)
+
+pub above_values : (is_live (Refused (Most 0 1) ∷ []) 0 0 ≡ false) × (is_live (Refused (Most 0 1) ∷ []) 0 1 ≡ false) × (is_live (Refused (Most 0 1) ∷ []) 0 2 ≡ true) × (is_live (Refused (Most 0 1) ∷ []) 1 0 ≡ true)
+above_values = (refl, refl, refl, refl)
+
 -- a value that was taken stays so
-pub still_dead : is_live (Did (Lift 0 1) ∷ IsNot 1 0 ∷ Is 0 1 ∷ []) 0 0 ≡ false
+pub still_dead : is_live (Did (Lift 0 1) ∷ Refused (Is 1 0) ∷ Took (Is 0 1) ∷ []) 0 0 ≡ false
 still_dead = refl
 
 -- a tuple is live until one of its values or itself is cut, where its entry is below the upper bound
 pub pair_live : (is_live_tuple pair [] 1 (0 ∷ 0 ∷ []) ≡ true) × (is_live_tuple pair [] 1 (1 ∷ 1 ∷ []) ≡ false)
 pair_live = (refl, refl)
 
-pub first_value_dead : (is_live_tuple pair (Is 0 1 ∷ []) 1 (0 ∷ 0 ∷ []) ≡ false) × (is_live_tuple pair (Is 0 1 ∷ []) 1 (1 ∷ 0 ∷ []) ≡ true)
+pub first_value_dead : (is_live_tuple pair (Took (Is 0 1) ∷ []) 1 (0 ∷ 0 ∷ []) ≡ false) × (is_live_tuple pair (Took (Is 0 1) ∷ []) 1 (1 ∷ 0 ∷ []) ≡ true)
 first_value_dead = (refl, refl)
 
-pub second_value_dead : (is_live_tuple pair (IsNot 1 0 ∷ []) 1 (0 ∷ 0 ∷ []) ≡ false) × (is_live_tuple pair (IsNot 1 0 ∷ []) 1 (0 ∷ 1 ∷ []) ≡ true)
+pub second_value_dead : (is_live_tuple pair (Refused (Is 1 0) ∷ []) 1 (0 ∷ 0 ∷ []) ≡ false) × (is_live_tuple pair (Refused (Is 1 0) ∷ []) 1 (0 ∷ 1 ∷ []) ≡ true)
 second_value_dead = (refl, refl)
 
 pub tuple_dead : (is_live_tuple pair (Did (CutTuple 1 2) ∷ []) 1 (1 ∷ 0 ∷ []) ≡ false) × (is_live_tuple pair (Did (CutTuple 1 2) ∷ []) 1 (0 ∷ 1 ∷ []) ≡ true)

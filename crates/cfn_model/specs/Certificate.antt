@@ -1,5 +1,6 @@
 -- Certificates, and what makes one good.
 use Rattle.std.specs.Prelude.{◌≡◌, ℕ, ◌<◌, ◌≤◌, List, [], length, Option, Some, None}
+use Rattle.cfn_model.specs.declared.version.Version.{Version}
 use Rattle.cfn_model.specs.Network.{Network, Fits, cost}
 use Rattle.cfn_model.specs.Tree.{Tree, Valid, bound}
 
@@ -8,9 +9,10 @@ pub record Solution : Type 0 where
   pub cost : ℕ
   pub values : List ℕ
 
--- How many variables and functions the network has, its upper bound, the best assignment that is known, a lower
--- bound, and the tree that shows it.
+-- The version of its text, how many variables and functions the network has, its upper bound, the best assignment that
+-- is known, a lower bound, and the tree that shows it.
 pub record Certificate : Type 0 where
+  pub version : Version
   pub variables : ℕ
   pub functions : ℕ
   pub upper : ℕ

@@ -1,11 +1,11 @@
 -- The laws that make a certificate worth something (Cooper et al. 2010, Allouche et al. 2015).
-use Rattle.std.specs.Prelude.{◌≡◌, ℕ, zero, suc, ◌<◌, ◌≤◌, List, [], length, slice_index, ℤ, pos, ◌+ℤ◌, Some}
+use Rattle.std.specs.Prelude.{◌≡◌, ℕ, zero, suc, ◌<◌, ◌≤◌, ◌⊎◌, List, [], length, slice_index, ℤ, pos, ◌+ℤ◌, Some}
 use Rattle.cfn_model.specs.declared.step.Step.{Step}
 use Rattle.cfn_model.specs.declared.step.Event.{Event}
 use Rattle.cfn_model.specs.Network.{Network, IsNetwork, Fits, Least, restrict, scope_at, total, cost}
 use Rattle.cfn_model.specs.Sums.{floor, unary, residual}
 use Rattle.cfn_model.specs.Steps.{AllInRange, Run}
-use Rattle.cfn_model.specs.Tree.{Tree, IsClosed, leaf, Valid, bound}
+use Rattle.cfn_model.specs.Tree.{Tree, IsOpen, IsClosed, leaf, leaf_history, Valid, bound}
 use Rattle.cfn_model.specs.Certificate.{Solution, Certificate, Good}
 use Rattle.cfn_model.specs.Reading.{Reads}
 
@@ -37,6 +37,12 @@ Bounds = (P : Network) (tree : Tree) (k : ℕ) (values : List ℕ) → IsNetwork
 -- No assignment that costs less than k has a closed leaf there.
 abbrev pub ClosedLeaves : Type 0
 ClosedLeaves = (P : Network) (tree : Tree) (k : ℕ) (values : List ℕ) → IsNetwork P → k ≤ P.upper → Valid P [] tree k → Fits P.sizes values → cost P values < k → IsClosed (leaf values tree) → ⊥
+
+-- The law by leaf: the leaf of an assignment is open and has a floor of at most the total, or the assignment costs at
+-- least k.
+abbrev pub EachLeaf : Type 0
+EachLeaf = (P : Network) (tree : Tree) (k : ℕ) (values : List ℕ) → IsNetwork P → k ≤ P.upper → Valid P [] tree k → Fits P.sizes values
+    → (IsOpen (leaf values tree) × (floor P (leaf_history values [] tree) ≤ total P values)) ⊎ (k ≤ cost P values)
 
 -- A good certificate's lower bound is a bound.
 abbrev pub LowerBounds : Type 0

@@ -2,8 +2,10 @@
 use Rattle.std.specs.Prelude.{◌≡◌, ℕ, ◌<◌, List, [], ◌∷◌, length, slice_index, pos, ◌+ℤ◌, ◌≤ℤ◌, IsTrue}
 use Rattle.cfn_model.specs.declared.step.Step.{Step}
 use Rattle.cfn_model.specs.declared.step.Step.TheVariants.{Project, Extend, Lift, CutValue, CutTuple}
+use Rattle.cfn_model.specs.declared.step.Decision.{Decision}
 use Rattle.cfn_model.specs.declared.step.Event.{Event}
-use Rattle.cfn_model.specs.declared.step.Event.TheVariants.{Did, Is, IsNot}
+use Rattle.cfn_model.specs.declared.step.Event.TheVariants.{Did, Took, Refused}
+use Rattle.cfn_model.specs.Decisions.{variable_of, value_of}
 use Rattle.cfn_model.specs.Network.{Network, Fits, cells, cell, arity, variable_at, dims_at}
 use Rattle.cfn_model.specs.Sums.{floor, unary, residual, is_live, is_live_tuple}
 
@@ -11,6 +13,10 @@ use Rattle.cfn_model.specs.Sums.{floor, unary, residual, is_live, is_live_tuple}
 pub record IsValue (P : Network) (x a : ℕ) : Type 0 where
   pub variable : x < length P.sizes
   pub value : a < slice_index P.sizes x
+
+-- A decision's variable is one, and the value that it names is one of its values.
+abbrev pub IsDecision : Network → Decision → Type 0
+IsDecision P d = IsValue P (variable_of d) (value_of d)
 
 -- f is a function, i one of its places, and a one of the values there.
 pub record IsPlace (P : Network) (f i a : ℕ) : Type 0 where
@@ -74,8 +80,8 @@ Run P history (step ∷ steps) k = Allowed P history k step × Run P (Did step �
 -- Every step of a history is in range.
 abbrev pub EventInRange : Network → Event → Type 0
 EventInRange P (Did step) = InRange P step
-EventInRange P (Is x a) = Unit {0}
-EventInRange P (IsNot x a) = Unit {0}
+EventInRange P (Took d) = Unit {0}
+EventInRange P (Refused d) = Unit {0}
 
 abbrev pub AllInRange : Network → List Event → Type 0
 AllInRange P [] = Unit {0}

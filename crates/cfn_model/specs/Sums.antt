@@ -2,7 +2,8 @@
 use Rattle.std.specs.Prelude.{ℕ, ◌+◌, Bool, true, false, not, ◌&&◌, ◌||◌, List, [], ◌∷◌, slice_index, sum_by, ℤ, pos, ◌+ℤ◌, neg_ℤ, if◌then◌else◌, ◌==◌, nat_lt}
 use Rattle.cfn_model.specs.declared.step.Step.TheVariants.{Project, Extend, Lift, CutValue, CutTuple}
 use Rattle.cfn_model.specs.declared.step.Event.{Event}
-use Rattle.cfn_model.specs.declared.step.Event.TheVariants.{Did, Is, IsNot}
+use Rattle.cfn_model.specs.declared.step.Event.TheVariants.{Did, Took, Refused}
+use Rattle.cfn_model.specs.Decisions.{variable_of, keeps}
 use Rattle.cfn_model.specs.Network.{Function, Network, entry_at, arity, scope_at, variable_at, dims_at, cell}
 
 -- An amount where a test holds, and else nothing.
@@ -16,8 +17,8 @@ lifted (Did (Extend f i a m)) = 0
 lifted (Did (Lift x m)) = m
 lifted (Did (CutValue x a)) = 0
 lifted (Did (CutTuple f c)) = 0
-lifted (Is x a) = 0
-lifted (IsNot x a) = 0
+lifted (Took d) = 0
+lifted (Refused d) = 0
 
 -- The constant that a function of arity 0 is.
 abbrev pub constant_of : List ℕ → List ℕ → ℕ
@@ -39,8 +40,8 @@ unary_by P (Did (Extend f i b m)) x a = when ((variable_at P f i == x) && (b == 
 unary_by P (Did (Lift y m)) x a = when (y == x) (neg_ℤ (pos m))
 unary_by P (Did (CutValue y b)) x a = pos 0
 unary_by P (Did (CutTuple f c)) x a = pos 0
-unary_by P (Is y b) x a = pos 0
-unary_by P (IsNot y b) x a = pos 0
+unary_by P (Took d) x a = pos 0
+unary_by P (Refused d) x a = pos 0
 
 -- The unary cost of the value a of x: what was projected to it, less what was extended from it or lifted.
 abbrev pub unary : Network → List Event → ℕ → ℕ → ℤ
@@ -54,8 +55,8 @@ residual_by (Did (Extend g i a m)) f tuple = when ((g == f) && (slice_index tupl
 residual_by (Did (Lift x m)) f tuple = pos 0
 residual_by (Did (CutValue x a)) f tuple = pos 0
 residual_by (Did (CutTuple g c)) f tuple = pos 0
-residual_by (Is x a) f tuple = pos 0
-residual_by (IsNot x a) f tuple = pos 0
+residual_by (Took d) f tuple = pos 0
+residual_by (Refused d) f tuple = pos 0
 
 -- The residual cost of a tuple of f: its entry, less what was projected from it, and what was extended to it.
 -- The entry of a function of arity 0 is in the floor.
@@ -63,15 +64,15 @@ abbrev pub residual : Network → List Event → ℕ → List ℕ → ℤ
 residual P [] f tuple = when (nat_lt 0 (arity P f)) (pos (entry_at P f tuple))
 residual P (event ∷ history) f tuple = residual_by event f tuple +ℤ residual P history f tuple
 
--- Whether an event takes the value a from x.
+-- Whether an event takes the value a from x: it cuts it, or is the other side of a split.
 abbrev pub removes : Event → ℕ → ℕ → Bool
 removes (Did (Project f i b m)) x a = false
 removes (Did (Extend f i b m)) x a = false
 removes (Did (Lift y m)) x a = false
 removes (Did (CutValue y b)) x a = (y == x) && (b == a)
 removes (Did (CutTuple f c)) x a = false
-removes (Is y b) x a = (y == x) && not (b == a)
-removes (IsNot y b) x a = (y == x) && (b == a)
+removes (Took d) x a = (variable_of d == x) && not (keeps d a)
+removes (Refused d) x a = (variable_of d == x) && keeps d a
 
 -- Whether the value a of x is live: no event has taken it.
 abbrev pub is_live : List Event → ℕ → ℕ → Bool
@@ -85,8 +86,8 @@ cuts (Did (Extend g i a m)) f c = false
 cuts (Did (Lift x m)) f c = false
 cuts (Did (CutValue x a)) f c = false
 cuts (Did (CutTuple g d)) f c = (g == f) && (d == c)
-cuts (Is x a) f c = false
-cuts (IsNot x a) f c = false
+cuts (Took d) f c = false
+cuts (Refused d) f c = false
 
 abbrev pub is_cut : List Event → ℕ → ℕ → Bool
 is_cut [] f c = false

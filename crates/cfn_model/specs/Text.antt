@@ -3,6 +3,10 @@ use Rattle.std.specs.Prelude.{◌≡◌, ℕ, ◌<◌, ◌≤◌, List, [], ◌�
 use Rattle.std.specs.List.{AllByRecursion}
 use Rattle.cfn_model.specs.declared.step.Step.{Step}
 use Rattle.cfn_model.specs.declared.step.Step.TheVariants.{Project, Extend, Lift, CutValue, CutTuple}
+use Rattle.cfn_model.specs.declared.step.Decision.{Decision}
+use Rattle.cfn_model.specs.declared.step.Decision.TheVariants.{Is, Most}
+use Rattle.cfn_model.specs.declared.version.Version.{Version}
+use Rattle.cfn_model.specs.declared.version.Version.TheVariants.{First, Second}
 use Rattle.cfn_model.specs.declared.reading.Kind.{Kind}
 use Rattle.cfn_model.specs.declared.reading.Kind.TheVariants.{Short, NotNumber, TooLarge, NoVariables, NegativeCount, EmptyDomain, IntervalDomain, DomainTooLarge, NegativeCost, Keyword, SharedTable, VariableOutOfRange, RepeatedVariable, ValueOutOfRange, TableTooWide, TooMany}
 use Rattle.cfn_model.specs.declared.reading.Refusal.{Refusal}
@@ -33,27 +37,33 @@ step_words (Lift x m) = codes "u" ∷ decimal x ∷ decimal m ∷ []
 step_words (CutValue x a) = codes "v" ∷ decimal x ∷ decimal a ∷ []
 step_words (CutTuple f c) = codes "t" ∷ decimal f ∷ decimal c ∷ []
 
-abbrev pub split_words : ℕ → ℕ → List (List ℕ)
-split_words x a = codes "split" ∷ decimal x ∷ decimal a ∷ []
+-- The words of a split's line: by a value, and by a bound.
+abbrev pub decision_words : Decision → List (List ℕ)
+decision_words (Is x a) = codes "split" ∷ decimal x ∷ decimal a ∷ []
+decision_words (Most x v) = codes "part" ∷ decimal x ∷ decimal v ∷ []
 
 -- The lines of a tree: each node's block and its end, and behind a split its first side and then its second.
 abbrev pub tree_lines : Tree → List (List (List ℕ))
 tree_lines (Open block) = map step_words block ++ (codes "open" ∷ []) ∷ []
 tree_lines (Closed block) = map step_words block ++ (codes "closed" ∷ []) ∷ []
-tree_lines (Split block x a first second) = map step_words block ++ split_words x a ∷ (tree_lines first ++ tree_lines second)
+tree_lines (Split block d first second) = map step_words block ++ decision_words d ∷ (tree_lines first ++ tree_lines second)
 
 abbrev pub best_lines : Option Solution → List (List (List ℕ))
 best_lines None = (codes "best" ∷ codes "none" ∷ []) ∷ []
 best_lines (Some best) = (codes "best" ∷ decimal best.cost ∷ []) ∷ (codes "values" ∷ map decimal best.values) ∷ []
 
+abbrev pub version_word : Version → List ℕ
+version_word First = codes "1"
+version_word Second = codes "2"
+
 abbrev pub head_lines : Certificate → List (List (List ℕ))
 head_lines c =
-    (codes "wcspcert" ∷ codes "1" ∷ [])
+    (codes "wcspcert" ∷ version_word c.version ∷ [])
     ∷ (codes "network" ∷ decimal c.variables ∷ decimal c.functions ∷ decimal c.upper ∷ [])
     ∷ (codes "lower" ∷ decimal c.lower ∷ [])
     ∷ best_lines c.best
 
--- The lines of a certificate, version 1.
+-- The lines of a certificate.
 abbrev pub certificate_lines : Certificate → List (List (List ℕ))
 certificate_lines c = head_lines c ++ (codes "tree" ∷ []) ∷ (tree_lines c.tree ++ (codes "end" ∷ []) ∷ [])
 
@@ -68,17 +78,34 @@ IsSpelledStep (Lift x m) = (x ≤ greatest) × (0 < m) × (m ≤ greatest)
 IsSpelledStep (CutValue x a) = (x ≤ greatest) × (a ≤ greatest)
 IsSpelledStep (CutTuple f c) = (f ≤ greatest) × (c ≤ greatest)
 
+-- A decision whose numbers have a spelling.
+abbrev pub IsSpelledDecision : Decision → Type 0
+IsSpelledDecision (Is x a) = (x ≤ greatest) × (a ≤ greatest)
+IsSpelledDecision (Most x v) = (x ≤ greatest) × (v ≤ greatest)
+
 abbrev pub IsSpelledTree : Tree → Type 0
 IsSpelledTree (Open block) = AllByRecursion IsSpelledStep block
 IsSpelledTree (Closed block) = AllByRecursion IsSpelledStep block
-IsSpelledTree (Split block x a first second) =
-    AllByRecursion IsSpelledStep block × (x ≤ greatest) × (a ≤ greatest) × IsSpelledTree first × IsSpelledTree second
+IsSpelledTree (Split block d first second) = AllByRecursion IsSpelledStep block × IsSpelledDecision d × IsSpelledTree first × IsSpelledTree second
+
+-- A version has a line for a decision: the first has none for a bound.
+abbrev pub HasDecision : Version → Decision → Type 0
+HasDecision First (Is x a) = Unit {0}
+HasDecision First (Most x v) = ⊥
+HasDecision Second (Is x a) = Unit {0}
+HasDecision Second (Most x v) = Unit {0}
+
+-- A version has lines for all of a tree's decisions.
+abbrev pub HasTree : Version → Tree → Type 0
+HasTree version (Open block) = Unit {0}
+HasTree version (Closed block) = Unit {0}
+HasTree version (Split block d first second) = HasDecision version d × HasTree version first × HasTree version second
 
 abbrev pub IsSpelledBest : Option Solution → Type 0
 IsSpelledBest None = Unit {0}
 IsSpelledBest (Some best) = (best.cost ≤ greatest) × (0 < length best.values) × AllByRecursion (λ a. a ≤ greatest) best.values
 
--- A certificate that has a spelling.
+-- A certificate that has a spelling in its version.
 pub record IsSpelled (c : Certificate) : Type 0 where
   pub variables : c.variables ≤ greatest
   pub functions : c.functions ≤ greatest
@@ -86,6 +113,7 @@ pub record IsSpelled (c : Certificate) : Type 0 where
   pub best : IsSpelledBest c.best
   pub lower : c.lower ≤ greatest
   pub tree : IsSpelledTree c.tree
+  pub has_tree : HasTree c.version c.tree
 
 -- The bytes are the one spelling of the certificate.
 pub record Spells (c : Certificate) (bytes : List ℕ) : Type 0 where

@@ -1,6 +1,6 @@
 //! The laws that the definitions have, each the contract of a function with nothing to do.
 
-ghost use Rattle.cfn_model.specs.Laws.{ReadNetworks, Equivalence, Bounds, ClosedLeaves, LowerBounds, Optimum, NoneBelow, RunLowering, ValidLowering};
+ghost use Rattle.cfn_model.specs.Laws.{ReadNetworks, Equivalence, Bounds, ClosedLeaves, EachLeaf, LowerBounds, Optimum, NoneBelow, RunLowering, ValidLowering};
 
 /// What reads is a network: whatever the bytes of a file are, what they read as keeps every limit of networks.
 pub fn networks()
@@ -13,10 +13,12 @@ pub fn equivalence()
 {}
 
 /// In a tree that is valid at a threshold, the bound is at most the cost of every assignment, and no assignment
-/// below the threshold has a closed leaf.
+/// below the threshold has a closed leaf: the leaf of an assignment is open, with a floor of at most its total, or the
+/// assignment costs at least the threshold.
 pub fn bounds()
     ensures bounds { Bounds }
     ensures closed_leaves { ClosedLeaves }
+    ensures each_leaf { EachLeaf }
 {}
 
 /// A good certificate alone implies what it claims: its lower bound is at most the cost of every assignment; where

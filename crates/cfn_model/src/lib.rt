@@ -9,8 +9,10 @@ mod limits;
 mod reading;
 mod report;
 mod step;
+mod version;
 
 pub use limits::{GREATEST, MOST_CELLS, MOST_FUNCTIONS, MOST_TUPLES, MOST_VALUES, MOST_VARIABLES};
 pub use reading::{Kind, NumberFault, Refusal};
 pub use report::{ResultWord, Row};
-pub use step::{Event, Step};
+pub use step::{Decision, Event, Step};
+pub use version::Version;

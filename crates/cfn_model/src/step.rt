@@ -1,4 +1,4 @@
-//! One shift of costs or one cut, and what happens along a path of the search tree.
+//! One shift of costs or one cut, the decision of a split, and what happens along a path of the search tree.
 
 /// A step of soft arc consistency (Cooper et al. 2010): a shift of costs that keeps the cost of every
 /// assignment, or a cut of what no assignment below the threshold uses.
@@ -35,13 +35,23 @@ pub enum Step {
     },
 }
 
-/// What happens along a path from the root: a step, or a decision of a split.
+/// A decision of a split: whether a variable has one of some of its values. Those are the first side, the others
+/// the second.
+#[derive(Clone, Copy, Debug, PartialEq, Eq)]
+pub enum Decision {
+    /// `variable` has `value`.
+    Is { variable: u32, value: u32 },
+    /// `variable` has at most `value`.
+    Most { variable: u32, value: u32 },
+}
+
+/// What happens along a path from the root: a step, or a side of a split.
 #[derive(Clone, Copy, Debug, PartialEq, Eq)]
 pub enum Event {
     /// A step was made.
     Did(Step),
-    /// The first side of a split: `variable` has `value`.
-    Is { variable: u32, value: u32 },
-    /// The second side of a split: `variable` has another value.
-    IsNot { variable: u32, value: u32 },
+    /// The first side of a split: the decision holds.
+    Took(Decision),
+    /// The second side of a split: the decision fails.
+    Refused(Decision),
 }
