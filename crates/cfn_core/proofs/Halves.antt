@@ -3,7 +3,7 @@ use Rattle.std.proofs.Common.{◌≡◌, ℕ, Bool, true, false, not, ◌&&◌, 
 use Rattle.std.proofs.lemmas.Int.{ints}
 use Rattle.std.specs.Prelude.{IsTrue, None, nat_lt}
 use Rattle.cfn_model.specs.declared.step.Event.{Event}
-use Rattle.cfn_model.specs.declared.step.Event.TheVariants.{Is, IsNot}
+use Rattle.cfn_model.specs.declared.step.Event.TheVariants.{Took, Refused}
 use Rattle.cfn_model.specs.Network.{Network, dims_at, entry_at, scope_at, cell}
 use Rattle.cfn_model.specs.Sums.{removes, is_live, is_cut, all_live, is_live_tuple}
 use Rattle.cfn_proof.specs.Nodes.{open_node, split_at, tree_of}
@@ -32,33 +32,33 @@ all_fewer event history (x ∷ scope) (a ∷ tuple) live =
 
 -- costs stay small behind a decision
 module _ (P : Network) (history : List Event) (x a : ℕ) (small : HasSmallCosts P history) where
-  pub small_is : HasSmallCosts P (Is x a ∷ history)
+  pub small_is : HasSmallCosts P (Took d ∷ history)
   small_is = record {
-    unary = λ y b value live. (let h = small.unary y b value (fewer (Is x a) history y b live) in omega (arith, ints, h));
+    unary = λ y b value live. (let h = small.unary y b value (fewer (Took d) history y b live) in omega (arith, ints, h));
     residual = λ f tuple there fits live. (let h = small.residual f tuple there fits (tuple_fewer f tuple live) in omega (arith, ints, h));
   }
     where
-      tuple_fewer : (f : ℕ) (tuple : List ℕ) → IsTrue (is_live_tuple P (Is x a ∷ history) f tuple) → IsTrue (is_live_tuple P history f tuple)
+      tuple_fewer : (f : ℕ) (tuple : List ℕ) → IsTrue (is_live_tuple P (Took d ∷ history) f tuple) → IsTrue (is_live_tuple P history f tuple)
       tuple_fewer f tuple live =
           let below = nat_lt (entry_at P f tuple) P.upper in
           let uncut = not (is_cut history f (cell (dims_at P f) tuple)) in
-          let b = both (all_live (Is x a ∷ history) (scope_at P f) tuple && below) uncut live in
-          let d = both (all_live (Is x a ∷ history) (scope_at P f) tuple) below b.0 in
-          join (all_live history (scope_at P f) tuple && below) uncut (join (all_live history (scope_at P f) tuple) below (all_fewer (Is x a) history (scope_at P f) tuple d.0) d.1) b.1
+          let b = both (all_live (Took d ∷ history) (scope_at P f) tuple && below) uncut live in
+          let d = both (all_live (Took d ∷ history) (scope_at P f) tuple) below b.0 in
+          join (all_live history (scope_at P f) tuple && below) uncut (join (all_live history (scope_at P f) tuple) below (all_fewer (Took d) history (scope_at P f) tuple d.0) d.1) b.1
 
-  pub small_is_not : HasSmallCosts P (IsNot x a ∷ history)
+  pub small_is_not : HasSmallCosts P (Refused d ∷ history)
   small_is_not = record {
-    unary = λ y b value live. (let h = small.unary y b value (fewer (IsNot x a) history y b live) in omega (arith, ints, h));
+    unary = λ y b value live. (let h = small.unary y b value (fewer (Refused d) history y b live) in omega (arith, ints, h));
     residual = λ f tuple there fits live. (let h = small.residual f tuple there fits (tuple_fewer f tuple live) in omega (arith, ints, h));
   }
     where
-      tuple_fewer : (f : ℕ) (tuple : List ℕ) → IsTrue (is_live_tuple P (IsNot x a ∷ history) f tuple) → IsTrue (is_live_tuple P history f tuple)
+      tuple_fewer : (f : ℕ) (tuple : List ℕ) → IsTrue (is_live_tuple P (Refused d ∷ history) f tuple) → IsTrue (is_live_tuple P history f tuple)
       tuple_fewer f tuple live =
           let below = nat_lt (entry_at P f tuple) P.upper in
           let uncut = not (is_cut history f (cell (dims_at P f) tuple)) in
-          let b = both (all_live (IsNot x a ∷ history) (scope_at P f) tuple && below) uncut live in
-          let d = both (all_live (IsNot x a ∷ history) (scope_at P f) tuple) below b.0 in
-          join (all_live history (scope_at P f) tuple && below) uncut (join (all_live history (scope_at P f) tuple) below (all_fewer (IsNot x a) history (scope_at P f) tuple d.0) d.1) b.1
+          let b = both (all_live (Refused d ∷ history) (scope_at P f) tuple && below) uncut live in
+          let d = both (all_live (Refused d ∷ history) (scope_at P f) tuple) below b.0 in
+          join (all_live history (scope_at P f) tuple && below) uncut (join (all_live history (scope_at P f) tuple) below (all_fewer (Refused d) history (scope_at P f) tuple d.0) d.1) b.1
 
 at_end : (P : Network) (path : List Event) → TameAlong P path → HasSmallCosts P path
 at_end P [] tame = tame

@@ -3,7 +3,7 @@ use Rattle.std.proofs.Common.{◌≡◌, ℕ, ◌+◌, ◌-◌, ◌<◌, ◌≤�
 use Rattle.std.proofs.lemmas.Int.{ints}
 use Rattle.std.specs.Prelude.{Bool, true, false, pos, ◌<ℤ◌, nat_lt}
 use Rattle.cfn_model.specs.declared.step.Event.{Event}
-use Rattle.cfn_model.specs.declared.step.Event.TheVariants.{Is, IsNot}
+use Rattle.cfn_model.specs.declared.step.Event.TheVariants.{Took, Refused}
 use Rattle.cfn_model.specs.Network.{Network, IsNetwork, arity, entry_at, cell, dims, function_at}
 use Rattle.cfn_model.specs.Sums.{when}
 use Rattle.cfn_model.specs.Steps.{after}
@@ -21,10 +21,10 @@ replaced_small : (P : Network) (n : ℕ) (mark : Mark) (path : List Event) (plac
     Replaced tree history n mark path place new → Tame P history (tree_of tree) → HasSmallCosts P path
 replaced_small P n mark path place (Leaf number m) history new at tame = subst (HasSmallCosts P) (sym at.2) tame
 replaced_small P n mark path place (Shut block) history new at tame = absurd at
-replaced_small P n mark path place (Fork block x a first second) history new (inl at) tame =
-    replaced_small P n mark path place first (Is x a ∷ after block history) at.0 at.1 tame.1
-replaced_small P n mark path place (Fork block x a first second) history new (inr at) tame =
-    replaced_small P n mark path place second (IsNot x a ∷ after block history) at.0 at.1 tame.2
+replaced_small P n mark path place (Fork block d first second) history new (inl at) tame =
+    replaced_small P n mark path place first (Took d ∷ after block history) at.0 at.1 tame.1
+replaced_small P n mark path place (Fork block d first second) history new (inr at) tame =
+    replaced_small P n mark path place second (Refused d ∷ after block history) at.0 at.1 tame.2
 
 module _ (P : Network) (w : World) (holds : IsWorld P w) where
   sound : IsSound P w.pool

@@ -29,7 +29,7 @@ opening_bound P = min P.upper (floor P [])
 abbrev pub leaves_with : ℕ → PoolTree → ℕ
 leaves_with n (Leaf number mark) = if number == n then 1 else 0
 leaves_with n (Shut block) = 0
-leaves_with n (Fork block x a first second) = leaves_with n first + leaves_with n second
+leaves_with n (Fork block d first second) = leaves_with n first + leaves_with n second
 
 -- A task is in hand.
 abbrev pub IsInHand : Task → List Task → Type 0
@@ -54,7 +54,7 @@ IsCovered P w values (Leaf n Free) = Unit {0}
 IsCovered P w values (Leaf n (Out worker grant)) =
     (path : List Event) × IsInHand (record { leaf = n; worker = worker; grant = grant; floor = floor P path; path = path }) w.hands
 IsCovered P w values (Shut block) = w.pool.view.seen ≤ cost P values
-IsCovered P w values (Fork block x a first second) = ⊥
+IsCovered P w values (Fork block d first second) = ⊥
 
 -- Of all leaves of the tree, closed ones too, exactly one has a path that agrees with an assignment: the assignment's
 -- leaf. Where it is out, its task, in hand, has that very path.

@@ -1,6 +1,6 @@
 use Rattle.std.proofs.Common.{◌≡◌, ℕ, ◌+◌, List, [], ◌∷◌, ◌++◌, reverse, sym, ap, ap₂, ◌∙◌, subst, arith}
 use Rattle.std.proofs.lemmas.List.{reverse-append}
-use Rattle.cfn_model.specs.declared.step.Event.TheVariants.{Is, IsNot}
+use Rattle.cfn_model.specs.declared.step.Event.TheVariants.{Took, Refused}
 use Rattle.cfn_model.specs.Steps.{after}
 use Rattle.cfn_proof.specs.Nodes.{node_at}
 use Rattle.cfn_core.specs.declared.node.End.TheVariants.{FreeLeaf, ShutLeaf, Branch}
@@ -50,7 +50,7 @@ returns-in_ok-push-in-Split-3-clause-on_way c = λ (whole : List Node) (last : �
     let ahead : c.push-in-Split-2.new.self.items ≡ (c.args.walk.now.ahead.items ++ two ∷ []) ++ one ∷ [] = c.in_ok-push-in-Split-2.ensures.items ∙ ap (λ l. l ++ one ∷ []) c.in_ok-push-in-Split.ensures.items in
     let turned : reverse c.push-in-Split-2.new.self.items ≡ one ∷ two ∷ reverse c.args.walk.now.ahead.items =
     ap reverse ahead ∙ reverse-append (c.args.walk.now.ahead.items ++ two ∷ []) (one ∷ []) ∙ ap (λ l. one ∷ l) (reverse-append c.args.walk.now.ahead.items (two ∷ [])) in
-    let parts : reverse c.push-in-Split-2.new.self.items ≡ record { id = c.in-Split.first; path = Is x a ∷ after (node_at c.args.tree.now c.args.at.id.number).block c.args.at.path } ∷ record { id = c.in-Split.second; path = IsNot x a ∷ after (node_at c.args.tree.now c.args.at.id.number).block c.args.at.path } ∷ reverse c.args.walk.now.ahead.items =
+    let parts : reverse c.push-in-Split-2.new.self.items ≡ record { id = c.in-Split.first; path = Took d ∷ after (node_at c.args.tree.now c.args.at.id.number).block c.args.at.path } ∷ record { id = c.in-Split.second; path = Refused d ∷ after (node_at c.args.tree.now c.args.at.id.number).block c.args.at.path } ∷ reverse c.args.walk.now.ahead.items =
     turned ∙ ap₂ (λ p q. record { id = c.in-Split.first; path = p } ∷ record { id = c.in-Split.second; path = q } ∷ reverse c.args.walk.now.ahead.items) first second in
     subst (λ l. IsOnWay P c.args.tree.now whole last l c.args.walk.now.number (reverse c.push-in-Split-2.new.self.items)) (sym items)
     (subst (λ l. IsOnWay P c.args.tree.now whole last (c.args.walk.now.made.items ++ node P c.args.at.path (node_at c.args.tree.now c.args.at.id.number).block (Branch x a) ∷ []) c.args.walk.now.number l) (sym parts)
