@@ -1,12 +1,15 @@
 -- Exactly one leaf has a path that agrees with an assignment.
-use Rattle.std.proofs.Common.{◌≡◌, ◌≢◌, ℕ, inl, inr, List, [], ◌∷◌, refl, sym, ◌∙◌, subst, arith, eq-eqb}
-use Rattle.std.specs.Prelude.{Bool, true, false, slice_index, if◌then◌else◌, ◌==◌}
+use Rattle.std.proofs.Common.{◌≡◌, ℕ, inl, inr, List, [], ◌∷◌, refl, sym, ◌∙◌, subst}
+use Rattle.std.specs.Prelude.{Bool, true, false, if◌then◌else◌}
 use Rattle.cfn_model.specs.declared.step.Step.{Step}
+use Rattle.cfn_model.specs.declared.step.Decision.{Decision}
 use Rattle.cfn_model.specs.declared.step.Event.{Event}
 use Rattle.cfn_model.specs.declared.step.Event.TheVariants.{Did, Took, Refused}
 use Rattle.cfn_model.specs.Network.{Network}
+use Rattle.cfn_model.specs.Decisions.{holds}
 use Rattle.cfn_model.specs.Steps.{after}
-use Rattle.cfn_core.specs.Pool.{Mark, Out, PoolTree, Leaf, Shut, Fork, IsLeaf, IsAnyLeaf, Agrees, leaf_of}
+use Rattle.cfn_model.specs.Paths.{Agrees}
+use Rattle.cfn_core.specs.Pool.{Mark, Out, PoolTree, Leaf, Shut, Fork, IsLeaf, IsAnyLeaf, leaf_of}
 use Rattle.cfn_core.specs.World.{World}
 use Rattle.cfn_core.specs.Laws.{IsHanded, AgreesOnce}
 
@@ -32,25 +35,22 @@ agrees_above values (Fork block d first second) history leaf path (inr at) agree
 abbrev HasAgreeing : List ℕ → PoolTree → List Event → PoolTree → Type 0
 HasAgreeing values tree history leaf = (path : List Event) × IsAnyLeaf tree history leaf path × Agrees values path
 
-same_by : (a b : ℕ) → (a == b) ≡ true → a ≡ b
-same_by a b h = grind arith
-
-other_by : (a b : ℕ) → (a == b) ≡ false → a ≢ b
-other_by a b h same = (let e : (a == b) ≡ true = eq-eqb a b same in cc)
-
-agreeing_by : (values : List ℕ) (block : List Step) (x a : ℕ) (first second : PoolTree) (history : List Event) (b : Bool) (f s : PoolTree) → (slice_index values x == a) ≡ b →
-    (slice_index values x ≡ a → HasAgreeing values first (Took d ∷ after block history) f) →
-    (slice_index values x ≢ a → HasAgreeing values second (Refused d ∷ after block history) s) → HasAgreeing values (Fork block d first second) history (if b then f else s)
-agreeing_by values block x a first second history true f s test one two = let r = one (same_by (slice_index values x) a test) in (r.0, inl r.1, r.2)
-agreeing_by values block x a first second history false f s test one two = let r = two (other_by (slice_index values x) a test) in (r.0, inr r.1, r.2)
+agreeing_by : (values : List ℕ) (block : List Step) (d : Decision) (first second : PoolTree) (history : List Event) (b : Bool) (f s : PoolTree) → holds d values ≡ b →
+    (holds d values ≡ true → HasAgreeing values first (Took d ∷ after block history) f) →
+    (holds d values ≡ false → HasAgreeing values second (Refused d ∷ after block history) s) → HasAgreeing values (Fork block d first second) history (if b then f else s)
+agreeing_by values block d first second history true f s test one two = let r = one test in (r.0, inl r.1, r.2)
+agreeing_by values block d first second history false f s test one two = let r = two test in (r.0, inr r.1, r.2)
 
 agreeing : (values : List ℕ) (tree : PoolTree) (history : List Event) → Agrees values history → HasAgreeing values tree history (leaf_of values tree)
 agreeing values (Leaf number mark) history agrees = (history, (refl, refl), agrees)
 agreeing values (Shut block) history agrees = (history, (refl, refl), agrees)
 agreeing values (Fork block d first second) history agrees =
-    agreeing_by values block x a first second history (slice_index values x == a) (leaf_of values first) (leaf_of values second) refl
-    (λ same. agreeing values first (Took d ∷ after block history) (same, agrees_after values block history agrees))
-    (λ other. agreeing values second (Refused d ∷ after block history) (other, agrees_after values block history agrees))
+    agreeing_by values block d first second history (holds d values) (leaf_of values first) (leaf_of values second) refl
+    (λ is. agreeing values first (Took d ∷ after block history) (is, agrees_after values block history agrees))
+    (λ not. agreeing values second (Refused d ∷ after block history) (not, agrees_after values block history agrees))
+
+holds_once : {b : Bool} {C : Type 0} → b ≡ true → b ≡ false → C
+holds_once h k = cc
 
 -- no other leaf's path does
 only_one : (values : List ℕ) (tree : PoolTree) (history : List Event) (leaf : PoolTree) (path : List Event) (other : PoolTree) (another : List Event) →

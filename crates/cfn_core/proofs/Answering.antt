@@ -109,9 +109,9 @@ one_tree : (n : ℕ) (mark : Mark) (path : List Event) (place : PoolTree) (tree 
 one_tree n mark path place (Leaf number m) history new other one at here = at.3 ∙ sym here.3
 one_tree n mark path place (Shut block) history new other one at here = absurd at
 one_tree n mark path place (Fork block d first second) history new other one (inl at) (inl here) =
-    at.2 ∙ ap (λ t. Fork block x a t second) (one_tree n mark path place first (Took d ∷ after block history) at.0 here.0 (omega (arith, one)) at.1 here.1) ∙ sym here.2
+    at.2 ∙ ap (λ t. Fork block d t second) (one_tree n mark path place first (Took d ∷ after block history) at.0 here.0 (omega (arith, one)) at.1 here.1) ∙ sym here.2
 one_tree n mark path place (Fork block d first second) history new other one (inr at) (inr here) =
-    at.2 ∙ ap (λ t. Fork block x a first t) (one_tree n mark path place second (Refused d ∷ after block history) at.0 here.0 (omega (arith, one)) at.1 here.1) ∙ sym here.2
+    at.2 ∙ ap (λ t. Fork block d first t) (one_tree n mark path place second (Refused d ∷ after block history) at.0 here.0 (omega (arith, one)) at.1 here.1) ∙ sym here.2
 one_tree n mark path place (Fork block d first second) history new other one (inl at) (inr here) =
     absurd (let c = leaf_counts first (Took d ∷ after block history) n mark path (replaced_leaf n mark path place first (Took d ∷ after block history) at.0 at.1) in
     let d = leaf_counts second (Refused d ∷ after block history) n mark path (replaced_leaf n mark path place second (Refused d ∷ after block history) here.0 here.1) in omega (arith, one, c, d))

@@ -2,6 +2,7 @@
 use Rattle.std.proofs.Common.{◌≡◌, ◌≢◌, ℕ, ◌<◌, ◌≤◌, ◌⊎◌, inl, inr, List, [], ◌∷◌, refl, sym, ap, ap₂, ◌∙◌, arith, if◌then◌else◌, ◌==◌}
 use Rattle.std.proofs.lemmas.Bool.{cases_lt, cases_eq}
 use Rattle.cfn_model.specs.declared.step.Step.TheVariants.{Project, Extend, Lift, CutValue, CutTuple}
+use Rattle.cfn_model.specs.declared.step.Decision.TheVariants.{Is, Most}
 use Rattle.cfn_model.specs.declared.step.Event.{Event}
 use Rattle.cfn_model.specs.declared.step.Event.TheVariants.{Did, Took, Refused}
 use Rattle.cfn_model.specs.Network.{Network}
@@ -19,8 +20,10 @@ numbers_of (Did (Extend f i a m)) = Five 1 f i a m
 numbers_of (Did (Lift x m)) = Five 2 x m 0 0
 numbers_of (Did (CutValue x a)) = Five 3 x a 0 0
 numbers_of (Did (CutTuple f c)) = Five 4 f c 0 0
-numbers_of (Took d) = Five 5 x a 0 0
-numbers_of (Refused d) = Five 6 x a 0 0
+numbers_of (Took (Is x a)) = Five 5 x a 0 0
+numbers_of (Took (Most x v)) = Five 6 x v 0 0
+numbers_of (Refused (Is x a)) = Five 7 x a 0 0
+numbers_of (Refused (Most x v)) = Five 8 x v 0 0
 
 event_of : Numbers → Event
 event_of (Five kind one two three four) =
@@ -29,8 +32,10 @@ event_of (Five kind one two three four) =
     else if kind == 2 then Did (Lift one two)
     else if kind == 3 then Did (CutValue one two)
     else if kind == 4 then Did (CutTuple one two)
-    else if kind == 5 then Is one two
-    else IsNot one two
+    else if kind == 5 then Took (Is one two)
+    else if kind == 6 then Took (Most one two)
+    else if kind == 7 then Refused (Is one two)
+    else Refused (Most one two)
 
 there_and_back : (e : Event) → event_of (numbers_of e) ≡ e
 unfolding numbers_of event_of
@@ -39,8 +44,10 @@ there_and_back (Did (Extend f i a m)) = refl
 there_and_back (Did (Lift x m)) = refl
 there_and_back (Did (CutValue x a)) = refl
 there_and_back (Did (CutTuple f c)) = refl
-there_and_back (Took d) = refl
-there_and_back (Refused d) = refl
+there_and_back (Took (Is x a)) = refl
+there_and_back (Took (Most x v)) = refl
+there_and_back (Refused (Is x a)) = refl
+there_and_back (Refused (Most x v)) = refl
 
 first_same : {a b c d e v w x y z : ℕ} → Five a b c d e ≡ Five v w x y z → (a ≡ v) × (b ≡ w) × (c ≡ x) × (d ≡ y) × (e ≡ z)
 first_same h = ((cc), (cc), (cc), (cc), (cc))
@@ -138,9 +145,9 @@ pub can_replace : (place tree : PoolTree) (history : List Event) (n : ℕ) (mark
 can_replace place (Leaf number m) history n mark path at = (place, (at.0, at.1, at.2, refl))
 can_replace place (Shut block) history n mark path at = absurd at
 can_replace place (Fork block d first second) history n mark path (inl at) =
-    let below = can_replace place first (Took d ∷ after block history) n mark path at in (Fork block x a below.0 second, inl (below.0, below.1, refl))
+    let below = can_replace place first (Took d ∷ after block history) n mark path at in (Fork block d below.0 second, inl (below.0, below.1, refl))
 can_replace place (Fork block d first second) history n mark path (inr at) =
-    let below = can_replace place second (Refused d ∷ after block history) n mark path at in (Fork block x a first below.0, inr (below.0, below.1, refl))
+    let below = can_replace place second (Refused d ∷ after block history) n mark path at in (Fork block d first below.0, inr (below.0, below.1, refl))
 
 -- one free leaf goes before another: its floor is less, or its number where the floors are equal
 abbrev pub Precedes : Network → ℕ → List Event → ℕ → List Event → Type 0

@@ -68,14 +68,14 @@ module _ (n : ℕ) (mark : Mark) (path : List Event) (place : PoolTree) where
   replaced_back m k p (Shut block) history new at one leaf = absurd at
   replaced_back m k p (Fork block d first second) history new (inl at) one leaf =
       let there = leaf_counts first (Took d ∷ after block history) n mark path (replaced_leaf first (Took d ∷ after block history) at.0 at.1) in
-      let leaf' : IsLeaf (Fork block x a at.0 second) history m k p = subst (λ t. IsLeaf t history m k p) at.2 leaf in
+      let leaf' : IsLeaf (Fork block d at.0 second) history m k p = subst (λ t. IsLeaf t history m k p) at.2 leaf in
       elim leaf' [
         | inl here ↦ elim (replaced_back m k p first (Took d ∷ after block history) at.0 at.1 (omega (arith, one)) here) [ inl fresh ↦ inl fresh | inr old ↦ inr (inl old.0, old.1) ]
         | inr here ↦ inr (inr here, λ same. (let c = leaf_counts second (Refused d ∷ after block history) n k p (subst (λ j. IsLeaf second (Refused d ∷ after block history) j k p) same here) in omega (arith, c, there, one)))
       ]
   replaced_back m k p (Fork block d first second) history new (inr at) one leaf =
       let there = leaf_counts second (Refused d ∷ after block history) n mark path (replaced_leaf second (Refused d ∷ after block history) at.0 at.1) in
-      let leaf' : IsLeaf (Fork block x a first at.0) history m k p = subst (λ t. IsLeaf t history m k p) at.2 leaf in
+      let leaf' : IsLeaf (Fork block d first at.0) history m k p = subst (λ t. IsLeaf t history m k p) at.2 leaf in
       elim leaf' [
         | inl here ↦ inr (inl here, λ same. (let c = leaf_counts first (Took d ∷ after block history) n k p (subst (λ j. IsLeaf first (Took d ∷ after block history) j k p) same here) in omega (arith, c, there, one)))
         | inr here ↦ elim (replaced_back m k p second (Refused d ∷ after block history) at.0 at.1 (omega (arith, one)) here) [ inl fresh ↦ inl fresh | inr old ↦ inr (inr old.0, old.1) ]

@@ -9,7 +9,8 @@ use Rattle.cfn_model.specs.Sums.{when}
 use Rattle.cfn_model.specs.Steps.{after}
 use Rattle.cfn_model.specs.Tree.{count, splits, Valid, Strict}
 use Rattle.cfn_model.proofs.CallerLemmas.{valid_lower}
-use Rattle.cfn_core.specs.Pool.{Mark, Free, Out, PoolTree, Leaf, Shut, Fork, tree_of, Replaced, grant_of, granted, numbered, recalled, HasSmallCosts, Tame, Task, Piece, IsPiece, View, Pool, IsSound}
+use Rattle.cfn_model.specs.Paths.{HasSmallCosts, Tame}
+use Rattle.cfn_core.specs.Pool.{Mark, Free, Out, PoolTree, Leaf, Shut, Fork, tree_of, Replaced, grant_of, granted, numbered, recalled, Task, Piece, IsPiece, View, Pool, IsSound}
 use Rattle.cfn_core.specs.World.{World, price, cheaper, view_at, note_at, least_price, shares_of, KeepsFitting, IsView, HasWordRule, new_view}
 use Rattle.cfn_core.specs.Actions.{Action, Look, Lower, Note, Meet, Take, Give, Back, Recall, Sweep, Reply, Answers, looked, lowered, noted, joined, met, task_for, taken, Takes, take_idle, take_empty, take_spent, take_again, take_task, CanGive, given, Gives, give_idle, give_gone, give_done, returned, Returns, back_idle, back_not, back_done, all_back, cleared, Runs, AreActions}
 use Rattle.cfn_core.specs.Laws.{IsWorld, Opens, Keeps}

@@ -2,6 +2,7 @@
 use Rattle.std.proofs.Common.{◌≡◌, ℕ, ◌+◌, ◌⊎◌, inl, inr, List, [], ◌∷◌, ◌++◌, length, map, refl, sym, ap, ap₂, ◌∙◌, append_assoc, arith, if◌then◌else◌}
 use Rattle.std.proofs.lemmas.List.{append-nil, map-append, length-append}
 use Rattle.std.specs.Prelude.{Bool, true, false, nat_le}
+use Rattle.cfn_model.specs.declared.step.Decision.{Decision}
 use Rattle.cfn_model.specs.declared.step.Event.{Event}
 use Rattle.cfn_model.specs.declared.step.Event.TheVariants.{Took, Refused}
 use Rattle.cfn_model.specs.Network.{Network}
@@ -79,7 +80,7 @@ pub recalled_are : (P : Network) (path : List Event) (tree : PoolTree) → map r
 recalled_are P path (Leaf n mark) = ap (λ e. node P path [] e ∷ []) (leaf_recalled n mark)
 recalled_are P path (Shut block) = refl
 recalled_are P path (Fork block d first second) =
-    ap (λ l. node P path block (Branch x a) ∷ l) (map-append recalled_node (nodes_of P (Took d ∷ after block path) first) (nodes_of P (Refused d ∷ after block path) second)
+    ap (λ l. node P path block (Branch d) ∷ l) (map-append recalled_node (nodes_of P (Took d ∷ after block path) first) (nodes_of P (Refused d ∷ after block path) second)
     ∙ ap₂ ◌++◌ (recalled_are P (Took d ∷ after block path) first) (recalled_are P (Refused d ∷ after block path) second))
 
 -- free leaves closed
@@ -93,7 +94,7 @@ module _ (P : Network) (k : ℕ) where
   swept_are path (Leaf n (Out worker grant)) = refl
   swept_are path (Shut block) = refl
   swept_are path (Fork block d first second) =
-      ap (λ l. node P path block (Branch x a) ∷ l) (map-append (swept_node k) (nodes_of P (Took d ∷ after block path) first) (nodes_of P (Refused d ∷ after block path) second)
+      ap (λ l. node P path block (Branch d) ∷ l) (map-append (swept_node k) (nodes_of P (Took d ∷ after block path) first) (nodes_of P (Refused d ∷ after block path) second)
       ∙ ap₂ ◌++◌ (swept_are (Took d ∷ after block path) first) (swept_are (Refused d ∷ after block path) second))
 
 -- where a node stands in one list before another
@@ -122,7 +123,7 @@ parted (m ∷ one) two (l ∷ front) n back is = elim (parted one two front n ba
 ]
 
 -- the end of an open leaf is not that of a split or a closed leaf, and tells its number and mark
-branch_not : {x a : ℕ} (n : ℕ) (mark : Mark) {C : Type 0} → Branch x a ≡ leaf_end n mark → C
+branch_not : {d : Decision} (n : ℕ) (mark : Mark) {C : Type 0} → Branch d ≡ leaf_end n mark → C
 branch_not n Free h = cc
 branch_not n (Out worker grant) h = cc
 
@@ -173,7 +174,7 @@ module _ (P : Network) (n : ℕ) (mark : Mark) (e : Node) (ends : e.end ≡ leaf
             (let below = put place first one front here.left here.is in
             record {
               leaf = below.leaf;
-              new = Fork block x a below.new second;
+              new = Fork block d below.new second;
               replaced = inl (below.new, below.replaced, refl);
               nodes = ap₂ (λ h l. h ∷ (l ++ nodes_of P two second)) (head_is is) below.nodes
                   ∙ ap (λ l. f ∷ l) (append_assoc front (nodes_of P e.path place ++ here.left) (nodes_of P two second)
@@ -183,7 +184,7 @@ module _ (P : Network) (n : ℕ) (mark : Mark) (e : Node) (ends : e.end ≡ leaf
             (let below = put place second two there.left back there.is in
             record {
               leaf = below.leaf;
-              new = Fork block x a first below.new;
+              new = Fork block d first below.new;
               replaced = inr (below.new, below.replaced, refl);
               nodes = ap₂ (λ h l. h ∷ (nodes_of P one first ++ l)) (head_is is) below.nodes
                   ∙ ap (λ l. f ∷ l) (sym (append_assoc (nodes_of P one first) there.left (nodes_of P e.path place ++ back)) ∙ ap (λ l. l ++ (nodes_of P e.path place ++ back)) (sym there.before));
@@ -220,9 +221,9 @@ has_leaf P n mark leaf_path (Fork block d first second) path (inl at) =
     let below = has_leaf P n mark leaf_path first one at in
     let e = node P leaf_path [] (leaf_end n mark) in
     record {
-      front = node P path block (Branch x a) ∷ below.front;
+      front = node P path block (Branch d) ∷ below.front;
       back = below.back ++ nodes_of P two second;
-      is = ap (λ l. node P path block (Branch x a) ∷ l) (ap (λ l. l ++ nodes_of P two second) below.is ∙ append_assoc below.front (e ∷ below.back) (nodes_of P two second));
+      is = ap (λ l. node P path block (Branch d) ∷ l) (ap (λ l. l ++ nodes_of P two second) below.is ∙ append_assoc below.front (e ∷ below.back) (nodes_of P two second));
     }
 has_leaf P n mark leaf_path (Fork block d first second) path (inr at) =
     let one = Took d ∷ after block path in
@@ -230,7 +231,7 @@ has_leaf P n mark leaf_path (Fork block d first second) path (inr at) =
     let below = has_leaf P n mark leaf_path second two at in
     let e = node P leaf_path [] (leaf_end n mark) in
     record {
-      front = node P path block (Branch x a) ∷ (nodes_of P one first ++ below.front);
+      front = node P path block (Branch d) ∷ (nodes_of P one first ++ below.front);
       back = below.back;
-      is = ap (λ l. node P path block (Branch x a) ∷ l) (ap (λ l. nodes_of P one first ++ l) below.is ∙ sym (append_assoc (nodes_of P one first) below.front (e ∷ below.back)));
+      is = ap (λ l. node P path block (Branch d) ∷ l) (ap (λ l. nodes_of P one first ++ l) below.is ∙ sym (append_assoc (nodes_of P one first) below.front (e ∷ below.back)));
     }

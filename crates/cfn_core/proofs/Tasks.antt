@@ -1,12 +1,18 @@
 -- The path of a leaf runs where the tree is valid, and its costs are small where the tree is tame.
 use Rattle.std.proofs.Common.{◌≡◌, ℕ, inl, inr, List, [], ◌∷◌, refl, sym, ap, ◌∙◌, subst, arith}
+use Rattle.std.specs.Prelude.{None}
 use Rattle.cfn_model.specs.declared.step.Step.{Step}
+use Rattle.cfn_model.specs.declared.step.Decision.TheVariants.{Is}
 use Rattle.cfn_model.specs.declared.step.Event.{Event}
 use Rattle.cfn_model.specs.declared.step.Event.TheVariants.{Did, Took, Refused}
 use Rattle.cfn_model.specs.Network.{Network}
 use Rattle.cfn_model.specs.Steps.{Run, after}
 use Rattle.cfn_model.specs.Tree.{Tree, Open, Closed, Split, Valid}
-use Rattle.cfn_core.specs.Pool.{Mark, Free, PoolTree, Leaf, Shut, Fork, tree_of, IsLeaf, HasSmallCosts, TameBlock, Tame, RunsAlong, TameAlong, Task, IsTask}
+use Rattle.cfn_model.specs.Paths.{HasSmallCosts, TameBlock, Tame, RunsAlong, TameAlong}
+use Rattle.cfn_core.specs.Pool.{Mark, Free, PoolTree, Leaf, Shut, Fork, tree_of, IsLeaf, Task, IsTask}
+use Rattle.cfn_model.proofs.CallerLemmas.{small_took, small_refused}
+use Rattle.cfn_proof.specs.Nodes as nodes
+use Rattle.cfn_proof.specs.Nodes.{open_node, split_at}
 use Rattle.cfn_core.specs.Actions.{Idle, Empty, Spent, Again, Given, task_for, take_idle, take_empty, take_spent, take_again, take_task}
 use Rattle.cfn_core.specs.Laws.{HandsOutTasks}
 
@@ -74,3 +80,11 @@ hands_out P w new worker want task world (take_task n path made tree c h room fi
       some = omega (arith, world.sound.within, room, c.1);
     } in
     (subst (IsTask P) (sym same) here, ap (λ (t : Task). t.worker) same, (let g = ap (λ (t : Task). t.grant) same in omega (arith, g)))
+
+-- costs stay small at the end of a path, and where a leaf there is split
+at_end : (P : Network) (path : List Event) → TameAlong P path → HasSmallCosts P path
+at_end P [] tame = tame
+at_end P (event ∷ path) tame = tame.0
+
+pub half_tame : (P : Network) (path : List Event) (x : ℕ) → TameAlong P path → Tame P path (nodes.tree_of (split_at (open_node None ∷ []) 0 (Is x 0)))
+half_tame P path x tame = (at_end P path tame, small_took P path (Is x 0) (at_end P path tame), small_refused P path (Is x 0) (at_end P path tame))

@@ -5,7 +5,8 @@ use Rattle.cfn_model.specs.declared.step.Event.{Event}
 use Rattle.cfn_model.specs.Sums.{floor}
 use Rattle.cfn_model.specs.Network.{Network, IsNetwork, Fits, Least, cost}
 use Rattle.cfn_model.specs.Tree.{Valid, bound, open_leaves}
-use Rattle.cfn_core.specs.Pool.{Mark, Free, Out, PoolTree, Leaf, Shut, Fork, tree_of, IsLeaf, IsAnyLeaf, Agrees, leaf_of, Task, IsTask, Piece, Pool, IsSound}
+use Rattle.cfn_model.specs.Paths.{Agrees}
+use Rattle.cfn_core.specs.Pool.{Mark, Free, Out, PoolTree, Leaf, Shut, Fork, tree_of, IsLeaf, IsAnyLeaf, leaf_of, Task, IsTask, Piece, Pool, IsSound}
 use Rattle.cfn_core.specs.World.{World, HasWordRule, price, view_at, opening}
 use Rattle.cfn_core.specs.Actions.{Action, Look, Lower, Note, Meet, Take, Give, Back, Recall, Sweep, Reply, Idle, Given, Gone, Done, IsAction, IsThere, IsOut, Acts, Runs, AreActions}
 

@@ -1,15 +1,15 @@
 -- The pool: a search tree whose open leaves are handed out to workers (branch and bound as in Allouche et al. 2015).
-use Rattle.std.specs.Prelude.{◌≡◌, ◌≢◌, ℕ, ◌+◌, ◌<◌, ◌≤◌, ◌⊎◌, ◌^◌, List, [], ◌∷◌, length, slice_index, Option, ◌==◌, if◌then◌else◌, nat_le, pos, ◌<ℤ◌, IsTrue}
+use Rattle.std.specs.Prelude.{◌≡◌, ℕ, ◌+◌, ◌<◌, ◌≤◌, ◌⊎◌, List, [], ◌∷◌, Option, if◌then◌else◌, nat_le}
 use Rattle.cfn_model.specs.declared.step.Step.{Step}
+use Rattle.cfn_model.specs.declared.step.Decision.{Decision}
 use Rattle.cfn_model.specs.declared.step.Event.{Event}
-use Rattle.cfn_model.specs.declared.step.Event.TheVariants.{Did, Took, Refused}
-use Rattle.cfn_model.specs.Network.{Network, Fits}
-use Rattle.cfn_model.specs.Sums.{floor, unary, residual, is_live, is_live_tuple}
-use Rattle.cfn_model.specs.Steps.{IsValue, Allowed, after}
-use Rattle.cfn_model.specs.Network.{dims_at}
+use Rattle.cfn_model.specs.declared.step.Event.TheVariants.{Took, Refused}
+use Rattle.cfn_model.specs.Network.{Network}
+use Rattle.cfn_model.specs.Sums.{floor}
+use Rattle.cfn_model.specs.Steps.{after}
 use Rattle.cfn_model.specs.Decisions.{holds}
-use Rattle.cfn_model.specs.Paths.{RunsAlong, TameAlong}
 use Rattle.cfn_model.specs.Tree.{Tree, Open, Closed, Split, count, splits, open_leaves, Valid, Strict}
+use Rattle.cfn_model.specs.Paths.{RunsAlong, Tame, TameAlong}
 
 -- An open leaf is free, or out: handed to a worker, who may make that many nodes.
 pub data Mark : Type 0 where
