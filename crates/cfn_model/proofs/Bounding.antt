@@ -1,9 +1,9 @@
 -- In a valid tree no assignment below the threshold has a closed leaf, and the bound is at most every cost.
-use Rattle.std.proofs.Common.{◌≡◌, ◌≢◌, ℕ, zero, suc, ◌<◌, ◌≤◌, inl, inr, min, List, [], ◌∷◌, length, refl, sym, ap, ◌∙◌, subst, arith}
+use Rattle.std.proofs.Common.{◌≡◌, ℕ, zero, suc, ◌<◌, ◌≤◌, inl, inr, List, [], ◌∷◌, length, refl, sym, ap, ◌∙◌, subst, arith}
 use Rattle.std.proofs.lemmas.Bool.{cases_lt, cases_Bool}
 use Rattle.std.proofs.lemmas.Int.{ints}
 use Rattle.std.proofs.lemmas.List.Sums.{get_or-le-sum_by}
-use Rattle.std.specs.Prelude.{ℤ, pos, ◌+ℤ◌, ◌≤ℤ◌, neg_ℤ, Bool, true, false, not, ◌&&◌, ◌||◌, ◌==◌, IsTrue, slice_index, nat_lt, if◌then◌else◌, Option, Some, None}
+use Rattle.std.specs.Prelude.{ℤ, pos, ◌+ℤ◌, ◌≤ℤ◌, neg_ℤ, Bool, true, false, not, ◌&&◌, ◌||◌, ◌==◌, IsTrue, slice_index, nat_lt, Option, Some, None}
 use Rattle.cfn_model.specs.declared.step.Step.{Step}
 use Rattle.cfn_model.specs.declared.step.Step.TheVariants.{Project, Extend, Lift, CutValue, CutTuple}
 use Rattle.cfn_model.specs.declared.step.Decision.{Decision}
@@ -133,15 +133,15 @@ split_case : (P : Network) (history : List Event) (block : List Step) (d : Decis
     → AtLeaf P history (Split block d first second) values k
 split_case P history block d first second values k left right = elim (cases_Bool (holds d values)) [
   | inl is ↦ (let l = left is in record {
-      open_leaf = rw is l.open_leaf;
-      floor_below = rw is l.floor_below;
-      bound_below = omega (arith, l.bound_below);
-    })
+    open_leaf = rw is l.open_leaf;
+    floor_below = rw is l.floor_below;
+    bound_below = omega (arith, l.bound_below);
+  })
   | inr not ↦ (let r = right not in record {
-      open_leaf = rw not r.open_leaf;
-      floor_below = rw not r.floor_below;
-      bound_below = omega (arith, r.bound_below);
-    })
+    open_leaf = rw not r.open_leaf;
+    floor_below = rw not r.floor_below;
+    bound_below = omega (arith, r.bound_below);
+  })
 ]
 
 -- the bound is at most the threshold

@@ -12,7 +12,7 @@ use Rattle.cfn_model.specs.Network.{Function, Network, Fits, Least, cost}
 use Rattle.cfn_model.specs.Sums.{floor, unary, residual}
 use Rattle.cfn_model.specs.Steps.{CanProject, CanLift}
 use Rattle.cfn_model.specs.Tree.{Open, Closed}
-use Rattle.cfn_model.specs.declared.version.Version.TheVariants.{First, Second}
+use Rattle.cfn_model.specs.declared.version.Version.TheVariants.{First}
 use Rattle.cfn_model.specs.Certificate.{Certificate, Good}
 use Rattle.cfn_model.specs.Text.{spelling, IsSpelledStep, Spells}
 use Rattle.cfn_model.specs.Reading.{Reads, Refuses, check_variable, check_default, check_count, natural_at, sizes_at, scope_from, tuple_at, listing_at, listings_at, function_from, functions_from, network_at}

@@ -4,6 +4,7 @@ use Rattle.std.specs.Prelude.{codes, Some, slice_index, ◌==◌, nat_le}
 use Rattle.std.specs.Fmt.{digits}
 use Rattle.cfn_model.specs.declared.step.Step.{Step}
 use Rattle.cfn_model.specs.declared.step.Step.TheVariants.{Project, Lift, CutValue}
+use Rattle.cfn_model.specs.declared.step.Decision.{Decision}
 use Rattle.cfn_model.specs.declared.step.Decision.TheVariants.{Is, Most}
 use Rattle.cfn_model.specs.declared.step.Event.{Event}
 use Rattle.cfn_model.specs.declared.step.Event.TheVariants.{Did, Took, Refused}
@@ -79,26 +80,27 @@ low_threshold_bound = refl
 pub closed_bound : (bound tiny [] (Closed []) 10 ≡ 10) × (bound tiny [] (Split [] (Is 0 0) (Open of_value_0) (Closed [])) 10 ≡ 3) × (bound tiny [] (Split [] (Is 0 0) (Closed []) (Open of_value_1)) 10 ≡ 1)
 closed_bound = (refl, refl, refl)
 
+-- the costs of the values of tiny become unary on either side of a split
+project_of_0 : (d : Decision) → CanProject tiny (Took d ∷ []) 0 0 0 3
+project_of_0 d [] fits is live = absurd fits
+project_of_0 d (zero ∷ []) fits is live = at_most refl
+project_of_0 d (suc v ∷ []) fits is live = absurd (omega arith)
+project_of_0 d (v ∷ w ∷ tuple) fits is live = absurd fits.1
+
+project_of_1 : (d : Decision) → CanProject tiny (Refused d ∷ []) 0 0 1 1
+project_of_1 d [] fits is live = absurd fits
+project_of_1 d (zero ∷ []) fits is live = absurd (omega arith)
+project_of_1 d (suc zero ∷ []) fits is live = at_most refl
+project_of_1 d (suc (suc v) ∷ []) fits is live = absurd (omega (arith, is))
+project_of_1 d (v ∷ w ∷ tuple) fits is live = absurd fits.1
+
 pub two_open_valid : Valid tiny [] two_open 10
 two_open_valid = (
   tt,
   record { variable = lit< tt; value = lit< tt },
-  ((record { function = lit< tt; place = lit< tt; value = lit< tt }, lit< tt, first_project), ((lit< tt, lit< tt, can_lift tiny (Did (Project 0 0 0 3) ∷ Took (Is 0 0) ∷ []) 0 3 refl refl), tt)),
-  ((record { function = lit< tt; place = lit< tt; value = lit< tt }, lit< tt, second_project), ((lit< tt, lit< tt, can_lift tiny (Did (Project 0 0 1 1) ∷ Refused (Is 0 0) ∷ []) 0 1 refl refl), tt)),
+  ((record { function = lit< tt; place = lit< tt; value = lit< tt }, lit< tt, project_of_0 (Is 0 0)), ((lit< tt, lit< tt, can_lift tiny (Did (Project 0 0 0 3) ∷ Took (Is 0 0) ∷ []) 0 3 refl refl), tt)),
+  ((record { function = lit< tt; place = lit< tt; value = lit< tt }, lit< tt, project_of_1 (Is 0 0)), ((lit< tt, lit< tt, can_lift tiny (Did (Project 0 0 1 1) ∷ Refused (Is 0 0) ∷ []) 0 1 refl refl), tt)),
 )
-  where
-    first_project : CanProject tiny (Took (Is 0 0) ∷ []) 0 0 0 3
-    first_project [] fits is live = absurd fits
-    first_project (zero ∷ []) fits is live = at_most refl
-    first_project (suc v ∷ []) fits is live = absurd (omega arith)
-    first_project (v ∷ w ∷ tuple) fits is live = absurd fits.1
-
-    second_project : CanProject tiny (Refused (Is 0 0) ∷ []) 0 0 1 1
-    second_project [] fits is live = absurd fits
-    second_project (zero ∷ []) fits is live = absurd (omega arith)
-    second_project (suc zero ∷ []) fits is live = at_most refl
-    second_project (suc (suc v) ∷ []) fits is live = absurd (omega (arith, is))
-    second_project (v ∷ w ∷ tuple) fits is live = absurd fits.1
 
 pub two_open_below : OpenBelow tiny [] two_open 4
 two_open_below = (lit< tt, lit< tt)
@@ -124,12 +126,12 @@ two_open_strict = (record { first = (0, lit< tt, refl, refl); second = (1, lit< 
 pub split_of_dead_value : Strict tiny [] (Split (CutValue 0 0 ∷ []) (Is 0 0) (Open []) (Open [])) → ⊥
 split_of_dead_value strict = let s : IsStrictSplit tiny (Did (CutValue 0 0) ∷ []) (Is 0 0) = strict.0 in by_value s.first.0 s.first.2 s.first.3
   where
+    not_zero : (a : ℕ) → (0 == suc a) ≡ true → ⊥
+    not_zero a is = grind arith
+
     by_value : (a : ℕ) → (0 == a) ≡ true → is_live (Did (CutValue 0 0) ∷ []) 0 a ≡ true → ⊥
     by_value zero is live = let h : false ≡ true = live in absurd cc
     by_value (suc a) is live = absurd (not_zero a is)
-
-    not_zero : (a : ℕ) → (0 == suc a) ≡ true → ⊥
-    not_zero a is = grind arith
 
 pub split_with_no_other : Strict tiny [] (Split (CutValue 0 1 ∷ []) (Is 0 0) (Open []) (Open [])) → ⊥
 split_with_no_other strict = let s : IsStrictSplit tiny (Did (CutValue 0 1) ∷ []) (Is 0 0) = strict.0 in by_value s.second.0 s.second.1 s.second.2 s.second.3
@@ -207,14 +209,14 @@ by_bound_is_good = record {
     record { variable = lit< tt; value = lit< tt },
     (
       (
-        (record { function = lit< tt; place = lit< tt; value = lit< tt }, lit< tt, can_project tiny (Took (Most 0 0) ∷ []) 0 0 0 3 refl refl),
+        (record { function = lit< tt; place = lit< tt; value = lit< tt }, lit< tt, project_of_0 (Most 0 0)),
         ((lit< tt, lit< tt, can_lift tiny (Did (Project 0 0 0 3) ∷ Took (Most 0 0) ∷ []) 0 3 refl refl), tt),
       ),
       inl (lit≤ tt),
     ),
     (
       (
-        (record { function = lit< tt; place = lit< tt; value = lit< tt }, lit< tt, can_project tiny (Refused (Most 0 0) ∷ []) 0 0 1 1 refl refl),
+        (record { function = lit< tt; place = lit< tt; value = lit< tt }, lit< tt, project_of_1 (Most 0 0)),
         ((lit< tt, lit< tt, can_lift tiny (Did (Project 0 0 1 1) ∷ Refused (Most 0 0) ∷ []) 0 1 refl refl), tt),
       ),
       inl (lit≤ tt),
