@@ -80,8 +80,8 @@ always P w network world numbers handed = record {
   handed = handed;
 }
 
-pub holds : Holds
-holds P workers budget actions replies w network few are runs =
+pub always_holds : Holds
+always_holds P workers budget actions replies w network few are runs =
     always P w network (keeping.runs_keep P actions replies (opening P workers budget) w are (opens P workers budget network few) runs)
     (handing.runs_numbered P actions replies (opening P workers budget) w (opens_numbered P workers budget) runs)
     (handing.runs_keep P actions replies (opening P workers budget) w (opens_numbered P workers budget) (opens_handed P workers budget) runs)
