@@ -4,5 +4,6 @@ mod CostStating
 mod Counting
 mod Ends
 mod Files
+mod Pairing
 mod SolveStating
 mod Stating

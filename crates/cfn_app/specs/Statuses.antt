@@ -20,7 +20,7 @@ use Rattle.cfn_app.specs.declared.status.Status.{Status}
 use Rattle.cfn_app.specs.declared.status.Status.TheVariants.{Done, Nothing, BudgetSpent, Usage, Refused, Fault, NoMemory, Disproved}
 use Rattle.cfn_app.specs.Endings.{IsHindered}
 use Rattle.cfn_app.specs.Headline.{Promise}
-use Rattle.cfn_app.specs.Loading.{ReadsAs, RefusesAs, Tells, loaded}
+use Rattle.cfn_app.specs.Loading.{ReadsAs, RefusesAs, Paired, Tells, loaded}
 use Rattle.cfn_app.specs.Checking.{Verifies}
 
 -- The count of failed calls: it rose with the status of a fault, and with no other.
@@ -83,34 +83,32 @@ pub record SolveStatus (ask : SolveRequest) (old new : Outside) (status : Status
 
 -- ---- check
 
-abbrev pub both : CheckRequest → Outside → List ℕ → List ℕ → List Call
-both ask old bytes text = loaded ask.certificate text (loaded ask.file bytes old.calls)
-
 -- The certificate is good, and its bounds were said.
 abbrev pub Verified : CheckRequest → Outside → Outside → Type 0
 Verified ask old new =
-    (bytes : List ℕ) × (text : List ℕ) × (P : Network) × (c : Certificate) × HasFile old ask.file bytes × HasFile old ask.certificate text × ReadsAs Wcsp bytes P × Verifies P text c
-    × Says old (both ask old bytes text) (verified_text c.lower (cost_of c.best)) new
+    (P : Network) × (text : List ℕ) × (c : Certificate) × (middle : Outside) × Paired ask.file ask.certificate old P text middle × Verifies P text c
+    × Says old middle.calls (verified_text c.lower (cost_of c.best)) new
 
--- A line of the certificate fails, no earlier one does, and how it fails was said.
-abbrev pub Refuted : CheckRequest → Outside → Outside → Type 0
-Refuted ask old new =
-    (bytes : List ℕ) × (text : List ℕ) × (P : Network) × (l : ℕ) × (kind : FaultKind) × HasFile old ask.file bytes × HasFile old ask.certificate text × ReadsAs Wcsp bytes P × faulty.Fault P text l kind
-    × Says old (both ask old bytes text) (refused_text kind l) new
+-- A line of a certificate fails, no earlier one does, and how it fails was said.
+abbrev pub Refuted : List ℕ → List ℕ → Outside → Outside → Type 0
+Refuted file certificate old new =
+    (P : Network) × (text : List ℕ) × (l : ℕ) × (kind : FaultKind) × (middle : Outside) × Paired file certificate old P text middle × faulty.Fault P text l kind
+    × Says old middle.calls (refused_text kind l) new
 
 -- The file was refused, after the certificate was loaded too.
-abbrev pub CheckRefused : CheckRequest → Outside → Outside → Type 0
-CheckRefused ask old new = (text : List ℕ) × HasFile old ask.certificate text × FileRefused (λ bytes. both ask old bytes text) ask.file old new
+abbrev pub PairRefused : List ℕ → List ℕ → Outside → Outside → Type 0
+PairRefused file certificate old new =
+    (text : List ℕ) × HasFile old certificate text × FileRefused (λ bytes. loaded certificate text (loaded file bytes old.calls)) file old new
 
 abbrev pub CheckSays : CheckRequest → Outside → Outside → Status → Type 0
 CheckSays ask old new Done = Verified ask old new
 CheckSays ask old new Nothing = ⊥
 CheckSays ask old new BudgetSpent = ⊥
 CheckSays ask old new Usage = ⊥
-CheckSays ask old new Refused = CheckRefused ask old new
+CheckSays ask old new Refused = PairRefused ask.file ask.certificate old new
 CheckSays ask old new Fault = Unit {0}
 CheckSays ask old new NoMemory = SaysNoMemory old new
-CheckSays ask old new Disproved = Refuted ask old new
+CheckSays ask old new Disproved = Refuted ask.file ask.certificate old new
 
 -- What a status of `check` says; a file that is refused ends with that, a good certificate is verified, and any other
 -- text is refused.
