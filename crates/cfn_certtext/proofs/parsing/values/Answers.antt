@@ -1,4 +1,4 @@
-use Rattle.std.proofs.Common.{◌≡◌, sym, ◌∙◌}
+use Rattle.std.proofs.Common.{sym, ◌∙◌}
 use Rattle.cfn_certtext.proofs.Words.{no_first_value, values_fail, values_said}
 use Rattle.cfn_certtext.proofs.parsing.values.Goals as goal
 
