@@ -1,11 +1,10 @@
 -- The request that rows make, from what stands under each name.
-use Rattle.std.proofs.Common.{◌≡◌, ℕ, List, Option, Some, None, Result, Ok, Err, IfErr, ◌∙◌, sym, refl, codes, true, false}
+use Rattle.std.proofs.Common.{◌≡◌, ℕ, List, Option, Some, None, Result, Ok, Err, IfErr, ◌∙◌, sym, refl, codes}
 use Rattle.clap.specs.Words.{Row, Text, all_of, first_of}
-use Rattle.std.specs.Prelude.{IsErrAnd, option_and_then}
-use Rattle.std.specs.Str.{bytes_eq}
+use Rattle.std.specs.Prelude.{IsErrAnd}
 use Rattle.cfn_cli.specs.declared.fault.CliFault.{CliFault}
 use Rattle.cfn_cli.specs.declared.fault.CliFault.TheVariants.{Usage}
-use Rattle.cfn_cli.specs.Request.{check_of, cost_of, SolveRequest, apart, number_of, solve_in, values_of}
+use Rattle.cfn_cli.specs.Request.{check_of, cost_of, migrate_in, number_of, solve_in, values_of}
 
 -- A fault of any kind, where nothing is asked for.
 pub nothing_asked : {T X : Type 0} (r : Result T CliFault) (asked : Option X) → asked ≡ None
@@ -46,16 +45,6 @@ pub solve_without_budget : (rows : List Row) (file certificate : Text) (workers 
 unfolding solve_in
 solve_without_budget rows file certificate workers e1 e2 e3 e4 = rw (e1, e2, e3, e4) refl
 
--- a certificate with another name than the file, and one with the same
-pub apart_asked : (ask : SolveRequest) (asked : Option SolveRequest) → asked ≡ Some ask → bytes_eq ask.file ask.certificate ≡ false → option_and_then apart asked ≡ Some ask
-apart_asked ask asked is other = rw (is, other) refl
-
-pub together_asked : (ask : SolveRequest) (asked : Option SolveRequest) → asked ≡ Some ask → bytes_eq ask.file ask.certificate ≡ true → option_and_then apart asked ≡ None
-together_asked ask asked is same = rw (is, same) refl
-
-pub none_apart : (asked : Option SolveRequest) → asked ≡ None → option_and_then apart asked ≡ None
-none_apart asked none = rw none refl
-
 pub check_made : (rows : List Row) (file certificate : Text) → first_of (codes "file") rows ≡ Some file
     → first_of (codes "certificate") rows ≡ Some certificate → check_of rows ≡ Some (record { file = file; certificate = certificate })
 unfolding check_of
@@ -69,6 +58,26 @@ pub check_without_certificate : (rows : List Row) (file : Text) → first_of (co
     → first_of (codes "certificate") rows ≡ None → check_of rows ≡ None
 unfolding check_of
 check_without_certificate rows file e1 e2 = rw (e1, e2) refl
+
+pub migrate_made : (rows : List Row) (file certificate out : Text) → first_of (codes "file") rows ≡ Some file
+    → first_of (codes "certificate") rows ≡ Some certificate → first_of (codes "out") rows ≡ Some out
+    → migrate_in rows ≡ Some (record { file = file; certificate = certificate; out = out })
+unfolding migrate_in
+migrate_made rows file certificate out e1 e2 e3 = rw (e1, e2, e3) refl
+
+pub migrate_without_file : (rows : List Row) → first_of (codes "file") rows ≡ None → migrate_in rows ≡ None
+unfolding migrate_in
+migrate_without_file rows e1 = rw e1 refl
+
+pub migrate_without_certificate : (rows : List Row) (file : Text) → first_of (codes "file") rows ≡ Some file
+    → first_of (codes "certificate") rows ≡ None → migrate_in rows ≡ None
+unfolding migrate_in
+migrate_without_certificate rows file e1 e2 = rw (e1, e2) refl
+
+pub migrate_without_out : (rows : List Row) (file certificate : Text) → first_of (codes "file") rows ≡ Some file
+    → first_of (codes "certificate") rows ≡ Some certificate → first_of (codes "out") rows ≡ None → migrate_in rows ≡ None
+unfolding migrate_in
+migrate_without_out rows file certificate e1 e2 e3 = rw (e1, e2, e3) refl
 
 pub cost_made : (rows : List Row) (file : Text) (texts : List Text) (values : List ℕ) → first_of (codes "file") rows ≡ Some file
     → all_of (codes "values") rows ≡ Some texts → values_of texts ≡ Some values

@@ -19,6 +19,10 @@ file_rule = record (new_rule (codes "file")) { required = true }
 unfoldable pub certificate_rule : Rule
 certificate_rule = record (new_rule (codes "certificate")) { required = true }
 
+-- OUT
+unfoldable pub out_rule : Rule
+out_rule = record (new_rule (codes "out")) { required = true }
+
 -- [--workers W], and 1 where it is left out
 unfoldable pub workers_rule : Rule
 workers_rule = record (new_rule (codes "workers")) {
@@ -56,8 +60,12 @@ check_app = with_rule (with_rule (new_app (codes "check")) file_rule) certificat
 unfoldable pub cost_app : App
 cost_app = with_rule (with_rule (new_app (codes "cost")) file_rule) values_rule
 
+-- migrate FILE CERT OUT
+unfoldable pub migrate_app : App
+migrate_app = with_rule (with_rule (with_rule (new_app (codes "migrate")) file_rule) certificate_rule) out_rule
+
 -- The program, which wants one of its commands.
 unfoldable pub command_line : App
-command_line = with_subcommand (with_subcommand (with_subcommand
+command_line = with_subcommand (with_subcommand (with_subcommand (with_subcommand
     (on_top (λ s. record s { subcommand_required = true }) (new_app (codes "wcspsolve")))
-    solve_app.top) check_app.top) cost_app.top
+    solve_app.top) check_app.top) cost_app.top) migrate_app.top

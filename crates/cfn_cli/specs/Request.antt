@@ -8,10 +8,11 @@ use Rattle.clap.specs.Words.{Kinds, Row, Text, all_of, fault_of, first_of, subco
 use Rattle.clap.specs.ValueTests.{is_unsigned_in}
 use Rattle.cfn_cli.specs.Line.{command_line}
 use Rattle.cfn_cli.specs.declared.command.Command.{Command}
-use Rattle.cfn_cli.specs.declared.command.Command.TheVariants.{Solve, Check, Cost}
+use Rattle.cfn_cli.specs.declared.command.Command.TheVariants.{Solve, Check, Cost, Migrate}
 use Rattle.cfn_cli.specs.declared.command.SolveArguments.{SolveArguments}
 use Rattle.cfn_cli.specs.declared.command.CheckArguments.{CheckArguments}
 use Rattle.cfn_cli.specs.declared.command.CostArguments.{CostArguments}
+use Rattle.cfn_cli.specs.declared.command.MigrateArguments.{MigrateArguments}
 
 -- ---- requests
 
@@ -29,10 +30,16 @@ pub record CostRequest : Type 0 where
   pub file : Text
   pub values : List ℕ
 
+pub record MigrateRequest : Type 0 where
+  pub file : Text
+  pub certificate : Text
+  pub out : Text
+
 pub data Request : Type 0 where
   solve : SolveRequest → Request
   check : CheckRequest → Request
   cost : CostRequest → Request
+  migrate : MigrateRequest → Request
 
 -- ---- the request that a command holds
 
@@ -50,10 +57,14 @@ spoken_check a = record { file = string_bytes a.file; certificate = string_bytes
 abbrev pub spoken_cost : CostArguments → CostRequest
 spoken_cost a = record { file = string_bytes a.file; values = a.values.items }
 
+abbrev pub spoken_migrate : MigrateArguments → MigrateRequest
+spoken_migrate a = record { file = string_bytes a.file; certificate = string_bytes a.certificate; out = string_bytes a.out }
+
 abbrev pub request : Command → Request
 request (Solve a) = solve (spoken_solve a)
 request (Check a) = check (spoken_check a)
 request (Cost a) = cost (spoken_cost a)
+request (Migrate a) = migrate (spoken_migrate a)
 
 -- ---- the numbers
 
@@ -111,11 +122,27 @@ cost_of rows = option_and_then (λ file. option_map (λ values. record {
   values = values;
 }) (option_and_then values_of (all_of (codes "values") rows))) (first_of (codes "file") rows)
 
+-- What the rows of `migrate` say.
+unfoldable pub migrate_in : List Row → Option MigrateRequest
+migrate_in rows = option_and_then (λ file. option_and_then (λ certificate. option_map (λ out. record {
+  file = file;
+  certificate = certificate;
+  out = out;
+}) (first_of (codes "out") rows)) (first_of (codes "certificate") rows)) (first_of (codes "file") rows)
+
+-- A certificate over the file itself is asked for by no command.
+abbrev pub migrate_apart : MigrateRequest → Option MigrateRequest
+migrate_apart ask = if bytes_eq ask.file ask.out then None else Some ask
+
+abbrev pub migrate_of : List Row → Option MigrateRequest
+migrate_of rows = option_and_then migrate_apart (migrate_in rows)
+
 abbrev pub request_named : Text → List Row → Option Request
 request_named name rows =
     if bytes_eq name (codes "solve") then option_map solve (solve_of rows)
     else (if bytes_eq name (codes "check") then option_map check (check_of rows)
-    else (if bytes_eq name (codes "cost") then option_map cost (cost_of rows) else None))
+    else (if bytes_eq name (codes "cost") then option_map cost (cost_of rows)
+    else (if bytes_eq name (codes "migrate") then option_map migrate (migrate_of rows) else None)))
 
 abbrev pub request_from : Option (Text × List Row) → Option Request
 request_from = option_and_then (λ met. request_named met.0 met.1)
@@ -144,8 +171,10 @@ abbrev pub IfSolve : Command → (SolveArguments → Type 0) → Type 0
 IfSolve (Solve a) P = P a
 IfSolve (Check a) P = Unit {0}
 IfSolve (Cost a) P = Unit {0}
+IfSolve (Migrate a) P = Unit {0}
 
 abbrev pub IfCost : Command → (CostArguments → Type 0) → Type 0
 IfCost (Solve a) P = Unit {0}
 IfCost (Check a) P = Unit {0}
 IfCost (Cost a) P = P a
+IfCost (Migrate a) P = Unit {0}

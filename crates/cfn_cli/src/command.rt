@@ -9,6 +9,8 @@ pub enum Command {
     Check(CheckArguments),
     /// `cost FILE VALUES..`
     Cost(CostArguments),
+    /// `migrate FILE CERT OUT`
+    Migrate(MigrateArguments),
 }
 
 /// What to solve, and how far to go.
@@ -41,4 +43,15 @@ pub struct CostArguments {
     pub file: String,
     /// A value for each variable, in order: at least one.
     pub values: Vec<u32>,
+}
+
+/// A certificate to write in the second version, and the file that it is for.
+#[derive(Debug, Drop)]
+pub struct MigrateArguments {
+    /// The name of the file that the network is read from.
+    pub file: String,
+    /// The name of the file that the certificate is read from.
+    pub certificate: String,
+    /// The name of the file that the certificate is written to. It is not the network's file.
+    pub out: String,
 }

@@ -3,6 +3,7 @@
 //!     wcspsolve solve FILE CERT [--workers W] [--budget B]
 //!     wcspsolve check FILE CERT
 //!     wcspsolve cost FILE VALUES..
+//!     wcspsolve migrate FILE CERT OUT
 //!
 //! The crate `clap` says which word is which argument, by the command that `line` builds. `reading`
 //! reads the numbers of what clap found and holds them to their limits. What the words spell,
@@ -16,7 +17,7 @@ mod line;
 mod parsing;
 mod reading;
 
-pub use command::{CheckArguments, Command, CostArguments, SolveArguments};
+pub use command::{CheckArguments, Command, CostArguments, MigrateArguments, SolveArguments};
 pub use fault::CliFault;
 pub use parsing::parse;
 

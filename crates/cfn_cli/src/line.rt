@@ -3,7 +3,7 @@
 ghost use Rattle.std.specs.Prelude.{◌≡◌, IfOk, false};
 ghost use Rattle.clap.specs.Words.{rule_of};
 ghost use Rattle.cfn_cli.specs.Building.{Builds};
-ghost use Rattle.cfn_cli.specs.Line.{budget_rule, certificate_rule, check_app, command_line, cost_app, file_rule, solve_app, values_rule, workers_rule};
+ghost use Rattle.cfn_cli.specs.Line.{budget_rule, certificate_rule, check_app, command_line, cost_app, file_rule, migrate_app, out_rule, solve_app, values_rule, workers_rule};
 
 use clap::{Arg, ArgAction, Command, value_parser};
 use std::alloc::{AllocError, Global};
@@ -15,11 +15,13 @@ pub(crate) fn command_line<'a>(alloc: Global) -> Result<Command<'a>, AllocError>
     let solve = solve(alloc)?;
     let check = check(alloc)?;
     let cost = cost(alloc)?;
+    let migrate = migrate(alloc)?;
     Command::new(alloc, "wcspsolve")
         .subcommand_required(true)
         .subcommand(solve)?
         .subcommand(check)?
-        .subcommand(cost)
+        .subcommand(cost)?
+        .subcommand(migrate)
 }
 
 fn solve<'a>(alloc: Global) -> Result<Command<'a>, AllocError>
@@ -48,6 +50,15 @@ fn cost<'a>(alloc: Global) -> Result<Command<'a>, AllocError>
         .arg(values(alloc))
 }
 
+fn migrate<'a>(alloc: Global) -> Result<Command<'a>, AllocError>
+    ensures { IfOk result (Builds migrate_app) }
+{
+    Command::new(alloc, "migrate")
+        .arg(file(alloc))?
+        .arg(certificate(alloc))?
+        .arg(out(alloc))
+}
+
 #[tactic(auto, unfolding(crate::specs::Line::file_rule))]
 fn file<'a>(alloc: Global) -> Arg<'a>
     ensures rule { rule_of result ≡ file_rule }
@@ -62,6 +73,14 @@ fn certificate<'a>(alloc: Global) -> Arg<'a>
     ensures local { result.global ≡ false }
 {
     Arg::new(alloc, "certificate").required(true)
+}
+
+#[tactic(auto, unfolding(crate::specs::Line::out_rule))]
+fn out<'a>(alloc: Global) -> Arg<'a>
+    ensures rule { rule_of result ≡ out_rule }
+    ensures local { result.global ≡ false }
+{
+    Arg::new(alloc, "out").required(true)
 }
 
 #[tactic(auto, unfolding(crate::specs::Line::workers_rule))]

@@ -3,9 +3,9 @@
 ghost use Rattle.std.specs.Prelude.{◌≡◌, ◌≤◌, ◌<◌, ◌^◌, Some, None, IfErr, IfOk, IfSome, length, map};
 ghost use Rattle.std.specs.List.{All};
 ghost use Rattle.clap.specs.Words.{first_of, found_of, rows_of, subcommand_rows_of};
-ghost use Rattle.cfn_cli.specs.Request.{IfCost, IfSolve, check_of, cost_of, number_in, number_of, request, request_from, request_named, solve_in, solve_of, spoken_check, spoken_cost, spoken_solve, values_of};
+ghost use Rattle.cfn_cli.specs.Request.{IfCost, IfSolve, check_of, cost_of, migrate_in, migrate_of, number_in, number_of, request, request_from, request_named, solve_in, solve_of, spoken_check, spoken_cost, spoken_migrate, spoken_solve, values_of};
 
-use crate::command::{CheckArguments, Command, CostArguments, SolveArguments};
+use crate::command::{CheckArguments, Command, CostArguments, MigrateArguments, SolveArguments};
 use crate::fault::CliFault;
 use clap::ArgMatches;
 use std::alloc::Global;
@@ -50,6 +50,8 @@ fn named(alloc: Global, name: &str, found: &ArgMatches<'_>) -> Result<Command, C
         Ok(Command::Check(check(alloc, found)?))
     } else if name == "cost" {
         Ok(Command::Cost(cost(alloc, found)?))
+    } else if name == "migrate" {
+        Ok(Command::Migrate(migrate(alloc, found)?))
     } else {
         Err(CliFault::Usage)
     }
@@ -118,6 +120,35 @@ fn cost(alloc: Global, found: &ArgMatches<'_>) -> Result<CostArguments, CliFault
     Ok(CostArguments {
         file: String::from_str(alloc, file)?,
         values,
+    })
+}
+
+/// What is asked of `migrate`, which writes to another name than its file's.
+fn migrate(alloc: Global, found: &ArgMatches<'_>) -> Result<MigrateArguments, CliFault>
+    ensures arguments { IfOk result (λ m. migrate_of (rows_of (found_of found.now)) ≡ Some (spoken_migrate m)) }
+    ensures usage { IfErr result (λ fault. fault ≡ CliFault.Usage
+        → migrate_of (rows_of (found_of found.now)) ≡ None) }
+{
+    let ask = migrate_in(alloc, found)?;
+    if ask.file.as_str() == ask.out.as_str() {
+        return Err(CliFault::Usage);
+    }
+    Ok(ask)
+}
+
+/// What the arguments of `migrate` say.
+fn migrate_in(alloc: Global, found: &ArgMatches<'_>) -> Result<MigrateArguments, CliFault>
+    ensures arguments { IfOk result (λ m. migrate_in (rows_of (found_of found.now)) ≡ Some (spoken_migrate m)) }
+    ensures usage { IfErr result (λ fault. fault ≡ CliFault.Usage
+        → migrate_in (rows_of (found_of found.now)) ≡ None) }
+{
+    let file = text(found, "file")?;
+    let first = text(found, "certificate")?;
+    let out = text(found, "out")?;
+    Ok(MigrateArguments {
+        file: String::from_str(alloc, file)?,
+        certificate: String::from_str(alloc, first)?,
+        out: String::from_str(alloc, out)?,
     })
 }
 

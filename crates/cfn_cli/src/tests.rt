@@ -32,6 +32,17 @@ fn checks(alloc: Global, words: &[&str]) -> bool {
     }
 }
 
+fn migrates(alloc: Global, words: &[&str], out: &str) -> bool {
+    match parse(alloc, words) {
+        Ok(Command::Migrate(asked)) => {
+            asked.file.as_str() == "a"
+                && asked.certificate.as_str() == "b"
+                && asked.out.as_str() == out
+        }
+        _ => false,
+    }
+}
+
 fn costs(alloc: Global, words: &[&str], values: &[u32]) -> bool {
     match parse(alloc, words) {
         Ok(Command::Cost(asked)) => {
@@ -87,6 +98,13 @@ fn cost_is_read(rt: HostRuntime) {
 }
 
 #[test]
+fn migrate_is_read(rt: HostRuntime) {
+    let alloc = rt.alloc();
+    assert!(rt; migrates(alloc, &["w", "migrate", "a", "b", "c"], "c"));
+    assert!(rt; migrates(alloc, &["w", "migrate", "a", "b", "b"], "b"));
+}
+
+#[test]
 fn other_words_are_usage(rt: HostRuntime) {
     let alloc = rt.alloc();
     for words in [
@@ -114,6 +132,9 @@ fn other_words_are_usage(rt: HostRuntime) {
         &["w", "solve", "a", "b", "--budget=-1"],
         &["w", "solve", "a", "b", "--budget", "9223372036854775808"],
         &["w", "solve", "a", "b", "--budget"],
+        &["w", "migrate", "a", "b"],
+        &["w", "migrate", "a", "b", "a"],
+        &["w", "migrate", "a", "b", "c", "d"],
         &["w", "cost"],
         &["w", "cost", "f"],
         &["w", "cost", "f", "4294967296"],

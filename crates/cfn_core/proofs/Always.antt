@@ -4,7 +4,7 @@ use Rattle.std.proofs.lemmas.Bool.{cases_lt}
 use Rattle.std.specs.Prelude.{Bool, true, false, slice_index, if◌then◌else◌, ◌==◌}
 use Rattle.cfn_model.specs.declared.step.Step.{Step}
 use Rattle.cfn_model.specs.declared.step.Event.{Event}
-use Rattle.cfn_model.specs.declared.step.Event.TheVariants.{Did, Is, IsNot}
+use Rattle.cfn_model.specs.declared.step.Event.TheVariants.{Did, Took, Refused}
 use Rattle.cfn_model.specs.Network.{Network, IsNetwork, Fits, cost}
 use Rattle.cfn_model.specs.Sums.{floor}
 use Rattle.cfn_model.specs.Steps.{after}
@@ -28,8 +28,8 @@ after_rises P (step ∷ block) history = omega (arith, after_rises P block (Did 
 leaf_rises : (P : Network) (tree : PoolTree) (history : List Event) (n : ℕ) (mark : Mark) (path : List Event) → IsLeaf tree history n mark path → floor P history ≤ floor P path
 leaf_rises P (Leaf number m) history n mark path at = (let e = ap (floor P) at.2 in omega (arith, e))
 leaf_rises P (Shut block) history n mark path at = absurd at
-leaf_rises P (Fork block x a first second) history n mark path (inl at) = omega (arith, after_rises P block history, leaf_rises P first (Is x a ∷ after block history) n mark path at)
-leaf_rises P (Fork block x a first second) history n mark path (inr at) = omega (arith, after_rises P block history, leaf_rises P second (IsNot x a ∷ after block history) n mark path at)
+leaf_rises P (Fork block d first second) history n mark path (inl at) = omega (arith, after_rises P block history, leaf_rises P first (Took d ∷ after block history) n mark path at)
+leaf_rises P (Fork block d first second) history n mark path (inr at) = omega (arith, after_rises P block history, leaf_rises P second (Refused d ∷ after block history) n mark path at)
 
 word_low : (P : Network) (w : World) → IsWorld P w → w.word ≤ P.upper
 word_low P w world = omega (arith, world.word.pool.from, world.word.pool.upto)
@@ -48,10 +48,10 @@ leaf_cases : (values : List ℕ) (Q : PoolTree → Type 0) (tree : PoolTree) (hi
     (IsClosed (leaf values (tree_of tree)) → (block : List Step) → Q (Shut block)) → Q (leaf_of values tree)
 leaf_cases values Q (Leaf number m) history open_leaf closed = open_leaf number m history (refl, refl, refl)
 leaf_cases values Q (Shut block) history open_leaf closed = closed tt block
-leaf_cases values Q (Fork block x a first second) history open_leaf closed =
+leaf_cases values Q (Fork block d first second) history open_leaf closed =
     chosen (slice_index values x == a) Q (leaf_of values first) (leaf_of values second) (leaf values (tree_of first)) (leaf values (tree_of second)) closed
-    (λ c. leaf_cases values Q first (Is x a ∷ after block history) (λ n mark path at. open_leaf n mark path (inl at)) c)
-    (λ c. leaf_cases values Q second (IsNot x a ∷ after block history) (λ n mark path at. open_leaf n mark path (inr at)) c)
+    (λ c. leaf_cases values Q first (Took d ∷ after block history) (λ n mark path at. open_leaf n mark path (inl at)) c)
+    (λ c. leaf_cases values Q second (Refused d ∷ after block history) (λ n mark path at. open_leaf n mark path (inr at)) c)
 
 covered : (P : Network) (w : World) → IsNetwork P → IsWorld P w → IsHanded P w → (values : List ℕ) → Fits P.sizes values → IsCovered P w values (leaf_of values w.pool.tree)
 covered P w network world handed values fits = leaf_cases values (IsCovered P w values) w.pool.tree [] at_open at_closed
@@ -109,8 +109,8 @@ found P w world below =
 no_open_bound : (P : Network) (tree : Tree) (history : List Event) (k : ℕ) → open_leaves tree ≡ 0 → bound P history tree k ≡ k
 no_open_bound P (Open block) history k none = absurd (omega (arith, none))
 no_open_bound P (Closed block) history k none = refl
-no_open_bound P (Split block x a first second) history k none =
-    omega (arith, no_open_bound P first (Is x a ∷ after block history) k (omega (arith, none)), no_open_bound P second (IsNot x a ∷ after block history) k (omega (arith, none)))
+no_open_bound P (Split block d first second) history k none =
+    omega (arith, no_open_bound P first (Took d ∷ after block history) k (omega (arith, none)), no_open_bound P second (Refused d ∷ after block history) k (omega (arith, none)))
 
 pub solves : Solves
 solves P w network world none =

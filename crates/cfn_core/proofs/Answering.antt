@@ -2,7 +2,7 @@
 use Rattle.std.proofs.Common.{◌≡◌, ℕ, zero, suc, ◌+◌, ◌<◌, ◌≤◌, ◌⊎◌, inl, inr, List, [], ◌∷◌, length, refl, sym, ap, ap₂, ◌∙◌, subst, arith, Option, Some, None, MatchOption, slice_index_or}
 use Rattle.std.proofs.lemmas.Bool.{cases_lt, cases_eq}
 use Rattle.cfn_model.specs.declared.step.Event.{Event}
-use Rattle.cfn_model.specs.declared.step.Event.TheVariants.{Is, IsNot}
+use Rattle.cfn_model.specs.declared.step.Event.TheVariants.{Took, Refused}
 use Rattle.cfn_model.specs.Network.{Network}
 use Rattle.cfn_model.specs.Steps.{after}
 use Rattle.cfn_model.specs.Tree.{open_leaves}
@@ -97,33 +97,33 @@ one_path : (n : ℕ) (mark other_mark : Mark) (path other : List Event) (tree : 
     IsLeaf tree history n mark path → IsLeaf tree history n other_mark other → (mark ≡ other_mark) × (path ≡ other)
 one_path n mark other_mark path other (Leaf number m) history one at here = (sym at.1 ∙ here.1, at.2 ∙ sym here.2)
 one_path n mark other_mark path other (Shut block) history one at here = absurd at
-one_path n mark other_mark path other (Fork block x a first second) history one (inl at) (inl here) = one_path n mark other_mark path other first (Is x a ∷ after block history) (omega (arith, one)) at here
-one_path n mark other_mark path other (Fork block x a first second) history one (inr at) (inr here) = one_path n mark other_mark path other second (IsNot x a ∷ after block history) (omega (arith, one)) at here
-one_path n mark other_mark path other (Fork block x a first second) history one (inl at) (inr here) =
-    absurd (let c = leaf_counts first (Is x a ∷ after block history) n mark path at in let d = leaf_counts second (IsNot x a ∷ after block history) n other_mark other here in omega (arith, one, c, d))
-one_path n mark other_mark path other (Fork block x a first second) history one (inr at) (inl here) =
-    absurd (let c = leaf_counts second (IsNot x a ∷ after block history) n mark path at in let d = leaf_counts first (Is x a ∷ after block history) n other_mark other here in omega (arith, one, c, d))
+one_path n mark other_mark path other (Fork block d first second) history one (inl at) (inl here) = one_path n mark other_mark path other first (Took d ∷ after block history) (omega (arith, one)) at here
+one_path n mark other_mark path other (Fork block d first second) history one (inr at) (inr here) = one_path n mark other_mark path other second (Refused d ∷ after block history) (omega (arith, one)) at here
+one_path n mark other_mark path other (Fork block d first second) history one (inl at) (inr here) =
+    absurd (let c = leaf_counts first (Took d ∷ after block history) n mark path at in let d = leaf_counts second (Refused d ∷ after block history) n other_mark other here in omega (arith, one, c, d))
+one_path n mark other_mark path other (Fork block d first second) history one (inr at) (inl here) =
+    absurd (let c = leaf_counts second (Refused d ∷ after block history) n mark path at in let d = leaf_counts first (Took d ∷ after block history) n other_mark other here in omega (arith, one, c, d))
 
 one_tree : (n : ℕ) (mark : Mark) (path : List Event) (place : PoolTree) (tree : PoolTree) (history : List Event) (new other : PoolTree) → leaves_with n tree ≤ 1 →
     Replaced tree history n mark path place new → Replaced tree history n mark path place other → new ≡ other
 one_tree n mark path place (Leaf number m) history new other one at here = at.3 ∙ sym here.3
 one_tree n mark path place (Shut block) history new other one at here = absurd at
-one_tree n mark path place (Fork block x a first second) history new other one (inl at) (inl here) =
-    at.2 ∙ ap (λ t. Fork block x a t second) (one_tree n mark path place first (Is x a ∷ after block history) at.0 here.0 (omega (arith, one)) at.1 here.1) ∙ sym here.2
-one_tree n mark path place (Fork block x a first second) history new other one (inr at) (inr here) =
-    at.2 ∙ ap (λ t. Fork block x a first t) (one_tree n mark path place second (IsNot x a ∷ after block history) at.0 here.0 (omega (arith, one)) at.1 here.1) ∙ sym here.2
-one_tree n mark path place (Fork block x a first second) history new other one (inl at) (inr here) =
-    absurd (let c = leaf_counts first (Is x a ∷ after block history) n mark path (replaced_leaf n mark path place first (Is x a ∷ after block history) at.0 at.1) in
-    let d = leaf_counts second (IsNot x a ∷ after block history) n mark path (replaced_leaf n mark path place second (IsNot x a ∷ after block history) here.0 here.1) in omega (arith, one, c, d))
-one_tree n mark path place (Fork block x a first second) history new other one (inr at) (inl here) =
-    absurd (let c = leaf_counts second (IsNot x a ∷ after block history) n mark path (replaced_leaf n mark path place second (IsNot x a ∷ after block history) at.0 at.1) in
-    let d = leaf_counts first (Is x a ∷ after block history) n mark path (replaced_leaf n mark path place first (Is x a ∷ after block history) here.0 here.1) in omega (arith, one, c, d))
+one_tree n mark path place (Fork block d first second) history new other one (inl at) (inl here) =
+    at.2 ∙ ap (λ t. Fork block d t second) (one_tree n mark path place first (Took d ∷ after block history) at.0 here.0 (omega (arith, one)) at.1 here.1) ∙ sym here.2
+one_tree n mark path place (Fork block d first second) history new other one (inr at) (inr here) =
+    at.2 ∙ ap (λ t. Fork block d first t) (one_tree n mark path place second (Refused d ∷ after block history) at.0 here.0 (omega (arith, one)) at.1 here.1) ∙ sym here.2
+one_tree n mark path place (Fork block d first second) history new other one (inl at) (inr here) =
+    absurd (let c = leaf_counts first (Took d ∷ after block history) n mark path (replaced_leaf n mark path place first (Took d ∷ after block history) at.0 at.1) in
+    let d = leaf_counts second (Refused d ∷ after block history) n mark path (replaced_leaf n mark path place second (Refused d ∷ after block history) here.0 here.1) in omega (arith, one, c, d))
+one_tree n mark path place (Fork block d first second) history new other one (inr at) (inl here) =
+    absurd (let c = leaf_counts second (Refused d ∷ after block history) n mark path (replaced_leaf n mark path place second (Refused d ∷ after block history) at.0 at.1) in
+    let d = leaf_counts first (Took d ∷ after block history) n mark path (replaced_leaf n mark path place first (Took d ∷ after block history) here.0 here.1) in omega (arith, one, c, d))
 
 leaf_open : (tree : PoolTree) (history : List Event) (n : ℕ) (mark : Mark) (path : List Event) → IsLeaf tree history n mark path → 0 < open_leaves (tree_of tree)
 leaf_open (Leaf number m) history n mark path at = omega arith
 leaf_open (Shut block) history n mark path at = absurd at
-leaf_open (Fork block x a first second) history n mark path (inl at) = omega (arith, leaf_open first (Is x a ∷ after block history) n mark path at)
-leaf_open (Fork block x a first second) history n mark path (inr at) = omega (arith, leaf_open second (IsNot x a ∷ after block history) n mark path at)
+leaf_open (Fork block d first second) history n mark path (inl at) = omega (arith, leaf_open first (Took d ∷ after block history) n mark path at)
+leaf_open (Fork block d first second) history n mark path (inr at) = omega (arith, leaf_open second (Refused d ∷ after block history) n mark path at)
 
 abbrev Same : Reply → Reply → World → World → Type 0
 Same r other new another = (r ≡ other) × (new ≡ another)

@@ -2,8 +2,9 @@
 use Rattle.std.proofs.Common.{◌≡◌, ◌≢◌, ℕ, ◌<◌, ◌≤◌, ◌⊎◌, inl, inr, List, [], ◌∷◌, refl, sym, ap, ap₂, ◌∙◌, arith, if◌then◌else◌, ◌==◌}
 use Rattle.std.proofs.lemmas.Bool.{cases_lt, cases_eq}
 use Rattle.cfn_model.specs.declared.step.Step.TheVariants.{Project, Extend, Lift, CutValue, CutTuple}
+use Rattle.cfn_model.specs.declared.step.Decision.TheVariants.{Is, Most}
 use Rattle.cfn_model.specs.declared.step.Event.{Event}
-use Rattle.cfn_model.specs.declared.step.Event.TheVariants.{Did, Is, IsNot}
+use Rattle.cfn_model.specs.declared.step.Event.TheVariants.{Did, Took, Refused}
 use Rattle.cfn_model.specs.Network.{Network}
 use Rattle.cfn_model.specs.Sums.{floor}
 use Rattle.cfn_model.specs.Steps.{after}
@@ -19,8 +20,10 @@ numbers_of (Did (Extend f i a m)) = Five 1 f i a m
 numbers_of (Did (Lift x m)) = Five 2 x m 0 0
 numbers_of (Did (CutValue x a)) = Five 3 x a 0 0
 numbers_of (Did (CutTuple f c)) = Five 4 f c 0 0
-numbers_of (Is x a) = Five 5 x a 0 0
-numbers_of (IsNot x a) = Five 6 x a 0 0
+numbers_of (Took (Is x a)) = Five 5 x a 0 0
+numbers_of (Took (Most x v)) = Five 6 x v 0 0
+numbers_of (Refused (Is x a)) = Five 7 x a 0 0
+numbers_of (Refused (Most x v)) = Five 8 x v 0 0
 
 event_of : Numbers → Event
 event_of (Five kind one two three four) =
@@ -29,8 +32,10 @@ event_of (Five kind one two three four) =
     else if kind == 2 then Did (Lift one two)
     else if kind == 3 then Did (CutValue one two)
     else if kind == 4 then Did (CutTuple one two)
-    else if kind == 5 then Is one two
-    else IsNot one two
+    else if kind == 5 then Took (Is one two)
+    else if kind == 6 then Took (Most one two)
+    else if kind == 7 then Refused (Is one two)
+    else Refused (Most one two)
 
 there_and_back : (e : Event) → event_of (numbers_of e) ≡ e
 unfolding numbers_of event_of
@@ -39,8 +44,10 @@ there_and_back (Did (Extend f i a m)) = refl
 there_and_back (Did (Lift x m)) = refl
 there_and_back (Did (CutValue x a)) = refl
 there_and_back (Did (CutTuple f c)) = refl
-there_and_back (Is x a) = refl
-there_and_back (IsNot x a) = refl
+there_and_back (Took (Is x a)) = refl
+there_and_back (Took (Most x v)) = refl
+there_and_back (Refused (Is x a)) = refl
+there_and_back (Refused (Most x v)) = refl
 
 first_same : {a b c d e v w x y z : ℕ} → Five a b c d e ≡ Five v w x y z → (a ≡ v) × (b ≡ w) × (c ≡ x) × (d ≡ y) × (e ≡ z)
 first_same h = ((cc), (cc), (cc), (cc), (cc))
@@ -107,9 +114,9 @@ find_some (Leaf number m) history n mark = elim (cases_eq number n) [
   | inl numbers ↦ elim (same_mark m mark) [ inr other ↦ inr (λ path at. other at.1) | inl marks ↦ inl (history, (numbers, marks, refl)) ]
 ]
 find_some (Shut block) history n mark = inr (λ path at. at)
-find_some (Fork block x a first second) history n mark = elim (find_some first (Is x a ∷ after block history) n mark) [
+find_some (Fork block d first second) history n mark = elim (find_some first (Took d ∷ after block history) n mark) [
   | inl here ↦ inl (here.0, inl here.1)
-  | inr none ↦ elim (find_some second (IsNot x a ∷ after block history) n mark) [
+  | inr none ↦ elim (find_some second (Refused d ∷ after block history) n mark) [
     | inl here ↦ inl (here.0, inr here.1)
     | inr never ↦ inr (λ path at. elim at [ inl here ↦ none path here | inr here ↦ never path here ])
   ]
@@ -124,9 +131,9 @@ find_this (Leaf number m) history n mark path = elim (cases_eq number n) [
   ]
 ]
 find_this (Shut block) history n mark path = inr (λ at. at)
-find_this (Fork block x a first second) history n mark path = elim (find_this first (Is x a ∷ after block history) n mark path) [
+find_this (Fork block d first second) history n mark path = elim (find_this first (Took d ∷ after block history) n mark path) [
   | inl here ↦ inl (inl here)
-  | inr none ↦ elim (find_this second (IsNot x a ∷ after block history) n mark path) [
+  | inr none ↦ elim (find_this second (Refused d ∷ after block history) n mark path) [
     | inl here ↦ inl (inr here)
     | inr never ↦ inr (λ at. elim at [ inl here ↦ none here | inr here ↦ never here ])
   ]
@@ -137,10 +144,10 @@ pub can_replace : (place tree : PoolTree) (history : List Event) (n : ℕ) (mark
     (new : PoolTree) × Replaced tree history n mark path place new
 can_replace place (Leaf number m) history n mark path at = (place, (at.0, at.1, at.2, refl))
 can_replace place (Shut block) history n mark path at = absurd at
-can_replace place (Fork block x a first second) history n mark path (inl at) =
-    let below = can_replace place first (Is x a ∷ after block history) n mark path at in (Fork block x a below.0 second, inl (below.0, below.1, refl))
-can_replace place (Fork block x a first second) history n mark path (inr at) =
-    let below = can_replace place second (IsNot x a ∷ after block history) n mark path at in (Fork block x a first below.0, inr (below.0, below.1, refl))
+can_replace place (Fork block d first second) history n mark path (inl at) =
+    let below = can_replace place first (Took d ∷ after block history) n mark path at in (Fork block d below.0 second, inl (below.0, below.1, refl))
+can_replace place (Fork block d first second) history n mark path (inr at) =
+    let below = can_replace place second (Refused d ∷ after block history) n mark path at in (Fork block d first below.0, inr (below.0, below.1, refl))
 
 -- one free leaf goes before another: its floor is less, or its number where the floors are equal
 abbrev pub Precedes : Network → ℕ → List Event → ℕ → List Event → Type 0
@@ -177,8 +184,8 @@ find_first P (Leaf number Free) history = inl (
 )
 find_first P (Leaf number (Out w g)) history = inr (λ n path at. (let e = at.1 in cc))
 find_first P (Shut block) history = inr (λ n path at. at)
-find_first P (Fork block x a first second) history = elim (find_first P first (Is x a ∷ after block history)) [
-  | inr none ↦ elim (find_first P second (IsNot x a ∷ after block history)) [
+find_first P (Fork block d first second) history = elim (find_first P first (Took d ∷ after block history)) [
+  | inr none ↦ elim (find_first P second (Refused d ∷ after block history)) [
     | inr never ↦ inr (λ n path at. elim at [ inl here ↦ none n path here | inr here ↦ never n path here ])
     | inl there ↦ inl (
       there.0,
@@ -189,7 +196,7 @@ find_first P (Fork block x a first second) history = elim (find_first P first (I
       },
     )
   ]
-  | inl here ↦ elim (find_first P second (IsNot x a ∷ after block history)) [
+  | inl here ↦ elim (find_first P second (Refused d ∷ after block history)) [
     | inr never ↦ inl (
       here.0,
       here.1,

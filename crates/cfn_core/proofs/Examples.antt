@@ -1,13 +1,14 @@
 -- The two lists of actions have these answers.
 use Rattle.std.proofs.Common.{◌≡◌, ℕ, zero, suc, ◌<◌, ◌≤◌, inr, [], ◌∷◌, refl, ap, arith}
 use Rattle.std.specs.Prelude.{slice_index}
+use Rattle.cfn_model.specs.declared.step.Decision.TheVariants.{Is}
 use Rattle.cfn_model.specs.Network.{Network}
 use Rattle.cfn_model.specs.Sums.{floor}
 use Rattle.cfn_core.specs.Pool.{Free, Out, Leaf, Fork, IsPiece}
 use Rattle.cfn_core.specs.World.{World, new_view, opening}
 use Rattle.cfn_core.specs.Actions.{Answers, Reply, taken, noted, given, all_back, IsFirst, take_task, take_spent, give_done, give_gone}
 use Rattle.cfn_core.specs.Examples.{IsSplittable, one_variable, root_task, root_split, SplitSpends, RecallRefuses}
-use Rattle.cfn_core.proofs.Halves.{small_is, small_is_not}
+use Rattle.cfn_model.proofs.CallerLemmas.{small_took, small_refused}
 use Rattle.cfn_core.proofs.Keeping.{opening_small}
 
 just : {due : Reply} {left : World} → Answers due left due left
@@ -26,8 +27,8 @@ split_piece P is =
     let small = opening_small P is.network in
     record {
       valid = (tt, record { variable = is.network.some; value = omega (arith, is.values) }, tt, tt);
-      strict = (record { live = refl; other = (1, is.values, (λ e. omega (arith, e)), refl) }, tt, tt);
-      tame = (small, small_is P [] 0 0 small, small_is_not P [] 0 0 small);
+      strict = (record { first = (0, omega (arith, is.values), refl, refl); second = (1, is.values, refl, refl) }, tt, tt);
+      tame = (small, small_took P [] (Is 0 0) small, small_refused P [] (Is 0 0) small);
       empty = (refl, refl);
       some = omega arith;
       few = omega arith;
@@ -59,7 +60,7 @@ split_spends P is = (
   (tt, (tt, (split_piece P is, (tt, tt)))),
   let w1 : World = taken (opening P 1 1) (root_task P) (Leaf 0 (Out 0 1)) in
       let w2 : World = noted w1 (new_view P 1) in
-      let w3 : World = given w2 (root_split P) 0 (Fork [] 0 0 (Leaf 1 Free) (Leaf 2 Free)) in (
+      let w3 : World = given w2 (root_split P) 0 (Fork [] (Is 0 0) (Leaf 1 Free) (Leaf 2 Free)) in (
         w3,
         (
           w1,
@@ -69,7 +70,7 @@ split_spends P is = (
             just,
             (
               w3,
-              give_done (Fork [] 0 0 (Leaf 1 Free) (Leaf 2 Free)) (omega arith, is.low) (refl, refl, refl, refl) just,
+              give_done (Fork [] (Is 0 0) (Leaf 1 Free) (Leaf 2 Free)) (omega arith, is.low) (refl, refl, refl, refl) just,
               (w3, take_spent (omega arith, omega arith) (omega arith) refl just, refl),
             ),
           ),

@@ -3,7 +3,7 @@ use Rattle.std.proofs.Common.{◌≡◌, ◌≢◌, ℕ, ◌+◌, ◌<◌, ◌�
 use Rattle.std.proofs.lemmas.Bool.{cases_lt}
 use Rattle.std.proofs.lemmas.List.{length-set}
 use Rattle.cfn_model.specs.declared.step.Event.{Event}
-use Rattle.cfn_model.specs.declared.step.Event.TheVariants.{Is, IsNot}
+use Rattle.cfn_model.specs.declared.step.Event.TheVariants.{Took, Refused}
 use Rattle.cfn_model.specs.Network.{Network}
 use Rattle.cfn_model.specs.Sums.{floor}
 use Rattle.cfn_model.specs.Steps.{after}
@@ -40,25 +40,25 @@ few_by false = omega arith
 pub leaf_counts : (tree : PoolTree) (history : List Event) (n : ℕ) (mark : Mark) (path : List Event) → IsLeaf tree history n mark path → 1 ≤ leaves_with n tree
 leaf_counts (Leaf number m) history n mark path at = omega (arith, one_at number n at.0)
 leaf_counts (Shut block) history n mark path at = absurd at
-leaf_counts (Fork block x a first second) history n mark path (inl at) = omega (arith, leaf_counts first (Is x a ∷ after block history) n mark path at)
-leaf_counts (Fork block x a first second) history n mark path (inr at) = omega (arith, leaf_counts second (IsNot x a ∷ after block history) n mark path at)
+leaf_counts (Fork block d first second) history n mark path (inl at) = omega (arith, leaf_counts first (Took d ∷ after block history) n mark path at)
+leaf_counts (Fork block d first second) history n mark path (inr at) = omega (arith, leaf_counts second (Refused d ∷ after block history) n mark path at)
 
 -- a tree in the place of one leaf
 module _ (n : ℕ) (mark : Mark) (path : List Event) (place : PoolTree) where
   pub replaced_leaf : (tree : PoolTree) (history : List Event) (new : PoolTree) → Replaced tree history n mark path place new → IsLeaf tree history n mark path
   replaced_leaf (Leaf number m) history new at = (at.0, at.1, at.2)
   replaced_leaf (Shut block) history new at = absurd at
-  replaced_leaf (Fork block x a first second) history new (inl at) = inl (replaced_leaf first (Is x a ∷ after block history) at.0 at.1)
-  replaced_leaf (Fork block x a first second) history new (inr at) = inr (replaced_leaf second (IsNot x a ∷ after block history) at.0 at.1)
+  replaced_leaf (Fork block d first second) history new (inl at) = inl (replaced_leaf first (Took d ∷ after block history) at.0 at.1)
+  replaced_leaf (Fork block d first second) history new (inr at) = inr (replaced_leaf second (Refused d ∷ after block history) at.0 at.1)
 
   pub replaced_numbers : (m : ℕ) (tree : PoolTree) (history : List Event) (new : PoolTree) → Replaced tree history n mark path place new →
       leaves_with m new + (if n == m then 1 else 0) ≡ leaves_with m tree + leaves_with m place
   replaced_numbers m (Leaf number k) history new at = rw at.3 (rw at.0 (omega arith))
   replaced_numbers m (Shut block) history new at = absurd at
-  replaced_numbers m (Fork block x a first second) history new (inl at) =
-      let below = replaced_numbers m first (Is x a ∷ after block history) at.0 at.1 in rw at.2 (omega (arith, below))
-  replaced_numbers m (Fork block x a first second) history new (inr at) =
-      let below = replaced_numbers m second (IsNot x a ∷ after block history) at.0 at.1 in rw at.2 (omega (arith, below))
+  replaced_numbers m (Fork block d first second) history new (inl at) =
+      let below = replaced_numbers m first (Took d ∷ after block history) at.0 at.1 in rw at.2 (omega (arith, below))
+  replaced_numbers m (Fork block d first second) history new (inr at) =
+      let below = replaced_numbers m second (Refused d ∷ after block history) at.0 at.1 in rw at.2 (omega (arith, below))
 
   -- a leaf that is there afterwards is of the new part, or was there under another number
   pub replaced_back : (m : ℕ) (k : Mark) (p : List Event) (tree : PoolTree) (history : List Event) (new : PoolTree) → Replaced tree history n mark path place new →
@@ -66,19 +66,19 @@ module _ (n : ℕ) (mark : Mark) (path : List Event) (place : PoolTree) where
   replaced_back m k p (Leaf number l) history new at one leaf =
       inl (subst (λ h. IsLeaf place h m k p) (sym at.2) (subst (λ t. IsLeaf t history m k p) at.3 leaf))
   replaced_back m k p (Shut block) history new at one leaf = absurd at
-  replaced_back m k p (Fork block x a first second) history new (inl at) one leaf =
-      let there = leaf_counts first (Is x a ∷ after block history) n mark path (replaced_leaf first (Is x a ∷ after block history) at.0 at.1) in
-      let leaf' : IsLeaf (Fork block x a at.0 second) history m k p = subst (λ t. IsLeaf t history m k p) at.2 leaf in
+  replaced_back m k p (Fork block d first second) history new (inl at) one leaf =
+      let there = leaf_counts first (Took d ∷ after block history) n mark path (replaced_leaf first (Took d ∷ after block history) at.0 at.1) in
+      let leaf' : IsLeaf (Fork block d at.0 second) history m k p = subst (λ t. IsLeaf t history m k p) at.2 leaf in
       elim leaf' [
-        | inl here ↦ elim (replaced_back m k p first (Is x a ∷ after block history) at.0 at.1 (omega (arith, one)) here) [ inl fresh ↦ inl fresh | inr old ↦ inr (inl old.0, old.1) ]
-        | inr here ↦ inr (inr here, λ same. (let c = leaf_counts second (IsNot x a ∷ after block history) n k p (subst (λ j. IsLeaf second (IsNot x a ∷ after block history) j k p) same here) in omega (arith, c, there, one)))
+        | inl here ↦ elim (replaced_back m k p first (Took d ∷ after block history) at.0 at.1 (omega (arith, one)) here) [ inl fresh ↦ inl fresh | inr old ↦ inr (inl old.0, old.1) ]
+        | inr here ↦ inr (inr here, λ same. (let c = leaf_counts second (Refused d ∷ after block history) n k p (subst (λ j. IsLeaf second (Refused d ∷ after block history) j k p) same here) in omega (arith, c, there, one)))
       ]
-  replaced_back m k p (Fork block x a first second) history new (inr at) one leaf =
-      let there = leaf_counts second (IsNot x a ∷ after block history) n mark path (replaced_leaf second (IsNot x a ∷ after block history) at.0 at.1) in
-      let leaf' : IsLeaf (Fork block x a first at.0) history m k p = subst (λ t. IsLeaf t history m k p) at.2 leaf in
+  replaced_back m k p (Fork block d first second) history new (inr at) one leaf =
+      let there = leaf_counts second (Refused d ∷ after block history) n mark path (replaced_leaf second (Refused d ∷ after block history) at.0 at.1) in
+      let leaf' : IsLeaf (Fork block d first at.0) history m k p = subst (λ t. IsLeaf t history m k p) at.2 leaf in
       elim leaf' [
-        | inl here ↦ inr (inl here, λ same. (let c = leaf_counts first (Is x a ∷ after block history) n k p (subst (λ j. IsLeaf first (Is x a ∷ after block history) j k p) same here) in omega (arith, c, there, one)))
-        | inr here ↦ elim (replaced_back m k p second (IsNot x a ∷ after block history) at.0 at.1 (omega (arith, one)) here) [ inl fresh ↦ inl fresh | inr old ↦ inr (inr old.0, old.1) ]
+        | inl here ↦ inr (inl here, λ same. (let c = leaf_counts first (Took d ∷ after block history) n k p (subst (λ j. IsLeaf first (Took d ∷ after block history) j k p) same here) in omega (arith, c, there, one)))
+        | inr here ↦ elim (replaced_back m k p second (Refused d ∷ after block history) at.0 at.1 (omega (arith, one)) here) [ inl fresh ↦ inl fresh | inr old ↦ inr (inr old.0, old.1) ]
       ]
 
   -- a leaf of the new part is there afterwards
@@ -86,22 +86,22 @@ module _ (n : ℕ) (mark : Mark) (path : List Event) (place : PoolTree) where
       IsLeaf place path m k p → IsLeaf new history m k p
   replaced_in m k p (Leaf number l) history new at leaf = subst (λ t. IsLeaf t history m k p) (sym at.3) (subst (λ h. IsLeaf place h m k p) at.2 leaf)
   replaced_in m k p (Shut block) history new at leaf = absurd at
-  replaced_in m k p (Fork block x a first second) history new (inl at) leaf =
-      subst (λ t. IsLeaf t history m k p) (sym at.2) (inl (replaced_in m k p first (Is x a ∷ after block history) at.0 at.1 leaf))
-  replaced_in m k p (Fork block x a first second) history new (inr at) leaf =
-      subst (λ t. IsLeaf t history m k p) (sym at.2) (inr (replaced_in m k p second (IsNot x a ∷ after block history) at.0 at.1 leaf))
+  replaced_in m k p (Fork block d first second) history new (inl at) leaf =
+      subst (λ t. IsLeaf t history m k p) (sym at.2) (inl (replaced_in m k p first (Took d ∷ after block history) at.0 at.1 leaf))
+  replaced_in m k p (Fork block d first second) history new (inr at) leaf =
+      subst (λ t. IsLeaf t history m k p) (sym at.2) (inr (replaced_in m k p second (Refused d ∷ after block history) at.0 at.1 leaf))
 
   -- another leaf stays
   pub replaced_stays : (m : ℕ) (k : Mark) (p : List Event) (tree : PoolTree) (history : List Event) (new : PoolTree) → Replaced tree history n mark path place new →
       IsLeaf tree history m k p → ((m ≡ n) × (k ≡ mark)) ⊎ IsLeaf new history m k p
   replaced_stays m k p (Leaf number l) history new at leaf = inl (sym leaf.0 ∙ at.0, sym leaf.1 ∙ at.1)
   replaced_stays m k p (Shut block) history new at leaf = absurd at
-  replaced_stays m k p (Fork block x a first second) history new (inl at) (inl leaf) =
-      elim (replaced_stays m k p first (Is x a ∷ after block history) at.0 at.1 leaf) [ inl same ↦ inl same | inr stays ↦ inr (subst (λ t. IsLeaf t history m k p) (sym at.2) (inl stays)) ]
-  replaced_stays m k p (Fork block x a first second) history new (inl at) (inr leaf) = inr (subst (λ t. IsLeaf t history m k p) (sym at.2) (inr leaf))
-  replaced_stays m k p (Fork block x a first second) history new (inr at) (inl leaf) = inr (subst (λ t. IsLeaf t history m k p) (sym at.2) (inl leaf))
-  replaced_stays m k p (Fork block x a first second) history new (inr at) (inr leaf) =
-      elim (replaced_stays m k p second (IsNot x a ∷ after block history) at.0 at.1 leaf) [ inl same ↦ inl same | inr stays ↦ inr (subst (λ t. IsLeaf t history m k p) (sym at.2) (inr stays)) ]
+  replaced_stays m k p (Fork block d first second) history new (inl at) (inl leaf) =
+      elim (replaced_stays m k p first (Took d ∷ after block history) at.0 at.1 leaf) [ inl same ↦ inl same | inr stays ↦ inr (subst (λ t. IsLeaf t history m k p) (sym at.2) (inl stays)) ]
+  replaced_stays m k p (Fork block d first second) history new (inl at) (inr leaf) = inr (subst (λ t. IsLeaf t history m k p) (sym at.2) (inr leaf))
+  replaced_stays m k p (Fork block d first second) history new (inr at) (inl leaf) = inr (subst (λ t. IsLeaf t history m k p) (sym at.2) (inl leaf))
+  replaced_stays m k p (Fork block d first second) history new (inr at) (inr leaf) =
+      elim (replaced_stays m k p second (Refused d ∷ after block history) at.0 at.1 leaf) [ inl same ↦ inl same | inr stays ↦ inr (subst (λ t. IsLeaf t history m k p) (sym at.2) (inr stays)) ]
 
 pub free_not_out : {worker grant : ℕ} {C : Type 0} → Free ≡ Out worker grant → C
 free_not_out h = absurd (cc)
@@ -116,17 +116,17 @@ same_grant h = cc
 pub numbered_before : (tree : Tree) (next m : ℕ) → m < next → leaves_with m (numbered next tree) ≡ 0
 numbered_before (Open block) next m h = none_at next m (λ e. omega (arith, e))
 numbered_before (Closed block) next m h = refl
-numbered_before (Split block x a first second) next m h = omega (arith, numbered_before first next m h, numbered_before second (next + open_leaves first) m (omega arith))
+numbered_before (Split block d first second) next m h = omega (arith, numbered_before first next m h, numbered_before second (next + open_leaves first) m (omega arith))
 
 pub numbered_behind : (tree : Tree) (next m : ℕ) → next + open_leaves tree ≤ m → leaves_with m (numbered next tree) ≡ 0
 numbered_behind (Open block) next m h = none_at next m (λ e. omega (arith, e))
 numbered_behind (Closed block) next m h = refl
-numbered_behind (Split block x a first second) next m h = omega (arith, numbered_behind first next m (omega arith), numbered_behind second (next + open_leaves first) m (omega arith))
+numbered_behind (Split block d first second) next m h = omega (arith, numbered_behind first next m (omega arith), numbered_behind second (next + open_leaves first) m (omega arith))
 
 pub numbered_once : (tree : Tree) (next m : ℕ) → leaves_with m (numbered next tree) ≤ 1
 numbered_once (Open block) next m = few_by (next == m)
 numbered_once (Closed block) next m = omega arith
-numbered_once (Split block x a first second) next m = elim (cases_lt m (next + open_leaves first)) [
+numbered_once (Split block d first second) next m = elim (cases_lt m (next + open_leaves first)) [
   | inl low ↦ omega (arith, numbered_once first next m, numbered_before second (next + open_leaves first) m low)
   | inr high ↦ omega (arith, numbered_behind first next m high, numbered_once second (next + open_leaves first) m)
 ]
@@ -134,20 +134,20 @@ numbered_once (Split block x a first second) next m = elim (cases_lt m (next + o
 pub numbered_free : (tree : Tree) (next m : ℕ) (history : List Event) (worker grant : ℕ) (path : List Event) → IsLeaf (numbered next tree) history m (Out worker grant) path → ⊥
 numbered_free (Open block) next m history worker grant path at = free_not_out at.1
 numbered_free (Closed block) next m history worker grant path at = at
-numbered_free (Split block x a first second) next m history worker grant path (inl at) = numbered_free first next m (Is x a ∷ after block history) worker grant path at
-numbered_free (Split block x a first second) next m history worker grant path (inr at) = numbered_free second (next + open_leaves first) m (IsNot x a ∷ after block history) worker grant path at
+numbered_free (Split block d first second) next m history worker grant path (inl at) = numbered_free first next m (Took d ∷ after block history) worker grant path at
+numbered_free (Split block d first second) next m history worker grant path (inr at) = numbered_free second (next + open_leaves first) m (Refused d ∷ after block history) worker grant path at
 
 -- leaves that are called back
 pub recalled_numbers : (tree : PoolTree) (m : ℕ) → leaves_with m (recalled tree) ≡ leaves_with m tree
 recalled_numbers (Leaf number mark) m = refl
 recalled_numbers (Shut block) m = refl
-recalled_numbers (Fork block x a first second) m = ap₂ (λ f s. f + s) (recalled_numbers first m) (recalled_numbers second m)
+recalled_numbers (Fork block d first second) m = ap₂ (λ f s. f + s) (recalled_numbers first m) (recalled_numbers second m)
 
 pub recalled_free : (tree : PoolTree) (m : ℕ) (history : List Event) (worker grant : ℕ) (path : List Event) → IsLeaf (recalled tree) history m (Out worker grant) path → ⊥
 recalled_free (Leaf number mark) m history worker grant path at = free_not_out at.1
 recalled_free (Shut block) m history worker grant path at = at
-recalled_free (Fork block x a first second) m history worker grant path (inl at) = recalled_free first m (Is x a ∷ after block history) worker grant path at
-recalled_free (Fork block x a first second) m history worker grant path (inr at) = recalled_free second m (IsNot x a ∷ after block history) worker grant path at
+recalled_free (Fork block d first second) m history worker grant path (inl at) = recalled_free first m (Took d ∷ after block history) worker grant path at
+recalled_free (Fork block d first second) m history worker grant path (inr at) = recalled_free second m (Refused d ∷ after block history) worker grant path at
 
 -- free leaves that are closed
 module _ (P : Network) (k : ℕ) where
@@ -159,8 +159,8 @@ module _ (P : Network) (k : ℕ) where
   swept_numbers (Leaf n Free) m history = fewer_by (nat_le k (floor P history)) n m
   swept_numbers (Leaf n (Out w g)) m history = omega arith
   swept_numbers (Shut block) m history = omega arith
-  swept_numbers (Fork block x a first second) m history =
-      omega (arith, swept_numbers first m (Is x a ∷ after block history), swept_numbers second m (IsNot x a ∷ after block history))
+  swept_numbers (Fork block d first second) m history =
+      omega (arith, swept_numbers first m (Took d ∷ after block history), swept_numbers second m (Refused d ∷ after block history))
 
   no_leaf_by : (t : Bool) (n m : ℕ) (history : List Event) (worker grant : ℕ) (path : List Event) → IsLeaf (if t then Shut [] else Leaf n Free) history m (Out worker grant) path → ⊥
   no_leaf_by true n m history worker grant path at = at
@@ -170,15 +170,15 @@ module _ (P : Network) (k : ℕ) where
   swept_back (Leaf n Free) m history worker grant path at = absurd (no_leaf_by (nat_le k (floor P history)) n m history worker grant path at)
   swept_back (Leaf n (Out w g)) m history worker grant path at = at
   swept_back (Shut block) m history worker grant path at = at
-  swept_back (Fork block x a first second) m history worker grant path (inl at) = inl (swept_back first m (Is x a ∷ after block history) worker grant path at)
-  swept_back (Fork block x a first second) m history worker grant path (inr at) = inr (swept_back second m (IsNot x a ∷ after block history) worker grant path at)
+  swept_back (Fork block d first second) m history worker grant path (inl at) = inl (swept_back first m (Took d ∷ after block history) worker grant path at)
+  swept_back (Fork block d first second) m history worker grant path (inr at) = inr (swept_back second m (Refused d ∷ after block history) worker grant path at)
 
   pub swept_stays : (tree : PoolTree) (m : ℕ) (history : List Event) (worker grant : ℕ) (path : List Event) → IsLeaf tree history m (Out worker grant) path → IsLeaf (swept P k tree history) history m (Out worker grant) path
   swept_stays (Leaf n Free) m history worker grant path at = free_not_out at.1
   swept_stays (Leaf n (Out w g)) m history worker grant path at = at
   swept_stays (Shut block) m history worker grant path at = at
-  swept_stays (Fork block x a first second) m history worker grant path (inl at) = inl (swept_stays first m (Is x a ∷ after block history) worker grant path at)
-  swept_stays (Fork block x a first second) m history worker grant path (inr at) = inr (swept_stays second m (IsNot x a ∷ after block history) worker grant path at)
+  swept_stays (Fork block d first second) m history worker grant path (inl at) = inl (swept_stays first m (Took d ∷ after block history) worker grant path at)
+  swept_stays (Fork block d first second) m history worker grant path (inr at) = inr (swept_stays second m (Refused d ∷ after block history) worker grant path at)
 
 -- what is left in hand without a leaf's tasks
 module _ (n : ℕ) where

@@ -3,13 +3,14 @@ use Rattle.std.proofs.Common.{◌≡◌, ℕ, ◌+◌, ◌-◌, ◌<◌, ◌≤�
 use Rattle.std.proofs.lemmas.Int.{ints}
 use Rattle.std.specs.Prelude.{Bool, true, false, pos, ◌<ℤ◌, nat_lt}
 use Rattle.cfn_model.specs.declared.step.Event.{Event}
-use Rattle.cfn_model.specs.declared.step.Event.TheVariants.{Is, IsNot}
+use Rattle.cfn_model.specs.declared.step.Event.TheVariants.{Took, Refused}
 use Rattle.cfn_model.specs.Network.{Network, IsNetwork, arity, entry_at, cell, dims, function_at}
 use Rattle.cfn_model.specs.Sums.{when}
 use Rattle.cfn_model.specs.Steps.{after}
 use Rattle.cfn_model.specs.Tree.{count, splits, Valid, Strict}
 use Rattle.cfn_model.proofs.CallerLemmas.{valid_lower}
-use Rattle.cfn_core.specs.Pool.{Mark, Free, Out, PoolTree, Leaf, Shut, Fork, tree_of, Replaced, grant_of, granted, numbered, recalled, HasSmallCosts, Tame, Task, Piece, IsPiece, View, Pool, IsSound}
+use Rattle.cfn_model.specs.Paths.{HasSmallCosts, Tame}
+use Rattle.cfn_core.specs.Pool.{Mark, Free, Out, PoolTree, Leaf, Shut, Fork, tree_of, Replaced, grant_of, granted, numbered, recalled, Task, Piece, IsPiece, View, Pool, IsSound}
 use Rattle.cfn_core.specs.World.{World, price, cheaper, view_at, note_at, least_price, shares_of, KeepsFitting, IsView, HasWordRule, new_view}
 use Rattle.cfn_core.specs.Actions.{Action, Look, Lower, Note, Meet, Take, Give, Back, Recall, Sweep, Reply, Answers, looked, lowered, noted, joined, met, task_for, taken, Takes, take_idle, take_empty, take_spent, take_again, take_task, CanGive, given, Gives, give_idle, give_gone, give_done, returned, Returns, back_idle, back_not, back_done, all_back, cleared, Runs, AreActions}
 use Rattle.cfn_core.specs.Laws.{IsWorld, Opens, Keeps}
@@ -21,10 +22,10 @@ replaced_small : (P : Network) (n : ℕ) (mark : Mark) (path : List Event) (plac
     Replaced tree history n mark path place new → Tame P history (tree_of tree) → HasSmallCosts P path
 replaced_small P n mark path place (Leaf number m) history new at tame = subst (HasSmallCosts P) (sym at.2) tame
 replaced_small P n mark path place (Shut block) history new at tame = absurd at
-replaced_small P n mark path place (Fork block x a first second) history new (inl at) tame =
-    replaced_small P n mark path place first (Is x a ∷ after block history) at.0 at.1 tame.1
-replaced_small P n mark path place (Fork block x a first second) history new (inr at) tame =
-    replaced_small P n mark path place second (IsNot x a ∷ after block history) at.0 at.1 tame.2
+replaced_small P n mark path place (Fork block d first second) history new (inl at) tame =
+    replaced_small P n mark path place first (Took d ∷ after block history) at.0 at.1 tame.1
+replaced_small P n mark path place (Fork block d first second) history new (inr at) tame =
+    replaced_small P n mark path place second (Refused d ∷ after block history) at.0 at.1 tame.2
 
 module _ (P : Network) (w : World) (holds : IsWorld P w) where
   sound : IsSound P w.pool

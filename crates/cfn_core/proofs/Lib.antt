@@ -11,7 +11,6 @@ pub mod Thresholds
 pub mod Examples
 pub mod Tasks
 pub mod Making
-pub mod Halves
 pub mod Pieces
 pub mod Holding
 pub mod Marking

@@ -2,8 +2,9 @@
 use Rattle.std.proofs.Common.{◌≡◌, ℕ, ◌+◌, ◌⊎◌, inl, inr, List, [], ◌∷◌, ◌++◌, length, map, refl, sym, ap, ap₂, ◌∙◌, append_assoc, arith, if◌then◌else◌}
 use Rattle.std.proofs.lemmas.List.{append-nil, map-append, length-append}
 use Rattle.std.specs.Prelude.{Bool, true, false, nat_le}
+use Rattle.cfn_model.specs.declared.step.Decision.{Decision}
 use Rattle.cfn_model.specs.declared.step.Event.{Event}
-use Rattle.cfn_model.specs.declared.step.Event.TheVariants.{Is, IsNot}
+use Rattle.cfn_model.specs.declared.step.Event.TheVariants.{Took, Refused}
 use Rattle.cfn_model.specs.Network.{Network}
 use Rattle.cfn_model.specs.Sums.{floor}
 use Rattle.cfn_model.specs.Steps.{after}
@@ -22,11 +23,11 @@ leaf_read n (Out worker grant) trees = refl
 read : (P : Network) (path : List Event) (tree : PoolTree) (rest : List Node) → trees_of (nodes_of P path tree ++ rest) ≡ tree ∷ trees_of rest
 read P path (Leaf n mark) rest = leaf_read n mark (trees_of rest)
 read P path (Shut block) rest = refl
-read P path (Fork block x a first second) rest =
-    let one = Is x a ∷ after block path in
-    let two = IsNot x a ∷ after block path in
-    ap (λ l. forked block x a (trees_of l)) (append_assoc (nodes_of P one first) (nodes_of P two second) rest)
-    ∙ ap (forked block x a) (read P one first (nodes_of P two second ++ rest) ∙ ap (λ l. first ∷ l) (read P two second rest))
+read P path (Fork block d first second) rest =
+    let one = Took d ∷ after block path in
+    let two = Refused d ∷ after block path in
+    ap (λ l. forked block d (trees_of l)) (append_assoc (nodes_of P one first) (nodes_of P two second) rest)
+    ∙ ap (forked block d) (read P one first (nodes_of P two second ++ rest) ∙ ap (λ l. first ∷ l) (read P two second rest))
 
 pub tree_read : (P : Network) (tree : PoolTree) (nodes : List Node) → nodes ≡ nodes_of P [] tree → pool_tree nodes ≡ tree
 tree_read P tree nodes is = ap pool_tree is ∙ ap (λ l. first_of (trees_of l)) (sym (append-nil (nodes_of P [] tree))) ∙ ap first_of (read P [] tree [])
@@ -50,8 +51,8 @@ leaf_open n (Out worker grant) = refl
 pub open_is : (P : Network) (path : List Event) (tree : PoolTree) → open_in (nodes_of P path tree) ≡ open_leaves (tree_of tree)
 open_is P path (Leaf n mark) = omega (arith, leaf_open n mark)
 open_is P path (Shut block) = refl
-open_is P path (Fork block x a first second) =
-    omega (arith, open_append (nodes_of P (Is x a ∷ after block path) first) (nodes_of P (IsNot x a ∷ after block path) second), open_is P (Is x a ∷ after block path) first, open_is P (IsNot x a ∷ after block path) second)
+open_is P path (Fork block d first second) =
+    omega (arith, open_append (nodes_of P (Took d ∷ after block path) first) (nodes_of P (Refused d ∷ after block path) second), open_is P (Took d ∷ after block path) first, open_is P (Refused d ∷ after block path) second)
 
 leaf_granted : (n : ℕ) (mark : Mark) → grant_end (leaf_end n mark) ≡ granted (Leaf n mark)
 leaf_granted n Free = refl
@@ -60,15 +61,15 @@ leaf_granted n (Out worker grant) = refl
 pub granted_is : (P : Network) (path : List Event) (tree : PoolTree) → granted_in (nodes_of P path tree) ≡ granted tree
 granted_is P path (Leaf n mark) = omega (arith, leaf_granted n mark)
 granted_is P path (Shut block) = refl
-granted_is P path (Fork block x a first second) =
-    omega (arith, granted_append (nodes_of P (Is x a ∷ after block path) first) (nodes_of P (IsNot x a ∷ after block path) second), granted_is P (Is x a ∷ after block path) first, granted_is P (IsNot x a ∷ after block path) second)
+granted_is P path (Fork block d first second) =
+    omega (arith, granted_append (nodes_of P (Took d ∷ after block path) first) (nodes_of P (Refused d ∷ after block path) second), granted_is P (Took d ∷ after block path) first, granted_is P (Refused d ∷ after block path) second)
 
 -- each node is an open leaf, or counts
 pub length_is : (P : Network) (path : List Event) (tree : PoolTree) → length (nodes_of P path tree) ≡ count (tree_of tree) + open_leaves (tree_of tree)
 length_is P path (Leaf n mark) = refl
 length_is P path (Shut block) = refl
-length_is P path (Fork block x a first second) =
-    omega (arith, length-append (nodes_of P (Is x a ∷ after block path) first) (nodes_of P (IsNot x a ∷ after block path) second), length_is P (Is x a ∷ after block path) first, length_is P (IsNot x a ∷ after block path) second)
+length_is P path (Fork block d first second) =
+    omega (arith, length-append (nodes_of P (Took d ∷ after block path) first) (nodes_of P (Refused d ∷ after block path) second), length_is P (Took d ∷ after block path) first, length_is P (Refused d ∷ after block path) second)
 
 -- leaves called back
 leaf_recalled : (n : ℕ) (mark : Mark) → recalled_end (leaf_end n mark) ≡ FreeLeaf n
@@ -78,9 +79,9 @@ leaf_recalled n (Out worker grant) = refl
 pub recalled_are : (P : Network) (path : List Event) (tree : PoolTree) → map recalled_node (nodes_of P path tree) ≡ nodes_of P path (recalled tree)
 recalled_are P path (Leaf n mark) = ap (λ e. node P path [] e ∷ []) (leaf_recalled n mark)
 recalled_are P path (Shut block) = refl
-recalled_are P path (Fork block x a first second) =
-    ap (λ l. node P path block (Branch x a) ∷ l) (map-append recalled_node (nodes_of P (Is x a ∷ after block path) first) (nodes_of P (IsNot x a ∷ after block path) second)
-    ∙ ap₂ ◌++◌ (recalled_are P (Is x a ∷ after block path) first) (recalled_are P (IsNot x a ∷ after block path) second))
+recalled_are P path (Fork block d first second) =
+    ap (λ l. node P path block (Branch d) ∷ l) (map-append recalled_node (nodes_of P (Took d ∷ after block path) first) (nodes_of P (Refused d ∷ after block path) second)
+    ∙ ap₂ ◌++◌ (recalled_are P (Took d ∷ after block path) first) (recalled_are P (Refused d ∷ after block path) second))
 
 -- free leaves closed
 module _ (P : Network) (k : ℕ) where
@@ -92,9 +93,9 @@ module _ (P : Network) (k : ℕ) where
   swept_are path (Leaf n Free) = free_swept (nat_le k (floor P path)) n path
   swept_are path (Leaf n (Out worker grant)) = refl
   swept_are path (Shut block) = refl
-  swept_are path (Fork block x a first second) =
-      ap (λ l. node P path block (Branch x a) ∷ l) (map-append (swept_node k) (nodes_of P (Is x a ∷ after block path) first) (nodes_of P (IsNot x a ∷ after block path) second)
-      ∙ ap₂ ◌++◌ (swept_are (Is x a ∷ after block path) first) (swept_are (IsNot x a ∷ after block path) second))
+  swept_are path (Fork block d first second) =
+      ap (λ l. node P path block (Branch d) ∷ l) (map-append (swept_node k) (nodes_of P (Took d ∷ after block path) first) (nodes_of P (Refused d ∷ after block path) second)
+      ∙ ap₂ ◌++◌ (swept_are (Took d ∷ after block path) first) (swept_are (Refused d ∷ after block path) second))
 
 -- where a node stands in one list before another
 pub record InFirst (one two front : List Node) (n : Node) (back : List Node) : Type 0 where
@@ -122,7 +123,7 @@ parted (m ∷ one) two (l ∷ front) n back is = elim (parted one two front n ba
 ]
 
 -- the end of an open leaf is not that of a split or a closed leaf, and tells its number and mark
-branch_not : {x a : ℕ} (n : ℕ) (mark : Mark) {C : Type 0} → Branch x a ≡ leaf_end n mark → C
+branch_not : {d : Decision} (n : ℕ) (mark : Mark) {C : Type 0} → Branch d ≡ leaf_end n mark → C
 branch_not n Free h = cc
 branch_not n (Out worker grant) h = cc
 
@@ -164,16 +165,16 @@ module _ (P : Network) (n : ℕ) (mark : Mark) (e : Node) (ends : e.end ≡ leaf
   pub put : (place tree : PoolTree) (path : List Event) (front back : List Node) → nodes_of P path tree ≡ front ++ e ∷ back → Put tree path front back place
   put place (Leaf number m) path front back is = put_leaf place number m path front back is
   put place (Shut block) path front back is = shut_not n mark (ap (λ (x : Node). x.end) (single front back is).1 ∙ ends)
-  put place (Fork block x a first second) path [] back is = branch_not n mark (ap (λ (x : Node). x.end) (head_is is) ∙ ends)
-  put place (Fork block x a first second) path (f ∷ front) back is =
-      let one = Is x a ∷ after block path in
-      let two = IsNot x a ∷ after block path in
+  put place (Fork block d first second) path [] back is = branch_not n mark (ap (λ (x : Node). x.end) (head_is is) ∙ ends)
+  put place (Fork block d first second) path (f ∷ front) back is =
+      let one = Took d ∷ after block path in
+      let two = Refused d ∷ after block path in
       elim (parted (nodes_of P one first) (nodes_of P two second) front e back (tail_is is)) [
         | inl here ↦
             (let below = put place first one front here.left here.is in
             record {
               leaf = below.leaf;
-              new = Fork block x a below.new second;
+              new = Fork block d below.new second;
               replaced = inl (below.new, below.replaced, refl);
               nodes = ap₂ (λ h l. h ∷ (l ++ nodes_of P two second)) (head_is is) below.nodes
                   ∙ ap (λ l. f ∷ l) (append_assoc front (nodes_of P e.path place ++ here.left) (nodes_of P two second)
@@ -183,7 +184,7 @@ module _ (P : Network) (n : ℕ) (mark : Mark) (e : Node) (ends : e.end ≡ leaf
             (let below = put place second two there.left back there.is in
             record {
               leaf = below.leaf;
-              new = Fork block x a first below.new;
+              new = Fork block d first below.new;
               replaced = inr (below.new, below.replaced, refl);
               nodes = ap₂ (λ h l. h ∷ (nodes_of P one first ++ l)) (head_is is) below.nodes
                   ∙ ap (λ l. f ∷ l) (sym (append_assoc (nodes_of P one first) there.left (nodes_of P e.path place ++ back)) ∙ ap (λ l. l ++ (nodes_of P e.path place ++ back)) (sym there.before));
@@ -197,11 +198,11 @@ module _ (P : Network) (n : ℕ) (mark : Mark) (e : Node) (ends : e.end ≡ leaf
       let same = same_leaf number n m mark (ap (λ (x : Node). x.end) parts.1 ∙ ends) in
       (same.0, same.1, ap (λ (x : Node). x.path) (sym parts.1))
   at_leaf (Shut block) path front back is = shut_not n mark (ap (λ (x : Node). x.end) (single front back is).1 ∙ ends)
-  at_leaf (Fork block x a first second) path [] back is = branch_not n mark (ap (λ (x : Node). x.end) (head_is is) ∙ ends)
-  at_leaf (Fork block x a first second) path (f ∷ front) back is =
-      elim (parted (nodes_of P (Is x a ∷ after block path) first) (nodes_of P (IsNot x a ∷ after block path) second) front e back (tail_is is)) [
-        | inl here ↦ inl (at_leaf first (Is x a ∷ after block path) front here.left here.is)
-        | inr there ↦ inr (at_leaf second (IsNot x a ∷ after block path) there.left back there.is)
+  at_leaf (Fork block d first second) path [] back is = branch_not n mark (ap (λ (x : Node). x.end) (head_is is) ∙ ends)
+  at_leaf (Fork block d first second) path (f ∷ front) back is =
+      elim (parted (nodes_of P (Took d ∷ after block path) first) (nodes_of P (Refused d ∷ after block path) second) front e back (tail_is is)) [
+        | inl here ↦ inl (at_leaf first (Took d ∷ after block path) front here.left here.is)
+        | inr there ↦ inr (at_leaf second (Refused d ∷ after block path) there.left back there.is)
       ]
 
 -- an open leaf has a node
@@ -214,23 +215,23 @@ pub has_leaf : (P : Network) (n : ℕ) (mark : Mark) (leaf_path : List Event) (t
 has_leaf P n mark leaf_path (Leaf number m) path at =
     record { front = []; back = []; is = ap₂ (λ h e. node P h [] e ∷ []) (sym at.2) (ap₂ leaf_end at.0 at.1) }
 has_leaf P n mark leaf_path (Shut block) path at = absurd at
-has_leaf P n mark leaf_path (Fork block x a first second) path (inl at) =
-    let one = Is x a ∷ after block path in
-    let two = IsNot x a ∷ after block path in
+has_leaf P n mark leaf_path (Fork block d first second) path (inl at) =
+    let one = Took d ∷ after block path in
+    let two = Refused d ∷ after block path in
     let below = has_leaf P n mark leaf_path first one at in
     let e = node P leaf_path [] (leaf_end n mark) in
     record {
-      front = node P path block (Branch x a) ∷ below.front;
+      front = node P path block (Branch d) ∷ below.front;
       back = below.back ++ nodes_of P two second;
-      is = ap (λ l. node P path block (Branch x a) ∷ l) (ap (λ l. l ++ nodes_of P two second) below.is ∙ append_assoc below.front (e ∷ below.back) (nodes_of P two second));
+      is = ap (λ l. node P path block (Branch d) ∷ l) (ap (λ l. l ++ nodes_of P two second) below.is ∙ append_assoc below.front (e ∷ below.back) (nodes_of P two second));
     }
-has_leaf P n mark leaf_path (Fork block x a first second) path (inr at) =
-    let one = Is x a ∷ after block path in
-    let two = IsNot x a ∷ after block path in
+has_leaf P n mark leaf_path (Fork block d first second) path (inr at) =
+    let one = Took d ∷ after block path in
+    let two = Refused d ∷ after block path in
     let below = has_leaf P n mark leaf_path second two at in
     let e = node P leaf_path [] (leaf_end n mark) in
     record {
-      front = node P path block (Branch x a) ∷ (nodes_of P one first ++ below.front);
+      front = node P path block (Branch d) ∷ (nodes_of P one first ++ below.front);
       back = below.back;
-      is = ap (λ l. node P path block (Branch x a) ∷ l) (ap (λ l. nodes_of P one first ++ l) below.is ∙ sym (append_assoc (nodes_of P one first) below.front (e ∷ below.back)));
+      is = ap (λ l. node P path block (Branch d) ∷ l) (ap (λ l. nodes_of P one first ++ l) below.is ∙ sym (append_assoc (nodes_of P one first) below.front (e ∷ below.back)));
     }

@@ -1,8 +1,9 @@
 -- What a walk over a piece's tree makes at each node.
 use Rattle.std.proofs.Common.{◌≡◌, ℕ, ◌+◌, ◌<◌, List, [], ◌∷◌, ◌++◌, length, refl, sym, ap, ◌∙◌, subst, append_assoc, reverse, arith}
 use Rattle.std.proofs.lemmas.List.{length-append, append-nil, reverse-append}
+use Rattle.cfn_model.specs.declared.step.Decision.{Decision}
 use Rattle.cfn_model.specs.declared.step.Event.{Event}
-use Rattle.cfn_model.specs.declared.step.Event.TheVariants.{Is, IsNot}
+use Rattle.cfn_model.specs.declared.step.Event.TheVariants.{Took, Refused}
 use Rattle.cfn_model.specs.Network.{Network}
 use Rattle.cfn_model.specs.Steps.{after}
 use Rattle.cfn_model.specs.Tree.{Tree, Open, Closed, Split, open_leaves}
@@ -54,25 +55,25 @@ module _ (P : Network) (tree : List Branching) (linked : IsLinked tree) where
           numbers = omega (arith, numbers_at (Closed block) t);
         }
 
-    pub split_made : (x a : ℕ) (first second : NodeId) → at.id.number < length tree → (node_at tree at.id.number).end ≡ Divides x a first second →
-        IsOnWay P tree whole last (made ++ node P at.path (node_at tree at.id.number).block (Branch x a) ∷ []) number
-        (record { id = first; path = Is x a ∷ after (node_at tree at.id.number).block at.path } ∷ record { id = second; path = IsNot x a ∷ after (node_at tree at.id.number).block at.path } ∷ ahead)
-    split_made x a first second there is =
-        let t = is_at at.id.number (Divides x a first second) there is in
+    pub split_made : (d : Decision) (first second : NodeId) → at.id.number < length tree → (node_at tree at.id.number).end ≡ Divides d first second →
+        IsOnWay P tree whole last (made ++ node P at.path (node_at tree at.id.number).block (Branch d) ∷ []) number
+        (record { id = first; path = Took d ∷ after (node_at tree at.id.number).block at.path } ∷ record { id = second; path = Refused d ∷ after (node_at tree at.id.number).block at.path } ∷ ahead)
+    split_made d first second there is =
+        let t = is_at at.id.number (Divides d first second) there is in
         let block = (node_at tree at.id.number).block in
         let f = tree_at tree first.number in
         let s = tree_at tree second.number in
-        let family = linked.children at.id.number x a first second there is in
-        let one = nodes_of P (Is x a ∷ after block at.path) (numbered number f) in
-        let two = nodes_of P (IsNot x a ∷ after block at.path) (numbered (number + open_leaves f) s) in
+        let family = linked.children at.id.number d first second there is in
+        let one = nodes_of P (Took d ∷ after block at.path) (numbered number f) in
+        let two = nodes_of P (Refused d ∷ after block at.path) (numbered (number + open_leaves f) s) in
         let same : nodes_left P tree ((number + open_leaves f) + open_leaves s) ahead ≡ nodes_left P tree (number + (open_leaves f + open_leaves s)) ahead = ap (λ n. nodes_left P tree n ahead) (omega arith) in
         record {
           there = (family.first_there, (family.second_there, way.there.1));
-          all = append_assoc made (node P at.path block (Branch x a) ∷ []) (one ++ (two ++ nodes_left P tree ((number + open_leaves f) + open_leaves s) ahead))
-              ∙ ap (λ rest. made ++ node P at.path block (Branch x a) ∷ (one ++ (two ++ rest))) same
-              ∙ ap (λ rest. made ++ node P at.path block (Branch x a) ∷ rest) (sym (append_assoc one two (nodes_left P tree (number + (open_leaves f + open_leaves s)) ahead)))
-              ∙ all_at (Split block x a f s) t;
-          numbers = omega (arith, numbers_at (Split block x a f s) t);
+          all = append_assoc made (node P at.path block (Branch d) ∷ []) (one ++ (two ++ nodes_left P tree ((number + open_leaves f) + open_leaves s) ahead))
+              ∙ ap (λ rest. made ++ node P at.path block (Branch d) ∷ (one ++ (two ++ rest))) same
+              ∙ ap (λ rest. made ++ node P at.path block (Branch d) ∷ rest) (sym (append_assoc one two (nodes_left P tree (number + (open_leaves f + open_leaves s)) ahead)))
+              ∙ all_at (Split block d f s) t;
+          numbers = omega (arith, numbers_at (Split block d f s) t);
         }
 
 -- one node more is made, so one fewer is left

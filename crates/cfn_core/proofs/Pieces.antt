@@ -2,7 +2,7 @@
 use Rattle.std.proofs.Common.{◌≡◌, ℕ, ◌+◌, ◌*◌, ◌≤◌, inl, inr, List, [], ◌∷◌, ◌++◌, length, take, drop, refl, sym, ap, ◌∙◌, subst, Option, None, arith}
 use Rattle.std.specs.Prelude.{slice_set}
 use Rattle.cfn_model.specs.declared.step.Event.{Event}
-use Rattle.cfn_model.specs.declared.step.Event.TheVariants.{Is, IsNot}
+use Rattle.cfn_model.specs.declared.step.Event.TheVariants.{Took, Refused}
 use Rattle.cfn_model.specs.Network.{Network}
 use Rattle.cfn_model.specs.Steps.{after}
 use Rattle.cfn_model.specs.Tree.{Tree, Open, Closed, Split, count, open_leaves}
@@ -20,14 +20,14 @@ use Rattle.cfn_core.proofs.Marking.{Left, placed, leaf_there, put_there}
 out_granted : (tree : PoolTree) (path : List Event) (n worker grant : ℕ) (leaf_path : List Event) → IsLeaf tree path n (Out worker grant) leaf_path → grant ≤ granted tree
 out_granted (Leaf number mark) path n worker grant leaf_path at = (let e = ap (λ k. granted (Leaf number k)) at.1 in omega (arith, e))
 out_granted (Shut block) path n worker grant leaf_path at = absurd at
-out_granted (Fork block x a first second) path n worker grant leaf_path (inl at) = omega (arith, out_granted first (Is x a ∷ after block path) n worker grant leaf_path at)
-out_granted (Fork block x a first second) path n worker grant leaf_path (inr at) = omega (arith, out_granted second (IsNot x a ∷ after block path) n worker grant leaf_path at)
+out_granted (Fork block d first second) path n worker grant leaf_path (inl at) = omega (arith, out_granted first (Took d ∷ after block path) n worker grant leaf_path at)
+out_granted (Fork block d first second) path n worker grant leaf_path (inr at) = omega (arith, out_granted second (Refused d ∷ after block path) n worker grant leaf_path at)
 
 -- a tree has at most one open leaf more than it has splits and closed leaves
 few_open : (tree : Tree) → open_leaves tree ≤ count tree + 1
 few_open (Open block) = omega arith
 few_open (Closed block) = omega arith
-few_open (Split block x a first second) = omega (arith, few_open first, few_open second)
+few_open (Split block d first second) = omega (arith, few_open first, few_open second)
 
 -- the leaf of a piece that is out
 module _ (m : Machine) (is : IsMachine m) (piece : Piece) (i : ℕ) (out : IsOutAt m.nodes i piece.task) where

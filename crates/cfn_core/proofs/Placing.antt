@@ -2,12 +2,13 @@
 -- its free leaves are closed.
 use Rattle.std.proofs.Common.{◌≡◌, ℕ, ◌+◌, ◌≤◌, inl, inr, List, [], ◌∷◌, refl, sym, ap, ap₂, subst, arith, true, false, Bool, nat_le, if◌then◌else◌}
 use Rattle.cfn_model.specs.declared.step.Event.{Event}
-use Rattle.cfn_model.specs.declared.step.Event.TheVariants.{Is, IsNot}
+use Rattle.cfn_model.specs.declared.step.Event.TheVariants.{Took, Refused}
 use Rattle.cfn_model.specs.Network.{Network}
 use Rattle.cfn_model.specs.Sums.{floor}
 use Rattle.cfn_model.specs.Steps.{after}
 use Rattle.cfn_model.specs.Tree.{Tree, Open, Closed, Split, count, splits, open_leaves, Valid, Strict}
-use Rattle.cfn_core.specs.Pool.{Mark, Free, Out, PoolTree, Leaf, Shut, Fork, tree_of, Replaced, grant_of, granted, numbered, recalled, swept, HasEmptyOpen, Tame}
+use Rattle.cfn_model.specs.Paths.{Tame}
+use Rattle.cfn_core.specs.Pool.{Mark, Free, Out, PoolTree, Leaf, Shut, Fork, tree_of, Replaced, grant_of, granted, numbered, recalled, swept, HasEmptyOpen}
 
 -- a tree in the place of one leaf
 module _ (n : ℕ) (mark : Mark) (path : List Event) (place : PoolTree) where
@@ -16,81 +17,81 @@ module _ (n : ℕ) (mark : Mark) (path : List Event) (place : PoolTree) where
   replaced_valid P k (Leaf number m) history new at in_place valid =
       subst (λ t. Valid P history (tree_of t) k) (sym at.3) (subst (λ h. Valid P h (tree_of place) k) at.2 in_place)
   replaced_valid P k (Shut block) history new at in_place valid = absurd at
-  replaced_valid P k (Fork block x a first second) history new (inl at) in_place valid =
-      subst (λ t. Valid P history (tree_of t) k) (sym at.2) (valid.0, valid.1, replaced_valid P k first (Is x a ∷ after block history) at.0 at.1 in_place valid.2, valid.3)
-  replaced_valid P k (Fork block x a first second) history new (inr at) in_place valid =
-      subst (λ t. Valid P history (tree_of t) k) (sym at.2) (valid.0, valid.1, valid.2, replaced_valid P k second (IsNot x a ∷ after block history) at.0 at.1 in_place valid.3)
+  replaced_valid P k (Fork block d first second) history new (inl at) in_place valid =
+      subst (λ t. Valid P history (tree_of t) k) (sym at.2) (valid.0, valid.1, replaced_valid P k first (Took d ∷ after block history) at.0 at.1 in_place valid.2, valid.3)
+  replaced_valid P k (Fork block d first second) history new (inr at) in_place valid =
+      subst (λ t. Valid P history (tree_of t) k) (sym at.2) (valid.0, valid.1, valid.2, replaced_valid P k second (Refused d ∷ after block history) at.0 at.1 in_place valid.3)
 
   pub replaced_strict : (P : Network) (tree : PoolTree) (history : List Event) (new : PoolTree) → Replaced tree history n mark path place new →
       Strict P path (tree_of place) → Strict P history (tree_of tree) → Strict P history (tree_of new)
   replaced_strict P (Leaf number m) history new at in_place strict =
       subst (λ t. Strict P history (tree_of t)) (sym at.3) (subst (λ h. Strict P h (tree_of place)) at.2 in_place)
   replaced_strict P (Shut block) history new at in_place strict = absurd at
-  replaced_strict P (Fork block x a first second) history new (inl at) in_place strict =
-      subst (λ t. Strict P history (tree_of t)) (sym at.2) (strict.0, replaced_strict P first (Is x a ∷ after block history) at.0 at.1 in_place strict.1, strict.2)
-  replaced_strict P (Fork block x a first second) history new (inr at) in_place strict =
-      subst (λ t. Strict P history (tree_of t)) (sym at.2) (strict.0, strict.1, replaced_strict P second (IsNot x a ∷ after block history) at.0 at.1 in_place strict.2)
+  replaced_strict P (Fork block d first second) history new (inl at) in_place strict =
+      subst (λ t. Strict P history (tree_of t)) (sym at.2) (strict.0, replaced_strict P first (Took d ∷ after block history) at.0 at.1 in_place strict.1, strict.2)
+  replaced_strict P (Fork block d first second) history new (inr at) in_place strict =
+      subst (λ t. Strict P history (tree_of t)) (sym at.2) (strict.0, strict.1, replaced_strict P second (Refused d ∷ after block history) at.0 at.1 in_place strict.2)
 
   pub replaced_tame : (P : Network) (tree : PoolTree) (history : List Event) (new : PoolTree) → Replaced tree history n mark path place new →
       Tame P path (tree_of place) → Tame P history (tree_of tree) → Tame P history (tree_of new)
   replaced_tame P (Leaf number m) history new at in_place tame =
       subst (λ t. Tame P history (tree_of t)) (sym at.3) (subst (λ h. Tame P h (tree_of place)) at.2 in_place)
   replaced_tame P (Shut block) history new at in_place tame = absurd at
-  replaced_tame P (Fork block x a first second) history new (inl at) in_place tame =
-      subst (λ t. Tame P history (tree_of t)) (sym at.2) (tame.0, replaced_tame P first (Is x a ∷ after block history) at.0 at.1 in_place tame.1, tame.2)
-  replaced_tame P (Fork block x a first second) history new (inr at) in_place tame =
-      subst (λ t. Tame P history (tree_of t)) (sym at.2) (tame.0, tame.1, replaced_tame P second (IsNot x a ∷ after block history) at.0 at.1 in_place tame.2)
+  replaced_tame P (Fork block d first second) history new (inl at) in_place tame =
+      subst (λ t. Tame P history (tree_of t)) (sym at.2) (tame.0, replaced_tame P first (Took d ∷ after block history) at.0 at.1 in_place tame.1, tame.2)
+  replaced_tame P (Fork block d first second) history new (inr at) in_place tame =
+      subst (λ t. Tame P history (tree_of t)) (sym at.2) (tame.0, tame.1, replaced_tame P second (Refused d ∷ after block history) at.0 at.1 in_place tame.2)
 
   pub replaced_count : (tree : PoolTree) (history : List Event) (new : PoolTree) → Replaced tree history n mark path place new →
       count (tree_of new) ≡ count (tree_of tree) + count (tree_of place)
   replaced_count (Leaf number m) history new at = rw at.3 (omega arith)
   replaced_count (Shut block) history new at = absurd at
-  replaced_count (Fork block x a first second) history new (inl at) =
-      let below = replaced_count first (Is x a ∷ after block history) at.0 at.1 in rw at.2 (omega (arith, below))
-  replaced_count (Fork block x a first second) history new (inr at) =
-      let below = replaced_count second (IsNot x a ∷ after block history) at.0 at.1 in rw at.2 (omega (arith, below))
+  replaced_count (Fork block d first second) history new (inl at) =
+      let below = replaced_count first (Took d ∷ after block history) at.0 at.1 in rw at.2 (omega (arith, below))
+  replaced_count (Fork block d first second) history new (inr at) =
+      let below = replaced_count second (Refused d ∷ after block history) at.0 at.1 in rw at.2 (omega (arith, below))
 
   pub replaced_splits : (tree : PoolTree) (history : List Event) (new : PoolTree) → Replaced tree history n mark path place new →
       splits (tree_of new) ≡ splits (tree_of tree) + splits (tree_of place)
   replaced_splits (Leaf number m) history new at = rw at.3 (omega arith)
   replaced_splits (Shut block) history new at = absurd at
-  replaced_splits (Fork block x a first second) history new (inl at) =
-      let below = replaced_splits first (Is x a ∷ after block history) at.0 at.1 in rw at.2 (omega (arith, below))
-  replaced_splits (Fork block x a first second) history new (inr at) =
-      let below = replaced_splits second (IsNot x a ∷ after block history) at.0 at.1 in rw at.2 (omega (arith, below))
+  replaced_splits (Fork block d first second) history new (inl at) =
+      let below = replaced_splits first (Took d ∷ after block history) at.0 at.1 in rw at.2 (omega (arith, below))
+  replaced_splits (Fork block d first second) history new (inr at) =
+      let below = replaced_splits second (Refused d ∷ after block history) at.0 at.1 in rw at.2 (omega (arith, below))
 
   pub replaced_granted : (tree : PoolTree) (history : List Event) (new : PoolTree) → Replaced tree history n mark path place new →
       granted new + grant_of mark ≡ granted tree + granted place
   replaced_granted (Leaf number m) history new at = rw at.3 (rw at.1 (omega arith))
   replaced_granted (Shut block) history new at = absurd at
-  replaced_granted (Fork block x a first second) history new (inl at) =
-      let below = replaced_granted first (Is x a ∷ after block history) at.0 at.1 in rw at.2 (omega (arith, below))
-  replaced_granted (Fork block x a first second) history new (inr at) =
-      let below = replaced_granted second (IsNot x a ∷ after block history) at.0 at.1 in rw at.2 (omega (arith, below))
+  replaced_granted (Fork block d first second) history new (inl at) =
+      let below = replaced_granted first (Took d ∷ after block history) at.0 at.1 in rw at.2 (omega (arith, below))
+  replaced_granted (Fork block d first second) history new (inr at) =
+      let below = replaced_granted second (Refused d ∷ after block history) at.0 at.1 in rw at.2 (omega (arith, below))
 
 -- a tree with its leaves numbered is the tree, and nothing of it is granted
 pub numbered_is : (tree : Tree) (next : ℕ) → HasEmptyOpen tree → tree_of (numbered next tree) ≡ tree
 numbered_is (Open block) next empty = ap Open (sym empty)
 numbered_is (Closed block) next empty = refl
-numbered_is (Split block x a first second) next empty =
-    ap₂ (λ f s. Split block x a f s) (numbered_is first next empty.0) (numbered_is second (next + open_leaves first) empty.1)
+numbered_is (Split block d first second) next empty =
+    ap₂ (λ f s. Split block d f s) (numbered_is first next empty.0) (numbered_is second (next + open_leaves first) empty.1)
 
 pub numbered_granted : (tree : Tree) (next : ℕ) → granted (numbered next tree) ≡ 0
 numbered_granted (Open block) next = refl
 numbered_granted (Closed block) next = refl
-numbered_granted (Split block x a first second) next =
+numbered_granted (Split block d first second) next =
     omega (arith, numbered_granted first next, numbered_granted second (next + open_leaves first))
 
 -- a tree with its leaves called back is the tree, and nothing of it is granted
 pub recalled_is : (tree : PoolTree) → tree_of (recalled tree) ≡ tree_of tree
 recalled_is (Leaf number mark) = refl
 recalled_is (Shut block) = refl
-recalled_is (Fork block x a first second) = ap₂ (λ f s. Split block x a f s) (recalled_is first) (recalled_is second)
+recalled_is (Fork block d first second) = ap₂ (λ f s. Split block d f s) (recalled_is first) (recalled_is second)
 
 pub recalled_granted : (tree : PoolTree) → granted (recalled tree) ≡ 0
 recalled_granted (Leaf number mark) = refl
 recalled_granted (Shut block) = refl
-recalled_granted (Fork block x a first second) = omega (arith, recalled_granted first, recalled_granted second)
+recalled_granted (Fork block d first second) = omega (arith, recalled_granted first, recalled_granted second)
 
 -- a tree whose free leaves are closed where their floor is at least k
 reaches : (k f : ℕ) → nat_le k f ≡ true → k ≤ f
@@ -106,8 +107,8 @@ module _ (P : Network) (k : ℕ) where
   swept_valid (Leaf n Free) history valid = leaf_valid (nat_le k (floor P history)) n history refl
   swept_valid (Leaf n (Out w g)) history valid = valid
   swept_valid (Shut block) history valid = valid
-  swept_valid (Fork block x a first second) history valid =
-      (valid.0, valid.1, swept_valid first (Is x a ∷ after block history) valid.2, swept_valid second (IsNot x a ∷ after block history) valid.3)
+  swept_valid (Fork block d first second) history valid =
+      (valid.0, valid.1, swept_valid first (Took d ∷ after block history) valid.2, swept_valid second (Refused d ∷ after block history) valid.3)
 
   leaf_strict : (b : Bool) (n : ℕ) (history : List Event) → Strict P history (tree_of (if b then Shut [] else Leaf n Free))
   leaf_strict true n history = tt
@@ -117,8 +118,8 @@ module _ (P : Network) (k : ℕ) where
   swept_strict (Leaf n Free) history strict = leaf_strict (nat_le k (floor P history)) n history
   swept_strict (Leaf n (Out w g)) history strict = strict
   swept_strict (Shut block) history strict = strict
-  swept_strict (Fork block x a first second) history strict =
-      (strict.0, swept_strict first (Is x a ∷ after block history) strict.1, swept_strict second (IsNot x a ∷ after block history) strict.2)
+  swept_strict (Fork block d first second) history strict =
+      (strict.0, swept_strict first (Took d ∷ after block history) strict.1, swept_strict second (Refused d ∷ after block history) strict.2)
 
   leaf_tame : (b : Bool) (n : ℕ) (history : List Event) → Tame P history (tree_of (Leaf n Free)) → Tame P history (tree_of (if b then Shut [] else Leaf n Free))
   leaf_tame true n history tame = tame
@@ -128,8 +129,8 @@ module _ (P : Network) (k : ℕ) where
   swept_tame (Leaf n Free) history tame = leaf_tame (nat_le k (floor P history)) n history tame
   swept_tame (Leaf n (Out w g)) history tame = tame
   swept_tame (Shut block) history tame = tame
-  swept_tame (Fork block x a first second) history tame =
-      (tame.0, swept_tame first (Is x a ∷ after block history) tame.1, swept_tame second (IsNot x a ∷ after block history) tame.2)
+  swept_tame (Fork block d first second) history tame =
+      (tame.0, swept_tame first (Took d ∷ after block history) tame.1, swept_tame second (Refused d ∷ after block history) tame.2)
 
   leaf_granted : (b : Bool) (n : ℕ) → granted (if b then Shut [] else Leaf n Free) ≡ 0
   leaf_granted true n = refl
@@ -139,15 +140,15 @@ module _ (P : Network) (k : ℕ) where
   swept_granted (Leaf n Free) history = leaf_granted (nat_le k (floor P history)) n
   swept_granted (Leaf n (Out w g)) history = refl
   swept_granted (Shut block) history = refl
-  swept_granted (Fork block x a first second) history =
-      ap₂ (λ f s. f + s) (swept_granted first (Is x a ∷ after block history)) (swept_granted second (IsNot x a ∷ after block history))
+  swept_granted (Fork block d first second) history =
+      ap₂ (λ f s. f + s) (swept_granted first (Took d ∷ after block history)) (swept_granted second (Refused d ∷ after block history))
 
   pub swept_count : (tree : PoolTree) (history : List Event) → count (tree_of tree) ≤ count (tree_of (swept P k tree history))
   swept_count (Leaf n Free) history = omega arith
   swept_count (Leaf n (Out w g)) history = omega arith
   swept_count (Shut block) history = omega arith
-  swept_count (Fork block x a first second) history =
-      omega (arith, swept_count first (Is x a ∷ after block history), swept_count second (IsNot x a ∷ after block history))
+  swept_count (Fork block d first second) history =
+      omega (arith, swept_count first (Took d ∷ after block history), swept_count second (Refused d ∷ after block history))
 
   leaf_splits : (b : Bool) (n : ℕ) → splits (tree_of (if b then Shut [] else Leaf n Free)) ≡ 0
   leaf_splits true n = refl
@@ -157,11 +158,11 @@ module _ (P : Network) (k : ℕ) where
   swept_splits (Leaf n Free) history = leaf_splits (nat_le k (floor P history)) n
   swept_splits (Leaf n (Out w g)) history = refl
   swept_splits (Shut block) history = refl
-  swept_splits (Fork block x a first second) history =
-      omega (arith, swept_splits first (Is x a ∷ after block history), swept_splits second (IsNot x a ∷ after block history))
+  swept_splits (Fork block d first second) history =
+      omega (arith, swept_splits first (Took d ∷ after block history), swept_splits second (Refused d ∷ after block history))
 
 -- no tree has more splits than splits and closed leaves
 pub splits_count : (tree : Tree) → splits tree ≤ count tree
 splits_count (Open block) = omega arith
 splits_count (Closed block) = omega arith
-splits_count (Split block x a first second) = omega (arith, splits_count first, splits_count second)
+splits_count (Split block d first second) = omega (arith, splits_count first, splits_count second)

@@ -2,6 +2,7 @@
 -- variable 0 has two values or more. A worker takes the root with one node to make, and gives it back split at the value 0
 -- of the variable 0.
 use Rattle.std.specs.Prelude.{◌≡◌, ◌≤◌, List, [], ◌∷◌, slice_index}
+use Rattle.cfn_model.specs.declared.step.Decision.TheVariants.{Is}
 use Rattle.cfn_model.specs.Network.{Network, IsNetwork}
 use Rattle.cfn_model.specs.Sums.{floor}
 use Rattle.cfn_model.specs.Tree.{Open, Split}
@@ -22,7 +23,7 @@ abbrev pub root_task : Network → Task
 root_task P = record { leaf = 0; worker = 0; grant = 1; floor = floor P []; path = [] }
 
 abbrev pub root_split : Network → Piece
-root_split P = record { task = root_task P; tree = Split [] 0 0 (Open []) (Open []); threshold = 10 }
+root_split P = record { task = root_task P; tree = Split [] (Is 0 0) (Open []) (Open []); threshold = 10 }
 
 abbrev pub splitting : Network → List Action
 splitting P = Take 0 1 ∷ Note 0 ∷ Give (root_split P) 0 ∷ Take 0 1 ∷ []
@@ -35,7 +36,7 @@ abbrev pub SplitSpends : Type 0
 SplitSpends = (P : Network) → IsSplittable P → AreActions P (splitting P)
     × ((w : World)
     × Runs P (opening P 1 1) (splitting P) (Given (root_task P) ∷ Noted 0 ∷ Done ∷ Spent ∷ []) w
-    × (w.pool.tree ≡ Fork [] 0 0 (Leaf 1 Free) (Leaf 2 Free)))
+    × (w.pool.tree ≡ Fork [] (Is 0 0) (Leaf 1 Free) (Leaf 2 Free)))
 
 -- Where the root was called back before, the split is refused, and the next taker gets the root again.
 abbrev pub RecallRefuses : Type 0

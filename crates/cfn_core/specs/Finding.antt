@@ -18,7 +18,7 @@ abbrev pub open_end : End → ℕ
 open_end (FreeLeaf n) = 1
 open_end (OutLeaf n worker grant) = 1
 open_end ShutLeaf = 0
-open_end (Branch x a) = 0
+open_end (Branch d) = 0
 
 abbrev pub open_in : List Node → ℕ
 open_in [] = 0
@@ -29,7 +29,7 @@ abbrev pub grant_end : End → ℕ
 grant_end (FreeLeaf n) = 0
 grant_end (OutLeaf n worker grant) = grant
 grant_end ShutLeaf = 0
-grant_end (Branch x a) = 0
+grant_end (Branch d) = 0
 
 abbrev pub granted_in : List Node → ℕ
 granted_in [] = 0

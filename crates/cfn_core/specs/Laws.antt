@@ -5,7 +5,8 @@ use Rattle.cfn_model.specs.declared.step.Event.{Event}
 use Rattle.cfn_model.specs.Sums.{floor}
 use Rattle.cfn_model.specs.Network.{Network, IsNetwork, Fits, Least, cost}
 use Rattle.cfn_model.specs.Tree.{Valid, bound, open_leaves}
-use Rattle.cfn_core.specs.Pool.{Mark, Free, Out, PoolTree, Leaf, Shut, Fork, tree_of, IsLeaf, IsAnyLeaf, Agrees, leaf_of, Task, IsTask, Piece, Pool, IsSound}
+use Rattle.cfn_model.specs.Paths.{Agrees}
+use Rattle.cfn_core.specs.Pool.{Mark, Free, Out, PoolTree, Leaf, Shut, Fork, tree_of, IsLeaf, IsAnyLeaf, leaf_of, Task, IsTask, Piece, Pool, IsSound}
 use Rattle.cfn_core.specs.World.{World, HasWordRule, price, view_at, opening}
 use Rattle.cfn_core.specs.Actions.{Action, Look, Lower, Note, Meet, Take, Give, Back, Recall, Sweep, Reply, Idle, Given, Gone, Done, IsAction, IsThere, IsOut, Acts, Runs, AreActions}
 
@@ -29,7 +30,7 @@ opening_bound P = min P.upper (floor P [])
 abbrev pub leaves_with : ℕ → PoolTree → ℕ
 leaves_with n (Leaf number mark) = if number == n then 1 else 0
 leaves_with n (Shut block) = 0
-leaves_with n (Fork block x a first second) = leaves_with n first + leaves_with n second
+leaves_with n (Fork block d first second) = leaves_with n first + leaves_with n second
 
 -- A task is in hand.
 abbrev pub IsInHand : Task → List Task → Type 0
@@ -54,7 +55,7 @@ IsCovered P w values (Leaf n Free) = Unit {0}
 IsCovered P w values (Leaf n (Out worker grant)) =
     (path : List Event) × IsInHand (record { leaf = n; worker = worker; grant = grant; floor = floor P path; path = path }) w.hands
 IsCovered P w values (Shut block) = w.pool.view.seen ≤ cost P values
-IsCovered P w values (Fork block x a first second) = ⊥
+IsCovered P w values (Fork block d first second) = ⊥
 
 -- Of all leaves of the tree, closed ones too, exactly one has a path that agrees with an assignment: the assignment's
 -- leaf. Where it is out, its task, in hand, has that very path.

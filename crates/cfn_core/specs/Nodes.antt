@@ -2,8 +2,9 @@
 -- before its second.
 use Rattle.std.specs.Prelude.{◌≡◌, ℕ, List, [], ◌∷◌, ◌++◌, if◌then◌else◌, nat_le}
 use Rattle.cfn_model.specs.declared.step.Step.{Step}
+use Rattle.cfn_model.specs.declared.step.Decision.{Decision}
 use Rattle.cfn_model.specs.declared.step.Event.{Event}
-use Rattle.cfn_model.specs.declared.step.Event.TheVariants.{Is, IsNot}
+use Rattle.cfn_model.specs.declared.step.Event.TheVariants.{Took, Refused}
 use Rattle.cfn_model.specs.Network.{Network}
 use Rattle.cfn_model.specs.Sums.{floor}
 use Rattle.cfn_model.specs.Steps.{after}
@@ -25,21 +26,21 @@ leaf_end n (Out worker grant) = OutLeaf n worker grant
 abbrev pub nodes_of : Network → List Event → PoolTree → List Node
 nodes_of P path (Leaf n mark) = node P path [] (leaf_end n mark) ∷ []
 nodes_of P path (Shut block) = node P path block ShutLeaf ∷ []
-nodes_of P path (Fork block x a first second) =
-    node P path block (Branch x a) ∷ (nodes_of P (Is x a ∷ after block path) first ++ nodes_of P (IsNot x a ∷ after block path) second)
+nodes_of P path (Fork block d first second) =
+    node P path block (Branch d) ∷ (nodes_of P (Took d ∷ after block path) first ++ nodes_of P (Refused d ∷ after block path) second)
 
 -- A split of the first two of a list of trees, put in their place.
-abbrev pub forked : List Step → ℕ → ℕ → List PoolTree → List PoolTree
-forked block x a [] = []
-forked block x a (first ∷ []) = []
-forked block x a (first ∷ second ∷ trees) = Fork block x a first second ∷ trees
+abbrev pub forked : List Step → Decision → List PoolTree → List PoolTree
+forked block d [] = []
+forked block d (first ∷ []) = []
+forked block d (first ∷ second ∷ trees) = Fork block d first second ∷ trees
 
 -- A node's tree before the trees that stand behind it.
 abbrev pub with_end : List Step → End → List PoolTree → List PoolTree
 with_end block (FreeLeaf n) trees = Leaf n Free ∷ trees
 with_end block (OutLeaf n worker grant) trees = Leaf n (Out worker grant) ∷ trees
 with_end block ShutLeaf trees = Shut block ∷ trees
-with_end block (Branch x a) trees = forked block x a trees
+with_end block (Branch d) trees = forked block d trees
 
 -- The trees that a list of nodes has, and the first of them.
 abbrev pub trees_of : List Node → List PoolTree
@@ -62,7 +63,7 @@ abbrev pub recalled_end : End → End
 recalled_end (FreeLeaf n) = FreeLeaf n
 recalled_end (OutLeaf n worker grant) = FreeLeaf n
 recalled_end ShutLeaf = ShutLeaf
-recalled_end (Branch x a) = Branch x a
+recalled_end (Branch d) = Branch d
 
 abbrev pub recalled_node : Node → Node
 recalled_node node = record node { end = recalled_end node.end }
@@ -72,7 +73,7 @@ abbrev pub swept_end : ℕ → ℕ → End → End
 swept_end k f (FreeLeaf n) = if nat_le k f then ShutLeaf else FreeLeaf n
 swept_end k f (OutLeaf n worker grant) = OutLeaf n worker grant
 swept_end k f ShutLeaf = ShutLeaf
-swept_end k f (Branch x a) = Branch x a
+swept_end k f (Branch d) = Branch d
 
 abbrev pub swept_node : ℕ → Node → Node
 swept_node k node = record node { end = swept_end k node.floor node.end }

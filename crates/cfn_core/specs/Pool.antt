@@ -1,13 +1,15 @@
 -- The pool: a search tree whose open leaves are handed out to workers (branch and bound as in Allouche et al. 2015).
-use Rattle.std.specs.Prelude.{◌≡◌, ◌≢◌, ℕ, ◌+◌, ◌<◌, ◌≤◌, ◌⊎◌, ◌^◌, List, [], ◌∷◌, length, slice_index, Option, ◌==◌, if◌then◌else◌, nat_le, pos, ◌<ℤ◌, IsTrue}
+use Rattle.std.specs.Prelude.{◌≡◌, ℕ, ◌+◌, ◌<◌, ◌≤◌, ◌⊎◌, List, [], ◌∷◌, Option, if◌then◌else◌, nat_le}
 use Rattle.cfn_model.specs.declared.step.Step.{Step}
+use Rattle.cfn_model.specs.declared.step.Decision.{Decision}
 use Rattle.cfn_model.specs.declared.step.Event.{Event}
-use Rattle.cfn_model.specs.declared.step.Event.TheVariants.{Did, Is, IsNot}
-use Rattle.cfn_model.specs.Network.{Network, Fits}
-use Rattle.cfn_model.specs.Sums.{floor, unary, residual, is_live, is_live_tuple}
-use Rattle.cfn_model.specs.Steps.{IsValue, Allowed, after}
-use Rattle.cfn_model.specs.Network.{dims_at}
+use Rattle.cfn_model.specs.declared.step.Event.TheVariants.{Took, Refused}
+use Rattle.cfn_model.specs.Network.{Network}
+use Rattle.cfn_model.specs.Sums.{floor}
+use Rattle.cfn_model.specs.Steps.{after}
+use Rattle.cfn_model.specs.Decisions.{holds}
 use Rattle.cfn_model.specs.Tree.{Tree, Open, Closed, Split, count, splits, open_leaves, Valid, Strict}
+use Rattle.cfn_model.specs.Paths.{RunsAlong, Tame, TameAlong}
 
 -- An open leaf is free, or out: handed to a worker, who may make that many nodes.
 pub data Mark : Type 0 where
@@ -18,48 +20,41 @@ pub data Mark : Type 0 where
 pub data PoolTree : Type 0 where
   Leaf : (number : ℕ) (mark : Mark) → PoolTree
   Shut : (block : List Step) → PoolTree
-  Fork : (block : List Step) (x a : ℕ) (first second : PoolTree) → PoolTree
+  Fork : (block : List Step) (decision : Decision) (first second : PoolTree) → PoolTree
 
 -- The search tree that it is: free leaves and leaves that are out are open.
 abbrev pub tree_of : PoolTree → Tree
 tree_of (Leaf number mark) = Open []
 tree_of (Shut block) = Closed block
-tree_of (Fork block x a first second) = Split block x a (tree_of first) (tree_of second)
+tree_of (Fork block d first second) = Split block d (tree_of first) (tree_of second)
 
 -- An open leaf of the tree: its number, its mark, and what stands before it, the newest event first.
 abbrev pub IsLeaf : PoolTree → List Event → ℕ → Mark → List Event → Type 0
 IsLeaf (Leaf number mark) history n m path = (number ≡ n) × (mark ≡ m) × (path ≡ history)
 IsLeaf (Shut block) history n m path = ⊥
-IsLeaf (Fork block x a first second) history n m path =
-    IsLeaf first (Is x a ∷ after block history) n m path ⊎ IsLeaf second (IsNot x a ∷ after block history) n m path
+IsLeaf (Fork block d first second) history n m path =
+    IsLeaf first (Took d ∷ after block history) n m path ⊎ IsLeaf second (Refused d ∷ after block history) n m path
 
 -- A leaf of the tree, open or closed, and what stands before it, the newest event first.
 abbrev pub IsAnyLeaf : PoolTree → List Event → PoolTree → List Event → Type 0
 IsAnyLeaf (Leaf number mark) history leaf path = (leaf ≡ Leaf number mark) × (path ≡ history)
 IsAnyLeaf (Shut block) history leaf path = (leaf ≡ Shut block) × (path ≡ history)
-IsAnyLeaf (Fork block x a first second) history leaf path =
-    IsAnyLeaf first (Is x a ∷ after block history) leaf path ⊎ IsAnyLeaf second (IsNot x a ∷ after block history) leaf path
+IsAnyLeaf (Fork block d first second) history leaf path =
+    IsAnyLeaf first (Took d ∷ after block history) leaf path ⊎ IsAnyLeaf second (Refused d ∷ after block history) leaf path
 
--- An assignment agrees with a path where every decision on it holds. Steps say nothing.
-abbrev pub Agrees : List ℕ → List Event → Type 0
-Agrees values [] = Unit {0}
-Agrees values (Did step ∷ path) = Agrees values path
-Agrees values (Is x a ∷ path) = (slice_index values x ≡ a) × Agrees values path
-Agrees values (IsNot x a ∷ path) = (slice_index values x ≢ a) × Agrees values path
-
--- The leaf of an assignment: at each split the first side where x has the value a, and else the second.
+-- The leaf of an assignment: at each split the first side where the decision holds, and else the second.
 abbrev pub leaf_of : List ℕ → PoolTree → PoolTree
 leaf_of values (Leaf number mark) = Leaf number mark
 leaf_of values (Shut block) = Shut block
-leaf_of values (Fork block x a first second) = if slice_index values x == a then leaf_of values first else leaf_of values second
+leaf_of values (Fork block d first second) = if holds d values then leaf_of values first else leaf_of values second
 
 -- What a tree becomes where another takes the place of one of its open leaves: the one with this number, mark and path.
 abbrev pub Replaced : PoolTree → List Event → ℕ → Mark → List Event → PoolTree → PoolTree → Type 0
 Replaced (Leaf number mark) history n m path place new = (number ≡ n) × (mark ≡ m) × (path ≡ history) × (new ≡ place)
 Replaced (Shut block) history n m path place new = ⊥
-Replaced (Fork block x a first second) history n m path place new =
-    ((below : PoolTree) × Replaced first (Is x a ∷ after block history) n m path place below × (new ≡ Fork block x a below second))
-    ⊎ ((below : PoolTree) × Replaced second (IsNot x a ∷ after block history) n m path place below × (new ≡ Fork block x a first below))
+Replaced (Fork block d first second) history n m path place new =
+    ((below : PoolTree) × Replaced first (Took d ∷ after block history) n m path place below × (new ≡ Fork block d below second))
+    ⊎ ((below : PoolTree) × Replaced second (Refused d ∷ after block history) n m path place below × (new ≡ Fork block d first below))
 
 -- The nodes that may still be made below leaves that are out.
 abbrev pub grant_of : Mark → ℕ
@@ -69,49 +64,33 @@ grant_of (Out worker grant) = grant
 abbrev pub granted : PoolTree → ℕ
 granted (Leaf number mark) = grant_of mark
 granted (Shut block) = 0
-granted (Fork block x a first second) = granted first + granted second
+granted (Fork block d first second) = granted first + granted second
 
 -- A tree's open leaves get the numbers from next on, in the order of the tree's text, and are free.
 abbrev pub numbered : ℕ → Tree → PoolTree
 numbered next (Open block) = Leaf next Free
 numbered next (Closed block) = Shut block
-numbered next (Split block x a first second) = Fork block x a (numbered next first) (numbered (next + open_leaves first) second)
+numbered next (Split block d first second) = Fork block d (numbered next first) (numbered (next + open_leaves first) second)
 
 -- Every leaf that is out is free again.
 abbrev pub recalled : PoolTree → PoolTree
 recalled (Leaf number mark) = Leaf number Free
 recalled (Shut block) = Shut block
-recalled (Fork block x a first second) = Fork block x a (recalled first) (recalled second)
+recalled (Fork block d first second) = Fork block d (recalled first) (recalled second)
 
 -- Each free leaf whose floor is at least k is closed.
 abbrev pub swept : Network → ℕ → PoolTree → List Event → PoolTree
 swept P k (Leaf number Free) history = if nat_le k (floor P history) then Shut [] else Leaf number Free
 swept P k (Leaf number (Out worker grant)) history = Leaf number (Out worker grant)
 swept P k (Shut block) history = Shut block
-swept P k (Fork block x a first second) history =
-    Fork block x a (swept P k first (Is x a ∷ after block history)) (swept P k second (IsNot x a ∷ after block history))
+swept P k (Fork block d first second) history =
+    Fork block d (swept P k first (Took d ∷ after block history)) (swept P k second (Refused d ∷ after block history))
 
 -- The blocks of a tree's open leaves are empty.
 abbrev pub HasEmptyOpen : Tree → Type 0
 HasEmptyOpen (Open block) = block ≡ []
 HasEmptyOpen (Closed block) = Unit {0}
-HasEmptyOpen (Split block x a first second) = HasEmptyOpen first × HasEmptyOpen second
-
--- Each unary cost of a live value and each residual cost of a live tuple is below 2^64.
-pub record HasSmallCosts (P : Network) (history : List Event) : Type 0 where
-  pub unary : (x a : ℕ) → IsValue P x a → IsTrue (is_live history x a) → unary P history x a <ℤ pos (2 ^ 64)
-  pub residual : (f : ℕ) (tuple : List ℕ) → f < length P.functions → Fits (dims_at P f) tuple → IsTrue (is_live_tuple P history f tuple) → residual P history f tuple <ℤ pos (2 ^ 64)
-
--- Costs stay that small along a block, and along the tree.
-abbrev pub TameBlock : Network → List Event → List Step → Type 0
-TameBlock P history [] = HasSmallCosts P history
-TameBlock P history (step ∷ steps) = HasSmallCosts P history × TameBlock P (Did step ∷ history) steps
-
-abbrev pub Tame : Network → List Event → Tree → Type 0
-Tame P history (Open block) = TameBlock P history block
-Tame P history (Closed block) = TameBlock P history block
-Tame P history (Split block x a first second) =
-    TameBlock P history block × Tame P (Is x a ∷ after block history) first × Tame P (IsNot x a ∷ after block history) second
+HasEmptyOpen (Split block d first second) = HasEmptyOpen first × HasEmptyOpen second
 
 -- A leaf that a worker has in hand: its number, the worker, how many nodes it may make, the floor, and what stands
 -- before the leaf.
@@ -121,18 +100,6 @@ pub record Task : Type 0 where
   pub grant : ℕ
   pub floor : ℕ
   pub path : List Event
-
--- Each step of a path is allowed at k after what stands before it, and each decision is in range.
-abbrev pub RunsAlong : Network → List Event → ℕ → Type 0
-RunsAlong P [] k = Unit {0}
-RunsAlong P (Did step ∷ path) k = Allowed P path k step × RunsAlong P path k
-RunsAlong P (Is x a ∷ path) k = IsValue P x a × RunsAlong P path k
-RunsAlong P (IsNot x a ∷ path) k = IsValue P x a × RunsAlong P path k
-
--- Costs stay small along a path.
-abbrev pub TameAlong : Network → List Event → Type 0
-TameAlong P [] = HasSmallCosts P []
-TameAlong P (event ∷ path) = HasSmallCosts P (event ∷ path) × TameAlong P path
 
 -- What a task keeps: its path runs at some threshold and is tame, and it may make a node at least.
 pub record IsTask (P : Network) (task : Task) : Type 0 where

@@ -6,7 +6,7 @@ ghost use Rattle.cfn_core.specs.Nodes.{node};
 
 use crate::floor::floor;
 use cfn_net::Network;
-use cfn_proof::{Block, Path};
+use cfn_proof::{Block, Decision, Path};
 use std::alloc::{AllocError, Global};
 
 /// How a node of the pool's tree ends.
@@ -24,10 +24,9 @@ pub(crate) enum End {
     },
     /// A closed leaf.
     ShutLeaf,
-    /// A split: on its first side `variable` has `value`, on its second another value.
+    /// A split: on its first side the decision holds, on its second it fails.
     Branch {
-        variable: u32,
-        value: u32,
+        decision: Decision,
     },
 }
 

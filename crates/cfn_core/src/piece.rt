@@ -2,9 +2,10 @@
 
 ghost use Rattle.std.specs.Prelude.{◌≡◌, ◌≤◌};
 ghost use Rattle.cfn_model.specs.declared.limits.TheConstants.{GREATEST};
+ghost use Rattle.cfn_model.specs.Paths.{Tame};
 ghost use Rattle.cfn_model.specs.Tree.{Valid, Strict, count};
 ghost use Rattle.cfn_proof.specs.Nodes.{tree_of};
-ghost use Rattle.cfn_core.specs.Pool.{IsPiece, HasEmptyOpen, Tame};
+ghost use Rattle.cfn_core.specs.Pool.{IsPiece, HasEmptyOpen};
 ghost use Rattle.cfn_core.specs.Values.{piece_of};
 
 use crate::task::Task;

@@ -1,6 +1,7 @@
 //! The machine at work, on three variables of which each two cost 1 where they agree.
 
-ghost use Rattle.std.specs.Prelude.{◌≡◌, ◌≤◌, IsTrue, IfOk, IfSome};
+ghost use Rattle.std.specs.Prelude.{◌≡◌, ◌≤◌, IsTrue, IfOk, IfSome, if◌then◌else◌, ◌==◌, Some, None};
+ghost use Rattle.cfn_model.specs.Decisions.{variable_of, keeps};
 ghost use Rattle.std.specs.List.{AllByRecursion};
 ghost use Rattle.cfn_model.specs.declared.limits.TheConstants.{GREATEST};
 ghost use Rattle.cfn_model.specs.Sums.{is_live, removes};
@@ -10,7 +11,7 @@ ghost use Rattle.cfn_core.specs.Values.{IsTaskOf};
 use super::*;
 use crate::node::End;
 use cfn_net::{Builder, Fit, Network, Scored};
-use cfn_proof::{Event, Path, Step, Tree};
+use cfn_proof::{Decision, Event, Path, Step, Tree};
 use std::alloc::{AllocError, Global};
 use std::test::*;
 
@@ -31,16 +32,26 @@ fn level(alloc: Global) -> Result<Network, AllocError> {
     builder.finish()
 }
 
+/// Whether a value is on a decision's first side, if it is one of the variable's.
+fn side(decision: Decision, x: u32, a: u32) -> Option<bool>
+    ensures { result ≡ (if variable_of decision == x then Some (keeps decision a) else None) }
+{
+    match decision {
+        Decision::Is { variable, value } if variable == x => Some(value == a),
+        Decision::Most { variable, value } if variable == x => Some(a <= value),
+        _ => None,
+    }
+}
+
 /// Whether an event takes a value from a variable.
 fn removes(event: Event, x: u32, a: u32) -> bool
     ensures { result ≡ removes event x a }
 {
     match event {
-        Event::Did(Step::CutValue { variable, value }) | Event::IsNot { variable, value } => {
-            variable == x && value == a
-        }
-        Event::Is { variable, value } => variable == x && value != a,
+        Event::Did(Step::CutValue { variable, value }) => variable == x && value == a,
         Event::Did(_) => false,
+        Event::Took(decision) => side(decision, x, a) == Some(false),
+        Event::Refused(decision) => side(decision, x, a) == Some(true),
     }
 }
 
@@ -76,7 +87,7 @@ fn halved(
     network.limits();
     task.kept();
     let mut tree = Tree::new(alloc)?;
-    tree.split(Tree::ROOT, variable, 0)?;
+    tree.split(Tree::ROOT, Decision::Is { variable, value: 0 })?;
     Ok(Some(Piece::of(task, tree, network.ub())))
 }
 

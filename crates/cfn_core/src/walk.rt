@@ -100,23 +100,22 @@ fn visit(
                 .push(Node::at(network, path, block, PoolEnd::ShutLeaf))?;
         }
         End::Split {
-            variable,
-            value,
+            decision,
             first,
             second,
         } => {
-            let is = child_path(alloc, &path, &node.block, Event::Is { variable, value })?;
-            let is_not = child_path(alloc, &path, &node.block, Event::IsNot { variable, value })?;
+            let took = child_path(alloc, &path, &node.block, Event::Took(decision))?;
+            let refused = child_path(alloc, &path, &node.block, Event::Refused(decision))?;
             walk.ahead.push(Ahead {
                 id: second,
-                path: is_not,
+                path: refused,
             })?;
             walk.ahead.push(Ahead {
                 id: first,
-                path: is,
+                path: took,
             })?;
             let block = node.block.copy(alloc)?;
-            let end = PoolEnd::Branch { variable, value };
+            let end = PoolEnd::Branch { decision };
             walk.made.push(Node::at(network, path, block, end))?;
         }
     }

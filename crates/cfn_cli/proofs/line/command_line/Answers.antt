@@ -10,4 +10,5 @@ returns c =
     let required = command_required _ _ _ c.subcommand_required.ensures start in
     let with_solve = command_added _ _ _ _ _ c.in_ok-subcommand.ensures required c.in_ok-solve.ensures in
     let with_check = command_added _ _ _ _ _ c.in_ok-subcommand-2.ensures with_solve c.in_ok-check.ensures in
-    IfOk-weaker c.subcommand-3.result _ _ (λ new adds. command_added _ _ new _ _ adds with_check c.in_ok-cost.ensures) c.subcommand-3.ensures
+    let with_cost = command_added _ _ _ _ _ c.in_ok-subcommand-3.ensures with_check c.in_ok-cost.ensures in
+    IfOk-weaker c.subcommand-4.result _ _ (λ new adds. command_added _ _ new _ _ adds with_cost c.in_ok-migrate.ensures) c.subcommand-4.ensures

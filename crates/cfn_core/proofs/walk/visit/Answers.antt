@@ -1,6 +1,6 @@
 use Rattle.std.proofs.Common.{◌≡◌, ℕ, ◌+◌, List, [], ◌∷◌, ◌++◌, reverse, sym, ap, ap₂, ◌∙◌, subst, arith}
 use Rattle.std.proofs.lemmas.List.{reverse-append}
-use Rattle.cfn_model.specs.declared.step.Event.TheVariants.{Is, IsNot}
+use Rattle.cfn_model.specs.declared.step.Event.TheVariants.{Took, Refused}
 use Rattle.cfn_model.specs.Steps.{after}
 use Rattle.cfn_proof.specs.Nodes.{node_at}
 use Rattle.cfn_core.specs.declared.node.End.TheVariants.{FreeLeaf, ShutLeaf, Branch}
@@ -36,22 +36,21 @@ returns-in_ok-push-in-Shut-clause-on_way c = λ (whole : List Node) (last : ℕ)
 pub returns-in_ok-push-in-Split-3-clause-on_way : goal.returns-in_ok-push-in-Split-3-clause-on_way
 returns-in_ok-push-in-Split-3-clause-on_way c = λ (whole : List Node) (last : ℕ) way.
     let P = c.args.network.now in
-    let x = c.in-Split.variable in
-    let a = c.in-Split.value in
+    let d = c.in-Split.decision in
     let is = ap (λ n. n.end) (sym c.node-node.ensures) ∙ c.in-Split.is in
     let same_block : c.node-node.result.now.block ≡ (node_at c.args.tree.now c.args.at.id.number).block = ap (λ n. n.block) c.node-node.ensures in
     let block = c.in_ok-block-in-Split.ensures ∙ same_block in
-    let made : c.at-in-Split.result ≡ node P c.args.at.path (node_at c.args.tree.now c.args.at.id.number).block (Branch x a) = c.at-in-Split.ensures ∙ ap (λ b. node P c.args.at.path b (Branch x a)) block in
+    let made : c.at-in-Split.result ≡ node P c.args.at.path (node_at c.args.tree.now c.args.at.id.number).block (Branch d) = c.at-in-Split.ensures ∙ ap (λ b. node P c.args.at.path b (Branch d)) block in
     let items = c.in_ok-push-in-Split-3.ensures.items ∙ ap (λ n. c.args.walk.now.made.items ++ n ∷ []) made in
-    let second = c.in_ok-is_not-in-Split.ensures ∙ ap (λ b. IsNot x a ∷ after b c.args.at.path) same_block in
-    let first = c.in_ok-is-in-Split.ensures ∙ ap (λ b. Is x a ∷ after b c.args.at.path) same_block in
-    let one : Ahead = record { id = c.in-Split.first; path = c.in_ok-is-in-Split.is' } in
-    let two : Ahead = record { id = c.in-Split.second; path = c.in_ok-is_not-in-Split.is_not } in
+    let second = c.in_ok-refused-in-Split.ensures ∙ ap (λ b. Refused d ∷ after b c.args.at.path) same_block in
+    let first = c.in_ok-took-in-Split.ensures ∙ ap (λ b. Took d ∷ after b c.args.at.path) same_block in
+    let one : Ahead = record { id = c.in-Split.first; path = c.in_ok-took-in-Split.took } in
+    let two : Ahead = record { id = c.in-Split.second; path = c.in_ok-refused-in-Split.refused } in
     let ahead : c.push-in-Split-2.new.self.items ≡ (c.args.walk.now.ahead.items ++ two ∷ []) ++ one ∷ [] = c.in_ok-push-in-Split-2.ensures.items ∙ ap (λ l. l ++ one ∷ []) c.in_ok-push-in-Split.ensures.items in
     let turned : reverse c.push-in-Split-2.new.self.items ≡ one ∷ two ∷ reverse c.args.walk.now.ahead.items =
     ap reverse ahead ∙ reverse-append (c.args.walk.now.ahead.items ++ two ∷ []) (one ∷ []) ∙ ap (λ l. one ∷ l) (reverse-append c.args.walk.now.ahead.items (two ∷ [])) in
-    let parts : reverse c.push-in-Split-2.new.self.items ≡ record { id = c.in-Split.first; path = Is x a ∷ after (node_at c.args.tree.now c.args.at.id.number).block c.args.at.path } ∷ record { id = c.in-Split.second; path = IsNot x a ∷ after (node_at c.args.tree.now c.args.at.id.number).block c.args.at.path } ∷ reverse c.args.walk.now.ahead.items =
+    let parts : reverse c.push-in-Split-2.new.self.items ≡ record { id = c.in-Split.first; path = Took d ∷ after (node_at c.args.tree.now c.args.at.id.number).block c.args.at.path } ∷ record { id = c.in-Split.second; path = Refused d ∷ after (node_at c.args.tree.now c.args.at.id.number).block c.args.at.path } ∷ reverse c.args.walk.now.ahead.items =
     turned ∙ ap₂ (λ p q. record { id = c.in-Split.first; path = p } ∷ record { id = c.in-Split.second; path = q } ∷ reverse c.args.walk.now.ahead.items) first second in
     subst (λ l. IsOnWay P c.args.tree.now whole last l c.args.walk.now.number (reverse c.push-in-Split-2.new.self.items)) (sym items)
-    (subst (λ l. IsOnWay P c.args.tree.now whole last (c.args.walk.now.made.items ++ node P c.args.at.path (node_at c.args.tree.now c.args.at.id.number).block (Branch x a) ∷ []) c.args.walk.now.number l) (sym parts)
-    (split_made P c.args.tree.now c.linked.ensures.linked whole last c.args.walk.now.made.items c.args.walk.now.number (reverse c.args.walk.now.ahead.items) c.args.at way x a c.in-Split.first c.in-Split.second c.requires.there is))
+    (subst (λ l. IsOnWay P c.args.tree.now whole last (c.args.walk.now.made.items ++ node P c.args.at.path (node_at c.args.tree.now c.args.at.id.number).block (Branch d) ∷ []) c.args.walk.now.number l) (sym parts)
+    (split_made P c.args.tree.now c.linked.ensures.linked whole last c.args.walk.now.made.items c.args.walk.now.number (reverse c.args.walk.now.ahead.items) c.args.at way d c.in-Split.first c.in-Split.second c.requires.there is))
