@@ -5,5 +5,7 @@ mod Counting
 mod Ends
 mod Files
 mod Pairing
+mod MigrateStating
 mod SolveStating
 mod Stating
+mod Writing

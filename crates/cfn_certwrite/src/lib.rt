@@ -10,9 +10,11 @@
 
 mod certificate;
 mod nodes;
+mod upgrade;
 mod walk;
 
 pub use certificate::write;
+pub use upgrade::upgrade;
 
 #[cfg(test)]
 mod tests;
