@@ -10,11 +10,11 @@
 
 mod certificate;
 mod nodes;
-mod upgrade;
+mod second;
 mod walk;
 
 pub use certificate::write;
-pub use upgrade::upgrade;
+pub use second::upgrade;
 
 #[cfg(test)]
 mod tests;
