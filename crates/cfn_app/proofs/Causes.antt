@@ -5,7 +5,7 @@ use Rattle.std.specs.Prelude.{Option, Some, None, IsSomeAnd, IsTrue, is_some}
 use Rattle.cfn_net.specs.Scoring.{Scoring}
 use Rattle.cfn_proof.specs.Certificates.{solution_of}
 use Rattle.cfn_model.specs.declared.step.Event.{Event}
-use Rattle.cfn_model.specs.declared.step.Event.TheVariants.{Is, IsNot}
+use Rattle.cfn_model.specs.declared.step.Event.TheVariants.{Took, Refused}
 use Rattle.cfn_model.specs.declared.report.Row.{Row}
 use Rattle.cfn_model.specs.declared.report.ResultWord.TheVariants as words
 use Rattle.cfn_model.specs.Network.{Network, IsNetwork, Least}
@@ -23,17 +23,17 @@ use Rattle.cfn_app.specs.Solving.{word_of, word_when_done}
 bound_closed : (P : Network) (history : List Event) (tree : Tree) (k : ℕ) → open_leaves tree ≡ 0 → bound P history tree k ≡ k
 bound_closed P history (Open block) k none = absurd (omega arith)
 bound_closed P history (Closed block) k none = refl
-bound_closed P history (Split block x a first second) k none =
-    let l = bound_closed P (Is x a ∷ after block history) first k (omega arith) in
-    let r = bound_closed P (IsNot x a ∷ after block history) second k (omega arith) in
+bound_closed P history (Split block d first second) k none =
+    let l = bound_closed P (Took d ∷ after block history) first k (omega arith) in
+    let r = bound_closed P (Refused d ∷ after block history) second k (omega arith) in
     omega (arith, l, r)
 
 bound_open : (P : Network) (history : List Event) (tree : Tree) (k : ℕ) → OpenBelow P history tree k → 0 < open_leaves tree → bound P history tree k < k
 bound_open P history (Open block) k below some = omega (arith, below)
 bound_open P history (Closed block) k below some = absurd (omega arith)
-bound_open P history (Split block x a first second) k below some = elim (cases_eq (open_leaves first) 0) [
-  | inl none ↦ (let r = bound_open P (IsNot x a ∷ after block history) second k below.1 (omega arith) in omega (arith, r))
-  | inr more ↦ (let l = bound_open P (Is x a ∷ after block history) first k below.0 (omega arith) in omega (arith, l))
+bound_open P history (Split block d first second) k below some = elim (cases_eq (open_leaves first) 0) [
+  | inl none ↦ (let r = bound_open P (Refused d ∷ after block history) second k below.1 (omega arith) in omega (arith, r))
+  | inr more ↦ (let l = bound_open P (Took d ∷ after block history) first k below.0 (omega arith) in omega (arith, l))
 ]
 
 -- the causes by the best, where all leaves are closed, and where one is open

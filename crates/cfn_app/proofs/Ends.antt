@@ -8,6 +8,7 @@ use Rattle.cfn_model.specs.Network.{Network}
 use Rattle.cfn_model.specs.Certificate.{Certificate}
 use Rattle.cfn_model.specs.Reading.{reading}
 use Rattle.cfn_model.specs.Text.{spelling, report, write_fault_text}
+use Rattle.cfn_report.specs.Texts.{migrated_text}
 use Rattle.cfn_desk.specs.Outside.{Outside, Call, Load, Open, Bytes, Discard, HasFile, after, says}
 use Rattle.cfn_line.specs.Appending.{Appends, IsCut}
 use Rattle.cfn_line.specs.declared.channel.Channel.TheVariants.{File, Screen}
@@ -18,7 +19,7 @@ use Rattle.cfn_wcsp.specs.declared.fault.ReadFault.{ReadFault}
 use Rattle.cfn_wcsp.specs.declared.fault.ReadFault.TheVariants as faults
 use Rattle.cfn_app.specs.declared.format.Format.{Format}
 use Rattle.cfn_app.specs.declared.status.Status.{Status}
-use Rattle.cfn_app.specs.declared.status.Status.TheVariants.{Fault}
+use Rattle.cfn_app.specs.declared.status.Status.TheVariants.{Done, Fault}
 use Rattle.cfn_app.specs.Endings.{Ends, said, cut}
 use Rattle.cfn_app.specs.Headline.{Promise}
 use Rattle.cfn_app.specs.Loading.{ReadsAs, RefusesAs, SaysUnread, Unloaded, Unread, loaded}
@@ -27,6 +28,8 @@ use Rattle.cfn_app.specs.Costing.{Costs, Prices}
 use Rattle.cfn_app.specs.Costing as costing
 use Rattle.cfn_app.specs.Solving.{Solves, Searches, Outputs, Wrote, NotWritten, status_of}
 use Rattle.cfn_app.specs.Solving as solving
+use Rattle.cfn_app.specs.Migrating.{Rewrites}
+use Rattle.cfn_app.specs.Migrating as migrating
 
 -- a text that is said last
 pub ends_saying : {T E : Type 0} (calls : List Call) (before now : Outside) (text : List ℕ) (result : Result T E) (due status : Status) → before.calls ≡ calls → Appends Screen before text result now → status ≡ (if is_ok result then due else Fault) → Ends (record { calls = calls; text = text; status = due }) now.calls status
@@ -64,6 +67,12 @@ pub searched_behind : {T E : Type 0} (P : Network) (ask : SolveRequest) (old mid
 searched_behind P ask old middle new (Ok x) status nodes c rows word fine at promise out =
     solving.searched nodes c rows word promise (subst (λ o. Outputs (spelling c) (report ask.workers c rows nodes word) (status_of word) o new status) at out)
 searched_behind P ask old middle new (Err e) status nodes c rows word fine at promise out = absurd (let no : true ≡ false = fine in cc)
+
+-- a text that is written behind a file that was opened
+pub rewritten_behind : {T E : Type 0} (second out : List ℕ) (old middle new : Outside) (opened : Result T E) (status : Status) → is_err opened ≡ false → middle ≡ after (Open out (is_ok opened)) old →
+    Outputs second migrated_text Done middle new status → Rewrites second out old new status
+rewritten_behind second out old middle new (Ok x) status fine at put = migrating.put_out (subst (λ o. Outputs second migrated_text Done o new status) at put)
+rewritten_behind second out old middle new (Err e) status fine at put = absurd (let no : true ≡ false = fine in cc)
 
 module _ (old : Outside) (now : List Call) (status : Status) where
   -- the calls after one load

@@ -27,7 +27,7 @@ use Rattle.cfn_app.proofs.Pairing.{unpaired_by, unpaired_refused, unpaired_hinde
 use Rattle.cfn_app.proofs.Writing.{stored_at, output_counts, output_idle}
 
 module _ (ask : MigrateRequest) (old new : Outside) (status : Status) where
-  says_upgraded : (P : Network) (text : List ℕ) (middle : Outside) → Paired ask.file ask.certificate old P text middle → (c : Certificate) → Verifies P text c → Rewrites c ask.out middle new status → MigrateSays ask old new status
+  says_upgraded : (P : Network) (text : List ℕ) (middle : Outside) → Paired ask.file ask.certificate old P text middle → (c : Certificate) → Verifies P text c → Rewrites (spelling (in_second c)) ask.out middle new status → MigrateSays ask old new status
   says_upgraded P text middle paired c verifies (migrating.unopened same ends) = by (MigrateSays ask old new) _ new.calls status ends (λ calls. tt) tt
   says_upgraded P text middle paired c verifies (migrating.put_out (solving.unwritten last not same ends)) = by (MigrateSays ask old new) _ new.calls status ends (λ calls. tt) tt
   says_upgraded P text middle paired c verifies (migrating.put_out (solving.wrote last wrote same ends)) = by (MigrateSays ask old new) _ new.calls status ends (λ calls. record {
@@ -63,17 +63,17 @@ module _ (ask : MigrateRequest) (old new : Outside) (status : Status) where
       absurd (read_refused paired.bytes bytes P refusal (same_bytes old ask.file paired.bytes bytes told paired.has) paired.reads refuses)
 
   -- a certificate that is written is good, or the run was hindered
-  rewritten : (c : Certificate) (before : Outside) → Rewrites c ask.out before new status → (status ≡ Done) ⊎ IsHindered status
-  rewritten c before (migrating.unopened same ends) = by_due Done _ ends (inr (inl refl))
-  rewritten c before (migrating.put_out (solving.unwritten last not same ends)) = by_due Done _ ends (inr (inl refl))
-  rewritten c before (migrating.put_out (solving.wrote last wrote same ends)) = by_due Done _ ends (inl refl)
+  rewritten : (second : List ℕ) (before : Outside) → Rewrites second ask.out before new status → (status ≡ Done) ⊎ IsHindered status
+  rewritten second before (migrating.unopened same ends) = by_due Done _ ends (inr (inl refl))
+  rewritten second before (migrating.put_out (solving.unwritten last not same ends)) = by_due Done _ ends (inr (inl refl))
+  rewritten second before (migrating.put_out (solving.wrote last wrote same ends)) = by_due Done _ ends (inl refl)
 
   -- a good certificate
   judged_migrated : (P Q : Network) (text words : List ℕ) (c : Certificate) (before : Outside) → Q ≡ P → words ≡ text → Spells c text → Good P c → Upgrades Q words ask.out before new status → (status ≡ Done) ⊎ IsHindered status
   judged_migrated P Q text words c before is at spells good (migrating.disproved l kind fault same ends) =
       absurd (no_fault_where_good P text c l kind spells good (subst (λ N. faulty.Fault N text l kind) is (subst (λ w. faulty.Fault Q w l kind) at fault)))
   judged_migrated P Q text words c before is at spells good (migrating.no_memory same ends) = by_due Done _ ends (inr (inr refl))
-  judged_migrated P Q text words c before is at spells good (migrating.upgraded d verifies rewrites) = rewritten d before rewrites
+  judged_migrated P Q text words c before is at spells good (migrating.upgraded d verifies rewrites) = rewritten _ before rewrites
 
   says_migrated : (bytes text : List ℕ) (P : Network) (c : Certificate) → Tells old ask.file bytes → Tells old ask.certificate text → ReadsAs Wcsp bytes P → Spells c text → Good P c → Migrates ask old new status → (status ≡ Done) ⊎ IsHindered status
   says_migrated bytes text P c told written reads spells good (migrating.unpaired same unpaired) = unpaired_hindered ask.file ask.certificate old new.calls status Done bytes P told reads unpaired
@@ -100,19 +100,19 @@ module _ (ask : MigrateRequest) (old new : Outside) (status : Status) where
     refuted = (λ bytes text P l kind told written reads fault. says_refuted bytes text P l kind told written reads fault migrates);
   }
 
-  rewrite_counts : (c : Certificate) (before : Outside) → faults before.calls ≡ faults old.calls → Rewrites c ask.out before new status → Counts old.calls new.calls status
-  rewrite_counts c before same (migrating.unopened also ends) = counted old.calls _ new.calls status ends (let more : faults old.calls < suc (faults before.calls) = omega (arith, same) in more)
-  rewrite_counts c before same (migrating.put_out out) = output_counts _ new (spelling (in_second c)) migrated_text Done status old.calls same (λ now is. is) out
+  rewrite_counts : (second : List ℕ) (before : Outside) → faults before.calls ≡ faults old.calls → Rewrites second ask.out before new status → Counts old.calls new.calls status
+  rewrite_counts second before same (migrating.unopened also ends) = counted old.calls _ new.calls status ends (let more : faults old.calls < suc (faults before.calls) = omega (arith, same) in more)
+  rewrite_counts second before same (migrating.put_out out) = output_counts _ new second migrated_text Done status old.calls same (λ now is. is) out
 
   pub migrate_counts : Migrates ask old new status → Counts old.calls new.calls status
   migrate_counts (migrating.unpaired same unpaired) = unpaired_counts ask.file ask.certificate old new.calls status unpaired
   migrate_counts (migrating.judged P text middle paired (migrating.disproved l kind fault same ends)) = counted old.calls _ new.calls status ends (pair_faults ask.file ask.certificate old P text middle paired)
   migrate_counts (migrating.judged P text middle paired (migrating.no_memory same ends)) = counted old.calls _ new.calls status ends (pair_faults ask.file ask.certificate old P text middle paired)
-  migrate_counts (migrating.judged P text middle paired (migrating.upgraded c verifies rewrites)) = rewrite_counts c middle (pair_faults ask.file ask.certificate old P text middle paired) rewrites
+  migrate_counts (migrating.judged P text middle paired (migrating.upgraded c verifies rewrites)) = rewrite_counts _ middle (pair_faults ask.file ask.certificate old P text middle paired) rewrites
 
   pub migrate_idle : Migrates ask old new status → IsIdle old.calls → IsIdle new.calls
   migrate_idle (migrating.unpaired same unpaired) idle = unpaired_idle ask.file ask.certificate old new.calls status unpaired idle
   migrate_idle (migrating.judged P text middle paired (migrating.disproved l kind fault same ends)) idle = ends_idle _ new.calls status ends (pair_idle ask.file ask.certificate old P text middle paired idle)
   migrate_idle (migrating.judged P text middle paired (migrating.no_memory same ends)) idle = ends_idle _ new.calls status ends (pair_idle ask.file ask.certificate old P text middle paired idle)
-  migrate_idle (migrating.judged P text middle paired (migrating.upgraded c verifies (migrating.unopened same ends))) idle = ends_idle _ new.calls status ends (pair_idle ask.file ask.certificate old P text middle paired idle)
+  migrate_idle (migrating.judged P text middle paired (migrating.upgraded c verifies (migrating.unopened same ends))) idle = ends_idle _ new.calls status ends refl
   migrate_idle (migrating.judged P text middle paired (migrating.upgraded c verifies (migrating.put_out out))) idle = output_idle _ new (spelling (in_second c)) migrated_text Done status out

@@ -1,17 +1,19 @@
 //! The command `migrate`.
 
-ghost use Rattle.cfn_model.specs.Certificate.{Certificate};
-ghost use Rattle.cfn_model.specs.Text.{Spells};
-ghost use Rattle.cfn_desk.specs.Outside.{IsIdle};
+ghost use Rattle.std.specs.Prelude.{OnOk, OnErr};
+ghost use Rattle.cfn_desk.specs.Outside.{IsIdle, IsWriting};
+ghost use Rattle.cfn_certwrite.specs.Upgrading.{upgraded};
+ghost use Rattle.cfn_report.specs.Texts.{migrated_text};
 ghost use Rattle.cfn_cli.specs.Request.{spoken_migrate};
+ghost use Rattle.cfn_app.specs.declared.status.Status.TheVariants.{Done};
+ghost use Rattle.cfn_app.specs.Solving.{NotWritten, Outputs, Wrote};
 ghost use Rattle.cfn_app.specs.Migrating.{Migrates, Rewrites, Upgrades};
 
 use crate::loading::load_pair;
-use crate::output::put_upgraded;
 use crate::status::{Status, ending};
 use cfn_check::{Check, check};
 use cfn_cli::MigrateArguments;
-use cfn_desk::Desk;
+use cfn_desk::{Desk, Failed};
 use cfn_net::Network;
 use std::alloc::{AllocError, Global};
 
@@ -54,10 +56,35 @@ fn judge_and_write<D: Desk>(
 /// Writes a certificate in the second version into a new file, by its text.
 fn write_upgraded<D: Desk>(text: &[u8], out: &str, desk: &mut D) -> Status
     requires { IsIdle (D.outside desk.old).calls }
-    ensures { (c : Certificate) → Spells c text.now → Rewrites c out.now (D.outside desk.old) (D.outside desk.new) result }
+    ensures { Rewrites (upgraded text.now) out.now (D.outside desk.old) (D.outside desk.new) result }
 {
     if desk.open_out(out).is_err() {
         return ending(cfn_report::write_write_fault(desk), Status::Fault);
     }
     put_upgraded(text, desk)
+}
+
+/// Writes a certificate in the second version, by its text, into the file that was opened, and then says so. It takes no
+/// memory.
+fn put_upgraded<D: Desk>(text: &[u8], desk: &mut D) -> Status
+    requires { IsWriting (D.outside desk.old).calls }
+    ensures { Outputs (upgraded text.now) migrated_text Done (D.outside desk.old) (D.outside desk.new) result }
+{
+    if save_upgraded(text, desk).is_err() {
+        return ending(cfn_report::write_write_fault(desk), Status::Fault);
+    }
+    ending(cfn_report::write_migrated(desk), Status::Done)
+}
+
+/// Writes a certificate in the second version, by its text, as `save` does.
+fn save_upgraded<D: Desk>(text: &[u8], desk: &mut D) -> Result<(), Failed>
+    requires { IsWriting (D.outside desk.old).calls }
+    ensures wrote { OnOk result (Wrote (upgraded text.now) (D.outside desk.old) (D.outside desk.new)) }
+    ensures not_written { OnErr result (NotWritten (upgraded text.now) (D.outside desk.old) (D.outside desk.new)) }
+{
+    if cfn_certwrite::upgrade(text, desk).is_err() {
+        desk.discard_out();
+        return Err(Failed);
+    }
+    desk.close_out()
 }

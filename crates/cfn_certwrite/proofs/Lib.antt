@@ -1,3 +1,4 @@
 mod Lines
 mod Order
 mod Upgrading
+pub mod CallerLemmas

@@ -1,1 +1,2 @@
+pub mod Upgrading
 pub mod Walk

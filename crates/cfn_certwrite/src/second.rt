@@ -1,11 +1,10 @@
 //! A certificate's text in the second version.
 
 ghost use Rattle.std.specs.Prelude.{◌≡◌, drop};
-ghost use Rattle.cfn_model.specs.Certificate.{Certificate, in_second};
-ghost use Rattle.cfn_model.specs.Text.{Spells, spelling};
 ghost use Rattle.cfn_desk.specs.Outside.{IsWriting};
 ghost use Rattle.cfn_line.specs.Appending.{Appends};
 ghost use Rattle.cfn_line.specs.declared.channel.Channel.TheVariants.{File};
+ghost use Rattle.cfn_certwrite.specs.Upgrading.{IsUpgraded, upgraded};
 
 use cfn_desk::{Desk, Failed};
 use cfn_line::{Channel, Word, send, write_line};
@@ -20,8 +19,8 @@ const FIRST_LINE: usize = 11;
 /// An `Err` is a put that failed: some front of the text came behind the bytes, and the rest was not tried.
 pub fn upgrade<D: Desk>(text: &[u8], desk: &mut D) -> Result<(), Failed>
     requires { IsWriting (D.outside desk.old).calls }
-    ensures { (c : Certificate) → Spells c text.now → Appends File (D.outside desk.old)
-        (spelling (in_second c)) result (D.outside desk.new) }
+    ensures text { Appends File (D.outside desk.old) (upgraded text.now) result (D.outside desk.new) }
+    ensures second { IsUpgraded text.now }
 {
     write_line(
         Channel::File,
