@@ -170,12 +170,12 @@ line_told text at count stage words long next item left ls s none line read =
 -- the rest of a text that is over, or not
 over_due : (s : State) → due_of s ≡ stages.Over → s ≡ AtOver
 over_due AtVersion e = absurd cc
-over_due AtNumbers e = absurd cc
-over_due AtLower e = absurd cc
-over_due AtBest e = absurd cc
-over_due AtValues e = absurd cc
-over_due AtRoot e = absurd cc
-over_due (AtNodes paths) e = absurd cc
+over_due (AtNumbers version) e = absurd cc
+over_due (AtLower version) e = absurd cc
+over_due (AtBest version) e = absurd cc
+over_due (AtValues version) e = absurd cc
+over_due (AtRoot version) e = absurd cc
+over_due (AtNodes version paths) e = absurd cc
 over_due AtOver e = refl
 
 pub tells_nothing : (old new : Reading) (ls : List Line) (s : State) → HasRead old ls s → old.due ≡ stages.Over → old.rest ≡ [] → old.left ≡ [] → new ≡ old → Tells old new ls s (record { line = old.count; item = items.Over })

@@ -3,12 +3,12 @@ use Rattle.std.proofs.Common.{◌≡◌, ℕ, zero, suc, ◌+◌, ◌-◌, ◌<�
 use Rattle.std.proofs.lemmas.Bool.{cases_Bool, cases_lt, lt-ltb, le-ltb, and_parts, leb-true, ne_eqb}
 use Rattle.std.proofs.lemmas.List.{take_rest}
 use Rattle.std.proofs.Math.Numerals.{one-add}
-use Rattle.std.specs.Prelude.{Option, Some, None, Ok, Err, Result, ℤ, position, ◌==◌, nat_le, unsigned_abs, is_some, unwrap_or, IfNone}
+use Rattle.std.specs.Prelude.{Option, Some, None, Ok, Err, Result, ℤ, position, ◌==◌, nat_le, unsigned_abs, is_some, unwrap_or}
 use Rattle.std.specs.List.{list_all, position_or_len}
 use Rattle.cfn_model.specs.declared.reading.NumberFault.{NumberFault}
 use Rattle.cfn_model.specs.Words.{is_digit, is_number, magnitude_of, has_minus, digits_behind, greatest, number_of, with_first}
-use Rattle.cfn_fault.specs.Lines.{Values}
-use Rattle.cfn_fault.specs.Decoding.{◌>>=◌, words_in, word_from, has_one_form, numeral, numbers_in, are_values}
+use Rattle.cfn_fault.specs.Lines.{Line, Values}
+use Rattle.cfn_fault.specs.Decoding.{◌>>=◌, words_in, word_from, has_one_form, numeral, with_rest, number_from, numbers_in, are_values}
 use Rattle.cfn_certtext.specs.Stages.{values_of}
 
 abbrev is_space : ℕ → Bool
@@ -155,10 +155,56 @@ its_values (word ∷ words) e =
     given None values e = absurd cc
     given (Some n) values e = refl
 
-pub values_said : (words : List (List ℕ)) → (words ≡ [] → ⊥) → is_some (numbers_in words) ≡ true → are_values words ≡ Some (Values (values_of words))
-values_said [] some e = absurd (some refl)
-values_said (word ∷ words) some e = ap (λ o. o >>= λ values. Some (Values values)) (its_values (word ∷ words) e)
+-- the first number of a line, and the words behind it
+record FirstNumber (words : List (List ℕ)) (n : ℕ) (rest : List (List ℕ)) : Type 0 where
+  word : List ℕ
+  whole : words ≡ word ∷ rest
+  is : numeral word ≡ Some n
 
-pub not_there : {A : Type 0} (o : Option A) (P : Type 0) → is_some o ≡ false → IfNone o P → P
-not_there None P e h = h
-not_there (Some x) P e h = absurd cc
+first_number : (words : List (List ℕ)) (n : ℕ) (rest : List (List ℕ)) → number_from words ≡ Some (n, rest) → FirstNumber words n rest
+unfolding number_from
+first_number [] n rest e = absurd cc
+first_number (word ∷ words) n rest e =
+    let parts = of_rest (numeral word) words e in
+    record { word = word; whole = ap (λ ws. word ∷ ws) parts.1; is = parts.0 }
+  where
+    same : {x y : ℕ × List (List ℕ)} → Some x ≡ Some y → x ≡ y
+    same e = cc
+
+    of_rest : (o : Option ℕ) (ws : List (List ℕ)) → with_rest o ws ≡ Some (n, rest) → (o ≡ Some n) × (ws ≡ rest)
+    of_rest None ws e = absurd cc
+    of_rest (Some m) ws e = (ap (λ p. Some p.0) (same e), ap (λ p. p.1) (same e))
+
+-- values, one at least
+abbrev said : Option ℕ → Option (List ℕ) → Option Line
+said first others = first >>= λ n. others >>= λ ns. Some (Values (n ∷ ns))
+
+pub values_from : (first : Option ℕ) (others : Option (List ℕ)) → (first >>= λ n. others >>= λ ns. Some (n ∷ ns)) >>= (λ values. Some (Values values)) ≡ said first others
+values_from None others = refl
+values_from (Some n) None = refl
+values_from (Some n) (Some ns) = refl
+
+pub no_first_value : (words : List (List ℕ)) → number_from words ≡ None → are_values words ≡ None
+unfolding number_from numbers_in
+no_first_value [] e = refl
+no_first_value (word ∷ words) e = values_from (numeral word) (numbers_in words) ∙ by_rest (numeral word) e
+  where
+    by_rest : (o : Option ℕ) → with_rest o words ≡ None → said o (numbers_in words) ≡ None
+    by_rest None e = refl
+    by_rest (Some n) e = absurd cc
+
+of_values : (words : List (List ℕ)) (n : ℕ) (rest : List (List ℕ)) → number_from words ≡ Some (n, rest) → are_values words ≡ said (Some n) (numbers_in rest)
+unfolding numbers_in
+of_values words n rest e =
+    let f = first_number words n rest e in
+    ap are_values f.whole ∙ values_from (numeral f.word) (numbers_in rest) ∙ ap (λ o. said o (numbers_in rest)) f.is
+
+pub values_fail : (words : List (List ℕ)) (n : ℕ) (rest : List (List ℕ)) → number_from words ≡ Some (n, rest) → is_some (numbers_in rest) ≡ false → are_values words ≡ None
+values_fail words n rest e none = of_values words n rest e ∙ by_others (numbers_in rest) none
+  where
+    by_others : (o : Option (List ℕ)) → is_some o ≡ false → said (Some n) o ≡ None
+    by_others None e = refl
+    by_others (Some ns) e = absurd cc
+
+pub values_said : (words : List (List ℕ)) (n : ℕ) (rest : List (List ℕ)) → number_from words ≡ Some (n, rest) → is_some (numbers_in rest) ≡ true → are_values words ≡ Some (Values (n ∷ values_of rest))
+values_said words n rest e some = of_values words n rest e ∙ ap (said (Some n)) (its_values rest some)

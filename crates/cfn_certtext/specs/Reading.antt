@@ -3,14 +3,18 @@ use Rattle.std.specs.Prelude.{◌≡◌, ℕ, ◌+◌, List, [], ◌∷◌, ◌+
 use Rattle.std.specs.List.{AllByRecursion}
 use Rattle.cfn_model.specs.declared.step.Step.{Step}
 use Rattle.cfn_model.specs.declared.step.Step.TheVariants as steps
+use Rattle.cfn_model.specs.declared.step.Decision.{Decision}
+use Rattle.cfn_model.specs.declared.step.Decision.TheVariants as decisions
 use Rattle.cfn_model.specs.Certificate.{Certificate}
 use Rattle.cfn_model.specs.Text.{IsSpelled}
-use Rattle.cfn_fault.specs.Fault as tree
+use Rattle.cfn_fault.specs.Nodes as tree
 use Rattle.cfn_fault.specs.Fault.{Begins}
 use Rattle.cfn_fault.specs.Lines as lines
 use Rattle.cfn_fault.specs.Lines.{Line, State, Runs, Follows, text_of, IsSpelledLine}
 use Rattle.cfn_certtext.specs.declared.event.StepText.{StepText}
 use Rattle.cfn_certtext.specs.declared.event.StepText.TheVariants as texts
+use Rattle.cfn_certtext.specs.declared.event.DecisionText.{DecisionText}
+use Rattle.cfn_certtext.specs.declared.event.DecisionText.TheVariants as splits
 use Rattle.cfn_certtext.specs.declared.event.Item.{Item}
 use Rattle.cfn_certtext.specs.declared.event.Item.TheVariants as items
 use Rattle.cfn_certtext.specs.declared.event.Event.{Event}
@@ -32,9 +36,18 @@ text_of_step (steps.Lift x m) = texts.Lift x m
 text_of_step (steps.CutValue x a) = texts.CutValue x a
 text_of_step (steps.CutTuple f c) = texts.CutTuple f c
 
+-- A decision and its text.
+abbrev pub decision_of : DecisionText → Decision
+decision_of (splits.Is x a) = decisions.Is x a
+decision_of (splits.Most x v) = decisions.Most x v
+
+abbrev pub text_of_decision : Decision → DecisionText
+text_of_decision (decisions.Is x a) = splits.Is x a
+text_of_decision (decisions.Most x v) = splits.Most x v
+
 -- The first event of a line, and the values of the line that are told by later ones.
 abbrev pub item_of : Line → Item
-item_of lines.Version = items.Version 1
+item_of (lines.Version version) = items.Version version
 item_of (lines.Numbers n e upper) = items.Network n e upper
 item_of (lines.Lower lower) = items.Lower lower
 item_of lines.NoBest = items.NoBest
@@ -45,11 +58,11 @@ item_of lines.Root = items.Tree
 item_of (lines.Node (tree.Makes step)) = items.Step (text_of_step step)
 item_of (lines.Node tree.LeavesOpen) = items.Open
 item_of (lines.Node tree.Closes) = items.Closed
-item_of (lines.Node (tree.Splits x a)) = items.Split x a
+item_of (lines.Node (tree.Splits d)) = items.Split (text_of_decision d)
 item_of lines.End = items.End
 
 abbrev pub values_behind : Line → List ℕ
-values_behind lines.Version = []
+values_behind (lines.Version version) = []
 values_behind (lines.Numbers n e upper) = []
 values_behind (lines.Lower lower) = []
 values_behind lines.NoBest = []
@@ -63,12 +76,12 @@ values_behind lines.End = []
 -- The line that is due in a state.
 abbrev pub due_of : State → Stage
 due_of lines.AtVersion = stages.Version
-due_of lines.AtNumbers = stages.Network
-due_of lines.AtLower = stages.Lower
-due_of lines.AtBest = stages.Best
-due_of lines.AtValues = stages.Values
-due_of lines.AtRoot = stages.Tree
-due_of (lines.AtNodes paths) = stages.Nodes (length paths)
+due_of (lines.AtNumbers version) = stages.Network version
+due_of (lines.AtLower version) = stages.Lower version
+due_of (lines.AtBest version) = stages.Best version
+due_of (lines.AtValues version) = stages.Values version
+due_of (lines.AtRoot version) = stages.Tree version
+due_of (lines.AtNodes version paths) = stages.Nodes version (length paths)
 due_of lines.AtOver = stages.Over
 
 -- A text, the bytes behind the lines that were read, the number of those, the line that is due, and the values of the

@@ -1,5 +1,7 @@
 //! What the reader of a certificate tells, line by line.
 
+use cfn_model::Version;
+
 /// A step as a certificate's text has it: each number is at most 9,223,372,036,854,775,807, and an amount is at
 /// least 1. Whether it is in range is not looked at.
 #[derive(Clone, Copy, Debug, PartialEq, Eq)]
@@ -35,11 +37,21 @@ pub enum StepText {
     },
 }
 
+/// A decision as a certificate's text has it: each number is at most 9,223,372,036,854,775,807. Whether it is in range
+/// is not looked at.
+#[derive(Clone, Copy, Debug, PartialEq, Eq)]
+pub enum DecisionText {
+    /// `split x a`
+    Is { variable: u64, value: u64 },
+    /// `part x v`
+    Most { variable: u64, value: u64 },
+}
+
 /// What a line of a certificate says, or one value of the line of values.
 #[derive(Clone, Copy, Debug, PartialEq, Eq)]
 pub enum Item {
-    /// The version of the text, which is 1.
-    Version(u64),
+    /// The version of the text.
+    Version(Version),
     /// How many variables and functions the network has, and its upper bound.
     Network {
         variables: u64,
@@ -62,11 +74,8 @@ pub enum Item {
     Open,
     /// The node is a closed leaf.
     Closed,
-    /// The node is a split, whose first child follows, and then its second.
-    Split {
-        variable: u64,
-        value: u64,
-    },
+    /// The node is a split, whose first side follows, and then its second.
+    Split(DecisionText),
     /// The text ends.
     End,
     /// Nothing follows.

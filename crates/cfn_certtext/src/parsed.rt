@@ -3,9 +3,9 @@
 use crate::event::Item;
 use crate::fields::Fields;
 
-/// What a line says: one item, or values that are still to be told.
+/// What a line says: one item, or the first value and the words of the others, which are still to be told.
 #[derive(Drop, Debug)]
 pub enum Parsed<'a> {
     One(Item),
-    Values(Fields<'a>),
+    Values { first: u64, others: Fields<'a> },
 }

@@ -2,15 +2,15 @@
 
 ghost use Rattle.std.specs.Prelude.{◌≡◌, IfSome};
 ghost use Rattle.std.specs.Str.{bytes_eq};
-ghost use Rattle.cfn_fault.specs.Decoding.{are_values, at_end, best_line, extend_line, item_line, lift_line, line_by, line_of, lower_line, node_line, numbers_line, project_line, split_line, tuple_line, value_line, version_line, words_in};
-ghost use Rattle.cfn_fault.specs.Lines.{Values};
+ghost use Rattle.cfn_fault.specs.Decoding.{are_values, at_end, best_line, extend_line, item_line, lift_line, line_by, line_of, lower_line, node_line, numbers_line, part_line, project_line, split_line, tuple_line, value_line, version_line, version_of, words_in};
 ghost use Rattle.cfn_certtext.specs.Giving.{Gives};
 ghost use Rattle.cfn_certtext.specs.Parsed.{IsWholeLine, line_of_parsed};
-ghost use Rattle.cfn_certtext.specs.Stages.{IsWhole, line_of_item, values_of};
+ghost use Rattle.cfn_certtext.specs.Stages.{IsWhole, line_of_item};
 
-use crate::event::{Item, StepText};
-use crate::fields::Fields;
+use crate::event::{DecisionText, Item, StepText};
+use crate::fields::{Fields, numeral};
 use crate::parsed::Parsed;
+use cfn_model::Version;
 
 /// What a line says, given without its LF, where it is one of a certificate.
 #[tactic(auto, unfolding(cfn_fault::specs::Decoding::line_of))]
@@ -29,7 +29,7 @@ fn parse_behind<'a>(word: &[u8], fields: Fields<'a>) -> Option<Parsed<'a>>
     ensures whole { IfSome result IsWholeLine }
 {
     if is(word, b"values") {
-        return Some(Parsed::Values(values(fields)?));
+        return values(fields);
     }
     Some(Parsed::One(item(word, fields)?))
 }
@@ -77,6 +77,8 @@ fn node(word: &[u8], fields: Fields<'_>) -> Option<Item>
         alone(&fields, Item::Closed)
     } else if is(word, b"split") {
         split(fields)
+    } else if is(word, b"part") {
+        part(fields)
     } else {
         None
     }
@@ -104,11 +106,21 @@ fn version(mut fields: Fields<'_>) -> Option<Item>
     ensures gives { Gives line_of_item result (version_line fields.entry) }
     ensures whole { IfSome result IsWhole }
 {
-    if !is(fields.word()?, b"1") {
-        return None;
-    }
+    let version = version_of(fields.word()?)?;
     fields.end()?;
-    Some(Item::Version(1))
+    Some(Item::Version(version))
+}
+
+/// The version that a word names, if it names one.
+#[tactic(auto, unfolding(cfn_fault::specs::Decoding::version_of))]
+fn version_of(word: &[u8]) -> Option<Version>
+    ensures { result ≡ version_of word.now }
+{
+    match word {
+        b"1" => Some(Version::First),
+        b"2" => Some(Version::Second),
+        _ => None,
+    }
 }
 
 /// The numbers of the network.
@@ -140,29 +152,34 @@ fn lower(mut fields: Fields<'_>) -> Option<Item>
 }
 
 /// The cost of the best assignment, or that none is known.
-#[tactic(auto, unfolding(cfn_fault::specs::Decoding::best_line))]
+#[tactic(auto, unfolding(cfn_fault::specs::Decoding::best_line, cfn_fault::specs::Decoding::number_from))]
 fn best(mut fields: Fields<'_>) -> Option<Item>
     ensures gives { Gives line_of_item result (best_line fields.entry) }
     ensures whole { IfSome result IsWhole }
 {
-    let mut again = fields.again();
-    if is(fields.word()?, b"none") {
-        fields.end()?;
-        return Some(Item::NoBest);
-    }
-    let cost = again.number()?;
-    again.end()?;
-    Some(Item::Best(cost))
+    let word = fields.word()?;
+    let item = if is(word, b"none") {
+        Item::NoBest
+    } else {
+        Item::Best(numeral(word)?)
+    };
+    fields.end()?;
+    Some(item)
 }
 
 /// Values, one at least.
-fn values<'a>(fields: Fields<'a>) -> Option<Fields<'a>>
-    ensures { Gives (λ words. Values (values_of words)) result (are_values fields.entry) }
+fn values<'a>(mut fields: Fields<'a>) -> Option<Parsed<'a>>
+    ensures gives { Gives line_of_parsed result (are_values fields.entry) }
+    ensures whole { IfSome result IsWholeLine }
 {
-    if fields.end().is_some() || !fields.are_numbers() {
+    let first = fields.number()?;
+    if !fields.are_numbers() {
         return None;
     }
-    Some(fields)
+    Some(Parsed::Values {
+        first,
+        others: fields,
+    })
 }
 
 /// A project.
@@ -239,7 +256,7 @@ fn cut_tuple(mut fields: Fields<'_>) -> Option<Item>
     Some(Item::Step(StepText::CutTuple { function, cell }))
 }
 
-/// A split.
+/// A split by a value.
 #[tactic(auto, unfolding(cfn_fault::specs::Decoding::split_line))]
 fn split(mut fields: Fields<'_>) -> Option<Item>
     ensures gives { Gives line_of_item result (split_line fields.entry) }
@@ -248,5 +265,17 @@ fn split(mut fields: Fields<'_>) -> Option<Item>
     let variable = fields.number()?;
     let value = fields.number()?;
     fields.end()?;
-    Some(Item::Split { variable, value })
+    Some(Item::Split(DecisionText::Is { variable, value }))
+}
+
+/// A split by a bound.
+#[tactic(auto, unfolding(cfn_fault::specs::Decoding::part_line))]
+fn part(mut fields: Fields<'_>) -> Option<Item>
+    ensures gives { Gives line_of_item result (part_line fields.entry) }
+    ensures whole { IfSome result IsWhole }
+{
+    let variable = fields.number()?;
+    let value = fields.number()?;
+    fields.end()?;
+    Some(Item::Split(DecisionText::Most { variable, value }))
 }

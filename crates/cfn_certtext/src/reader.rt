@@ -1,7 +1,7 @@
 //! The reader of certificates: the events of a text, one pass from its first byte, with no memory.
 //!
 //! A line is read whole before its first event is told: its words are parted and looked at, the line that is due says
-//! which lines may come, and of the tree's shape no more is kept than how many trees are still to come.
+//! which lines may come in this version, and of the tree's shape no more is kept than how many trees are still to come.
 
 ghost use Rattle.std.specs.Prelude.{◌≡◌, ◌+◌, ◌<◌, ◌≤◌, List, [], length, drop, position, IfErr, IfNone, IfOk, IfSome, IsErr, OnErr, ◌==◌, ◌↔◌, IsTrue};
 ghost use Rattle.cfn_model.specs.declared.limits.TheConstants.{GREATEST};
@@ -167,10 +167,7 @@ fn first_event(parsed: Parsed<'_>) -> (Item, Fields<'_>)
 {
     match parsed {
         Parsed::One(item) => (item, Fields::none()),
-        Parsed::Values(mut values) => match values.word() {
-            Some(word) => (Item::Value(value(word)), values),
-            None => (Item::Over, values),
-        },
+        Parsed::Values { first, others } => (Item::Value(first), others),
     }
 }
 

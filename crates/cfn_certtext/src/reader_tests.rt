@@ -1,4 +1,5 @@
-use crate::{Event, Item, Reader, StepText};
+use crate::{DecisionText, Event, Item, Reader, StepText};
+use cfn_model::Version;
 use std::alloc::AllocError;
 use std::test::*;
 
@@ -63,7 +64,7 @@ fn fault_line(text: &[u8]) -> u64 {
 #[test]
 fn events_of_a_leaf(rt: HostRuntime) {
     let events = [
-        (1, Item::Version(1)),
+        (1, Item::Version(Version::First)),
         (
             2,
             Item::Network {
@@ -93,7 +94,7 @@ fn events_of_a_split(rt: HostRuntime) {
         p 0 1 0 1\nv 1 0\np 1 1 0 1\nv 2 0\np 2 0 1 1\nu 1 1\nclosed\n\
         e 0 1 1 1\nt 2 3\nopen\nend\n";
     let events = [
-        (1, Item::Version(1)),
+        (1, Item::Version(Version::First)),
         (
             2,
             Item::Network {
@@ -110,10 +111,10 @@ fn events_of_a_split(rt: HostRuntime) {
         (6, Item::Tree),
         (
             7,
-            Item::Split {
+            Item::Split(DecisionText::Is {
                 variable: 0,
                 value: 0,
-            },
+            }),
         ),
         (8, project(0, 1, 0, 1)),
         (9, cut(1, 0)),
@@ -146,6 +147,46 @@ fn events_of_a_split(rt: HostRuntime) {
 }
 
 #[test]
+fn events_of_a_split_by_a_bound(rt: HostRuntime) {
+    let text = b"wcspcert 2\nnetwork 1 1 10\nlower 0\nbest none\ntree\npart 0 4\nopen\nsplit 1 2\n\
+        closed\nopen\nend\n";
+    let events = [
+        (1, Item::Version(Version::Second)),
+        (
+            2,
+            Item::Network {
+                variables: 1,
+                functions: 1,
+                upper: 10,
+            },
+        ),
+        (3, Item::Lower(0)),
+        (4, Item::NoBest),
+        (5, Item::Tree),
+        (
+            6,
+            Item::Split(DecisionText::Most {
+                variable: 0,
+                value: 4,
+            }),
+        ),
+        (7, Item::Open),
+        (
+            8,
+            Item::Split(DecisionText::Is {
+                variable: 1,
+                value: 2,
+            }),
+        ),
+        (9, Item::Closed),
+        (10, Item::Open),
+        (11, Item::End),
+        (11, Item::Over),
+    ];
+    assert!(rt; tells(text, &events));
+}
+
+#[test]
 fn each_front_has_its_fault(rt: HostRuntime) {
     assert_eq!(rt; fault_line(TINY), 0);
     for (end, _) in TINY.iter().enumerate() {
@@ -158,7 +199,9 @@ fn each_front_has_its_fault(rt: HostRuntime) {
 #[test]
 fn lines_that_do_not_follow(rt: HostRuntime) {
     for (text, line) in [
-        (b"wcspcert 2\n".as_slice(), 1),
+        (b"wcspcert 3\n".as_slice(), 1),
+        (b"wcspcert 2 \n", 1),
+        (b"wcspcert 2\n", 2),
         (b"wcspcert 1\nnetwork 1 1\n", 2),
         (b"wcspcert 1\nnetwork 1 1 10 \n", 2),
         (b"wcspcert 1\nnetwork 1 1 10\nlower 01\n", 3),
@@ -210,6 +253,18 @@ fn lines_that_do_not_follow(rt: HostRuntime) {
         ),
         (
             b"wcspcert 1\nnetwork 1 1 10\nlower 0\nbest none\ntree\nsplit 0 0\nopen\nend\n",
+            8,
+        ),
+        (
+            b"wcspcert 1\nnetwork 1 1 10\nlower 0\nbest none\ntree\npart 0 0\nopen\nopen\nend\n",
+            6,
+        ),
+        (
+            b"wcspcert 2\nnetwork 1 1 10\nlower 0\nbest none\ntree\npart 0\nopen\nopen\nend\n",
+            6,
+        ),
+        (
+            b"wcspcert 2\nnetwork 1 1 10\nlower 0\nbest none\ntree\npart 0 0\nopen\nend\n",
             8,
         ),
     ] {

@@ -3,9 +3,11 @@ use Rattle.std.proofs.Common.{◌≡◌, ◌≢◌, ℕ, ◌+◌, ◌<◌, ◌�
 use Rattle.std.proofs.lemmas.Bool.{cases_eq, cases_lt}
 use Rattle.std.proofs.lemmas.Int.{ints}
 use Rattle.std.proofs.lemmas.List.{length-set, get_or_past}
-use Rattle.std.specs.Prelude.{◌==◌, not, ℤ, pos, ◌+ℤ◌, if◌then◌else◌}
+use Rattle.std.specs.Prelude.{true, false, ◌==◌, ℤ, pos, ◌+ℤ◌, if◌then◌else◌}
 use Rattle.cfn_model.specs.Sums.{when}
-use Rattle.cfn_model.proofs.Equivalence.{when_true, when_false, eqb_same, eqb_other}
+use Rattle.cfn_model.proofs.CallerLemmas.{when_true, when_false, eqb_same, eqb_other}
+use Rattle.cfn_check.specs.declared.side.Side.{Side}
+use Rattle.cfn_check.specs.Sides.{is_on}
 use Rattle.cfn_check.specs.Values.{Gains, Takes}
 
 pub gains_one : (costs : List ℤ) (a : ℕ) (amount z : ℤ) → a < length costs → z ≡ (get_or costs a (pos 0) +ℤ amount) → Gains (λ b. when (a == b) amount) costs (set costs a z)
@@ -28,17 +30,8 @@ pub record TakenBelow (times : ℕ → ℕ) (old new : List ℕ) (n : ℕ) : Typ
   pub done : (b : ℕ) → b < n → b < length old → get_or new b 0 ≡ times b + get_or old b 0
   pub rest : (b : ℕ) → n ≤ b → get_or new b 0 ≡ get_or old b 0
 
-abbrev pub one_if_other : ℕ → ℕ → ℕ
-one_if_other a b = if not (a == b) then 1 else 0
-
 abbrev pub one_if : ℕ → ℕ → ℕ
 one_if a b = if a == b then 1 else 0
-
-pub others_here : (a n : ℕ) → a ≡ n → one_if_other a n ≡ 0
-others_here a n same = let e = eqb_same a n same in rw e refl
-
-pub others_apart : (a n : ℕ) → a ≢ n → one_if_other a n ≡ 1
-others_apart a n other = let e = eqb_other a n other in rw e refl
 
 pub one_here : (a n : ℕ) → a ≡ n → one_if a n ≡ 1
 one_here a n same = let e = eqb_same a n same in rw e refl
@@ -46,25 +39,35 @@ one_here a n same = let e = eqb_same a n same in rw e refl
 pub one_apart : (a n : ℕ) → a ≢ n → one_if a n ≡ 0
 one_apart a n other = let e = eqb_other a n other in rw e refl
 
+-- the values on a side of a decision, each once
+abbrev pub one_on : Side → ℕ → ℕ
+one_on side b = if is_on side b then 1 else 0
+
+on_side : (side : Side) (n : ℕ) → is_on side n ≡ true → one_on side n ≡ 1
+on_side side n is = rw is refl
+
+off_side : (side : Side) (n : ℕ) → is_on side n ≡ false → one_on side n ≡ 0
+off_side side n is = rw is refl
+
 pub taken_none : (times : ℕ → ℕ) (old : List ℕ) → TakenBelow times old old 0
 taken_none times old = record { size = refl; done = λ b l m. absurd (omega arith); rest = λ b l. refl }
 
 -- the next value is passed over, or taken
-pub taken_over : (a : ℕ) (old new : List ℕ) (n : ℕ) → a ≡ n → TakenBelow (one_if_other a) old new n → TakenBelow (one_if_other a) old new (n + 1)
-taken_over a old new n same t = record {
+pub taken_over : (side : Side) (old new : List ℕ) (n : ℕ) → is_on side n ≡ false → TakenBelow (one_on side) old new n → TakenBelow (one_on side) old new (n + 1)
+taken_over side old new n off t = record {
   size = t.size;
   done = λ b l m. elim (cases_eq b n) [
-    | inl here ↦ (let z = others_here a b (same ∙ sym here) in let r = t.rest b (omega arith) in omega (arith, z, r))
+    | inl here ↦ (let z = ap (one_on side) here ∙ off_side side n off in let r = t.rest b (omega arith) in omega (arith, z, r))
     | inr other ↦ t.done b (omega arith) m
   ];
   rest = λ b l. t.rest b (omega arith);
 }
 
-pub taken_more : (a : ℕ) (old mid new : List ℕ) (n : ℕ) → a ≢ n → n < length old → Takes (one_if n) mid new → TakenBelow (one_if_other a) old mid n → TakenBelow (one_if_other a) old new (n + 1)
-taken_more a old mid new n apart there k t = record {
+pub taken_more : (side : Side) (old mid new : List ℕ) (n : ℕ) → is_on side n ≡ true → n < length old → Takes (one_if n) mid new → TakenBelow (one_on side) old mid n → TakenBelow (one_on side) old new (n + 1)
+taken_more side old mid new n on there k t = record {
   size = k.size ∙ t.size;
   done = λ b l m. elim (cases_eq n b) [
-    | inl here ↦ (let z = others_apart a b (λ e. apart (e ∙ sym here)) in let r = t.rest b (omega arith) in let w = one_here n b here in let e = k.each b (omega (arith, t.size)) in omega (arith, z, r, w, e))
+    | inl here ↦ (let z = ap (one_on side) (sym here) ∙ on_side side n on in let r = t.rest b (omega arith) in let w = one_here n b here in let e = k.each b (omega (arith, t.size)) in omega (arith, z, r, w, e))
     | inr other ↦ (let w = one_apart n b other in let e = k.each b (omega (arith, t.size)) in let d = t.done b (omega arith) m in omega (arith, w, e, d))
   ];
   rest = λ b l. elim (cases_lt b (length mid)) [
@@ -82,21 +85,21 @@ pub record GivenBelow (times : ℕ → ℕ) (old new : List ℕ) (n : ℕ) : Typ
 pub given_none : (times : ℕ → ℕ) (old : List ℕ) → GivenBelow times old old 0
 given_none times old = record { size = refl; done = λ b l m. absurd (omega arith); rest = λ b l. refl }
 
-pub given_over : (a : ℕ) (old new : List ℕ) (n : ℕ) → a ≡ n → GivenBelow (one_if_other a) old new n → GivenBelow (one_if_other a) old new (n + 1)
-given_over a old new n same t = record {
+pub given_over : (side : Side) (old new : List ℕ) (n : ℕ) → is_on side n ≡ false → GivenBelow (one_on side) old new n → GivenBelow (one_on side) old new (n + 1)
+given_over side old new n off t = record {
   size = t.size;
   done = λ b l m. elim (cases_eq b n) [
-    | inl here ↦ (let z = others_here a b (same ∙ sym here) in let r = t.rest b (omega arith) in omega (arith, z, r))
+    | inl here ↦ (let z = ap (one_on side) here ∙ off_side side n off in let r = t.rest b (omega arith) in omega (arith, z, r))
     | inr other ↦ t.done b (omega arith) m
   ];
   rest = λ b l. t.rest b (omega arith);
 }
 
-pub given_more : (a : ℕ) (old mid new : List ℕ) (n : ℕ) → a ≢ n → n < length old → Takes (one_if n) new mid → GivenBelow (one_if_other a) old mid n → GivenBelow (one_if_other a) old new (n + 1)
-given_more a old mid new n apart there k t = record {
+pub given_more : (side : Side) (old mid new : List ℕ) (n : ℕ) → is_on side n ≡ true → n < length old → Takes (one_if n) new mid → GivenBelow (one_on side) old mid n → GivenBelow (one_on side) old new (n + 1)
+given_more side old mid new n on there k t = record {
   size = sym k.size ∙ t.size;
   done = λ b l m. elim (cases_eq n b) [
-    | inl here ↦ (let z = others_apart a b (λ e. apart (e ∙ sym here)) in let r = t.rest b (omega arith) in let w = one_here n b here in let e = k.each b (omega (arith, t.size, k.size)) in omega (arith, z, r, w, e))
+    | inl here ↦ (let z = ap (one_on side) (sym here) ∙ on_side side n on in let r = t.rest b (omega arith) in let w = one_here n b here in let e = k.each b (omega (arith, t.size, k.size)) in omega (arith, z, r, w, e))
     | inr other ↦ (let w = one_apart n b other in let e = k.each b (omega (arith, t.size, k.size)) in let d = t.done b (omega arith) m in omega (arith, w, e, d))
   ];
   rest = λ b l. elim (cases_lt b (length mid)) [

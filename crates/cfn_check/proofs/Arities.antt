@@ -8,7 +8,7 @@ use Rattle.std.proofs.lemmas.Map.Steps.{length-le_from_distinct_below}
 use Rattle.std.proofs.lemmas.List.{get_or_default}
 use Rattle.cfn_model.specs.Network.{Network, IsNetwork, arity, scope_at, variable_at}
 use Rattle.cfn_model.specs.Steps.{IsPlace}
-use Rattle.cfn_net.proofs.Cells.{get_or-dims}
+use Rattle.cfn_net.proofs.CallerLemmas.{get_or-dims}
 
 pub arity_small : (P : Network) (f : ℕ) → IsNetwork P → f < length P.functions → arity P f ≤ 1048576
 arity_small P f network there =

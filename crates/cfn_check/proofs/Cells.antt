@@ -3,14 +3,14 @@ use Rattle.std.proofs.Common.{◌≡◌, ℕ, suc, ◌+◌, ◌-◌, ◌*◌, �
 use Rattle.std.proofs.lemmas.Bool.{cases_eq, cases_lt}
 use Rattle.std.proofs.Common.{inl, inr, zero, drop}
 use Rattle.cfn_model.specs.Network.{cells}
-use Rattle.cfn_net.proofs.Cells.{Inhabited, cells-drop-pos, mul-pos}
-use Rattle.cfn_net.proofs.Digits.{cells-factor}
+use Rattle.cfn_net.proofs.CallerLemmas.{Inhabited, cells-drop-pos, mul-pos}
+use Rattle.cfn_net.proofs.CallerLemmas.{cells-factor}
 use Rattle.std.proofs.lemmas.Int.{ints}
 use Rattle.std.proofs.lemmas.List.{length-set}
 use Rattle.std.proofs.lemmas.Nat.{div_below, le-div, div-mul-add, mod-mul-add}
 use Rattle.std.specs.Prelude.{true, false, ℤ, pos, ◌+ℤ◌}
 use Rattle.cfn_model.specs.Sums.{when}
-use Rattle.cfn_model.proofs.Equivalence.{when_true, when_false, eqb_same}
+use Rattle.cfn_model.proofs.CallerLemmas.{when_true, when_false, eqb_same}
 use Rattle.cfn_check.specs.declared.column.Column.{Column}
 use Rattle.cfn_check.specs.Columns.{in_column}
 

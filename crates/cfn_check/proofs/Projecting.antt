@@ -6,9 +6,9 @@ use Rattle.std.specs.Prelude.{true, false, slice_index}
 use Rattle.cfn_model.specs.declared.step.Event.{Event}
 use Rattle.cfn_model.specs.Network.{Network, cells, cell, dims_at, scope_at}
 use Rattle.cfn_model.specs.Steps.{IsPlace, CanProject}
-use Rattle.cfn_model.proofs.Equivalence.{eqb_same}
-use Rattle.cfn_net.proofs.Cells.{length-dims}
-use Rattle.cfn_net.proofs.Digits.{tuple_of, tuple_of-numbered, cell-below}
+use Rattle.cfn_model.proofs.CallerLemmas.{eqb_same}
+use Rattle.cfn_net.proofs.CallerLemmas.{length-dims}
+use Rattle.cfn_net.proofs.CallerLemmas.{tuple_of, tuple_of-numbered, cell-below}
 use Rattle.cfn_check.specs.declared.column.Column.{Column}
 use Rattle.cfn_check.specs.Columns.{in_column, IsColumn}
 use Rattle.cfn_check.specs.Lacking.{IsLack}

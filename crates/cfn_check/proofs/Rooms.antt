@@ -5,10 +5,10 @@ use Rattle.std.proofs.lemmas.List.Sums.{sum_by-cons}
 use Rattle.std.specs.Prelude.{Bool, true, false, if◌then◌else◌, ℤ, pos, neg_ℤ, ◌≤ℤ◌, sum_by, slice_index, nat_lt}
 use Rattle.cfn_model.specs.declared.step.Step.TheVariants.{Project, Extend, Lift, CutValue, CutTuple}
 use Rattle.cfn_model.specs.declared.step.Event.{Event}
-use Rattle.cfn_model.specs.declared.step.Event.TheVariants.{Did, Is, IsNot}
+use Rattle.cfn_model.specs.declared.step.Event.TheVariants.{Did, Took, Refused}
 use Rattle.cfn_model.specs.Network.{Function, Network, IsNetwork, cell, dims_at, entry_at, arity, function_at, no_function}
 use Rattle.cfn_model.specs.Sums.{when, lifted, constant, constant_of, floor, unary_by, unary, residual_by, residual, removes}
-use Rattle.cfn_net.proofs.Digits.{tuple_of, tuple_of-numbered}
+use Rattle.cfn_net.proofs.CallerLemmas.{tuple_of, tuple_of-numbered}
 use Rattle.cfn_check.specs.declared.entry.Entry.{Entry}
 use Rattle.cfn_check.specs.Tables.{Tables, HasRoom, takers, residual_at}
 use Rattle.cfn_check.specs.Standing.{IsPossible, IsTrail, IsLedger, events_of}
@@ -36,8 +36,8 @@ unary_by_within P (Did (Extend f i b m)) x a h = within_when (2 ^ 64) _ (neg_ℤ
 unary_by_within P (Did (Lift y m)) x a h = within_when (2 ^ 64) _ (neg_ℤ (pos m)) (down (2 ^ 64) m (omega (arith, h.1)))
 unary_by_within P (Did (CutValue y b)) x a h = nothing (2 ^ 64)
 unary_by_within P (Did (CutTuple f c)) x a h = nothing (2 ^ 64)
-unary_by_within P (Is y b) x a h = nothing (2 ^ 64)
-unary_by_within P (IsNot y b) x a h = nothing (2 ^ 64)
+unary_by_within P (Took d) x a h = nothing (2 ^ 64)
+unary_by_within P (Refused d) x a h = nothing (2 ^ 64)
 
 residual_by_within : (P : Network) (event : Event) (f : ℕ) (tuple : List ℕ) → IsPossible P event → Within (2 ^ 64) (residual_by event f tuple)
 residual_by_within P (Did (Project g i b m)) f tuple h = within_when (2 ^ 64) _ (neg_ℤ (pos m)) (down (2 ^ 64) m (omega (arith, h.1)))
@@ -45,8 +45,8 @@ residual_by_within P (Did (Extend g i b m)) f tuple h = within_when (2 ^ 64) _ (
 residual_by_within P (Did (Lift y m)) f tuple h = nothing (2 ^ 64)
 residual_by_within P (Did (CutValue y b)) f tuple h = nothing (2 ^ 64)
 residual_by_within P (Did (CutTuple g c)) f tuple h = nothing (2 ^ 64)
-residual_by_within P (Is y b) f tuple h = nothing (2 ^ 64)
-residual_by_within P (IsNot y b) f tuple h = nothing (2 ^ 64)
+residual_by_within P (Took d) f tuple h = nothing (2 ^ 64)
+residual_by_within P (Refused d) f tuple h = nothing (2 ^ 64)
 
 lifted_small : (P : Network) (event : Event) → IsPossible P event → lifted event ≤ 2 ^ 64
 lifted_small P (Did (Project f i b m)) h = omega arith
@@ -54,8 +54,8 @@ lifted_small P (Did (Extend f i b m)) h = omega arith
 lifted_small P (Did (Lift y m)) h = omega (arith, h.1)
 lifted_small P (Did (CutValue y b)) h = omega arith
 lifted_small P (Did (CutTuple f c)) h = omega arith
-lifted_small P (Is y b) h = omega arith
-lifted_small P (IsNot y b) h = omega arith
+lifted_small P (Took d) h = omega arith
+lifted_small P (Refused d) h = omega arith
 
 unary_within : (P : Network) (entries : List Entry) (x a : ℕ) → IsTrail P entries → Within (2 ^ 64 * length entries) (unary P (events_of entries) x a)
 unary_within P [] x a trail = record { low = omega (arith, ints); high = omega (arith, ints) }

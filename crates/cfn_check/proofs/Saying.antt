@@ -5,7 +5,7 @@ use Rattle.std.proofs.lemmas.Int.{ints}
 use Rattle.std.specs.Prelude.{Bool, true, false, not, ◌&&◌, ◌||◌, ◌==◌, if◌then◌else◌}
 use Rattle.cfn_model.specs.declared.step.Step.TheVariants.{Project, Extend, Lift, CutValue, CutTuple}
 use Rattle.cfn_model.specs.declared.step.Event.{Event}
-use Rattle.cfn_model.specs.declared.step.Event.TheVariants.{Did, Is, IsNot}
+use Rattle.cfn_model.specs.declared.step.Event.TheVariants.{Did, Took, Refused}
 use Rattle.cfn_model.specs.Network.{Network}
 use Rattle.cfn_model.specs.Sums.{removes, cuts, is_cut}
 use Rattle.cfn_check.specs.Tables.{Tables, HasShape, Says, Adds, Cuts, Has, takers, cut_at}
@@ -59,8 +59,8 @@ says_less P event fresh history old new s marked shape adds cut = record {
         ap (λ b. if (g == f) && (d == c) then not fresh else b) is
         ∙ same ((g == f) && (d == c)) (is_cut history f c) (not fresh) (λ here. let parts = and_parts (g == f) (d == c) here in
         ap not marked ∙ double (is_cut history g d) ∙ ap (λ n. is_cut history n d) (eqb-true g f parts.0) ∙ ap (λ n. is_cut history f n) (eqb-true d c parts.1))
-    uncut (Is x a) history fresh f c before marked is = is
-    uncut (IsNot x a) history fresh f c before marked is = is
+    uncut (Took d) history fresh f c before marked is = is
+    uncut (Refused d) history fresh f c before marked is = is
 
 -- the newest event undone
 pub undone : (P : Network) (old new : Tables) (entries : List Entry) (entry : Entry) (rest : List Entry) → entries ≡ entry ∷ rest → HasShape P new → Adds P entry.event new old → Cuts P entry.event (not entry.fresh) old new → IsLedger P old entries → IsLedger P new rest

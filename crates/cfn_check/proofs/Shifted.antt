@@ -6,9 +6,9 @@ use Rattle.std.specs.Prelude.{Bool, true, false, ◌&&◌, ◌==◌, ℤ, pos, �
 use Rattle.cfn_model.specs.Network.{Network, Fits, cells, cell, dims_at, variable_at, scope_at}
 use Rattle.cfn_model.specs.Sums.{when}
 use Rattle.cfn_model.specs.Steps.{IsPlace}
-use Rattle.cfn_model.proofs.Equivalence.{eqb_same, eqb_other}
-use Rattle.cfn_net.proofs.Cells.{length-dims}
-use Rattle.cfn_net.proofs.Digits.{digit_at, cell-below}
+use Rattle.cfn_model.proofs.CallerLemmas.{eqb_same, eqb_other}
+use Rattle.cfn_net.proofs.CallerLemmas.{length-dims}
+use Rattle.cfn_net.proofs.CallerLemmas.{digit_at, cell-below}
 use Rattle.cfn_check.specs.declared.column.Column.{Column}
 use Rattle.cfn_check.specs.Columns.{in_column, IsColumn}
 use Rattle.cfn_check.specs.Values.{Gains}

@@ -2,17 +2,17 @@
 use Rattle.std.proofs.Common.{◌≡◌, ℕ, ◌<◌, ◌≤◌, List, [], ◌∷◌, ◌++◌, length, refl, sym, ap, ap₂, ◌∙◌, subst, arith, append_assoc, append-nil}
 use Rattle.std.specs.Prelude.{Option, Some, None, unwrap_or}
 use Rattle.cfn_model.specs.declared.step.Event.{Event as PathEvent}
+use Rattle.cfn_model.specs.declared.version.Version as versions
 use Rattle.cfn_model.specs.Network.{Network, IsNetwork, cost}
 use Rattle.cfn_model.specs.Certificate.{Solution, Certificate, IsBest}
 use Rattle.cfn_model.specs.Text.{Spells}
-use Rattle.cfn_model.proofs.Bounding.{lower_bounds}
+use Rattle.cfn_model.proofs.CallerLemmas.{lower_bounds}
 use Rattle.cfn_fault.specs.declared.kind.FaultKind.TheVariants as kinds
 use Rattle.cfn_fault.specs.Fault.{Fault, line_at}
-use Rattle.cfn_fault.specs.Lines.{Line, Version, Numbers, Lower, NoBest, Best, Values, Root, Node, End, AtNodes, lines_of, lines_of_best, paths_after, text_of}
+use Rattle.cfn_fault.specs.Nodes.{paths_after}
+use Rattle.cfn_fault.specs.Lines.{Line, Version, Numbers, Lower, NoBest, Best, Values, Root, Node, End, AtNodes, lines_of, lines_of_best, text_of}
 use Rattle.cfn_fault.specs.Judging.{threshold_in, lower_in, open_floors, floor_at, lowest, bound_in}
-use Rattle.cfn_fault.proofs.Running.{spelled_lines}
-use Rattle.cfn_fault.proofs.Beginning.{spelling_is, front_of_lines}
-use Rattle.cfn_fault.proofs.Faults.{whole_texts, one_fault, no_fault_where_good}
+use Rattle.cfn_fault.proofs.CallerLemmas.{spelled_lines, spelling_is, front_of_lines, whole_texts, one_fault, no_fault_where_good}
 use Rattle.cfn_certtext.specs.Reading.{Reading}
 use Rattle.cfn_check.specs.declared.answer.Check.{Check}
 use Rattle.cfn_check.specs.declared.answer.Check.TheVariants.{Verified, Refused}
@@ -22,24 +22,25 @@ use Rattle.cfn_check.specs.Checking.{Right, InTree, IsOpened, IsAll, IsVerified,
 -- the tree begins
 pub tree_start : (P : Network) (r : Reading) (w : Walking) (lower : ℕ) (best : Option ℕ) (k : ℕ) → k ≡ unwrap_or best P.upper → w ≡ record { network = P; threshold = k; paths = [] ∷ []; least = k } → IsOpened P r lower best → InTree P r w lower best
 tree_start P r w lower best k is begins opened = record {
-  values = opened.0;
+  version = opened.0;
+  values = opened.1;
   nodes = [];
-  right = subst (λ (ls : List Line). Right P r ls (AtNodes w.paths)) (sym (append-nil (opening_lines P lower best opened.0))) (subst (λ ps. Right P r (opening_lines P lower best opened.0) (AtNodes ps)) (sym (ap (λ z. z.paths) begins)) opened.1);
+  right = subst (λ (ls : List Line). Right P r ls (AtNodes opened.0 w.paths)) (sym (append-nil (opening_lines opened.0 P lower best opened.1))) (subst (λ ps. Right P r (opening_lines opened.0 P lower best opened.1) (AtNodes opened.0 ps)) (sym (ap (λ z. z.paths) begins)) opened.2);
   network = ap (λ z. z.network) begins;
   threshold = ap (λ z. z.threshold) begins ∙ is;
-  least = ap (λ z. z.least) begins ∙ ap (λ m. lowest m []) (sym (ap (λ z. z.threshold) begins)) ∙ ap (lowest w.threshold) (sym (none P lower best opened.0));
+  least = ap (λ z. z.least) begins ∙ ap (λ m. lowest m []) (sym (ap (λ z. z.threshold) begins)) ∙ ap (lowest w.threshold) (sym (none opened.0 P lower best opened.1));
 }
   where
-    none : (P : Network) (lower : ℕ) (best : Option ℕ) (values : List ℕ) → open_floors P ([] ∷ []) (opening_lines P lower best values ++ []) ≡ []
-    none P lower None values = refl
-    none P lower (Some cost) values = refl
+    none : (version : versions.Version) (P : Network) (lower : ℕ) (best : Option ℕ) (values : List ℕ) → open_floors P ([] ∷ []) (opening_lines version P lower best values ++ []) ≡ []
+    none version P lower None values = refl
+    none version P lower (Some cost) values = refl
 
 -- the last line has no floor
 open_floors-end : (P : Network) (paths : List (List PathEvent)) (ls : List Line) → open_floors P paths (ls ++ End ∷ []) ≡ open_floors P paths ls
 open_floors-end P [] [] = refl
 open_floors-end P [] (l ∷ ls) = refl
 open_floors-end P (history ∷ paths) [] = refl
-open_floors-end P (history ∷ paths) (Version ∷ ls) = open_floors-end P (history ∷ paths) ls
+open_floors-end P (history ∷ paths) (Version version ∷ ls) = open_floors-end P (history ∷ paths) ls
 open_floors-end P (history ∷ paths) (Numbers n e upper ∷ ls) = open_floors-end P (history ∷ paths) ls
 open_floors-end P (history ∷ paths) (Lower lower ∷ ls) = open_floors-end P (history ∷ paths) ls
 open_floors-end P (history ∷ paths) (NoBest ∷ ls) = open_floors-end P (history ∷ paths) ls
@@ -51,19 +52,19 @@ open_floors-end P (history ∷ paths) (End ∷ ls) = open_floors-end P (history 
 
 -- what the first lines claim
 abbrev best_in : List Line → Option ℕ
-best_in (Version ∷ Numbers n e upper ∷ Lower lower ∷ Best cost ∷ ls) = Some cost
+best_in (Version version ∷ Numbers n e upper ∷ Lower lower ∷ Best cost ∷ ls) = Some cost
 best_in ls = None
 
-opening_claims : (P : Network) (lower : ℕ) (best : Option ℕ) (values : List ℕ) (nodes : List Line) → (lower_in ((opening_lines P lower best values ++ nodes) ++ End ∷ []) ≡ lower) × (best_in ((opening_lines P lower best values ++ nodes) ++ End ∷ []) ≡ best) × (threshold_in ((opening_lines P lower best values ++ nodes) ++ End ∷ []) ≡ unwrap_or best P.upper)
-opening_claims P lower None values nodes = (refl, refl, refl)
-opening_claims P lower (Some cost) values nodes = (refl, refl, refl)
+opening_claims : (version : versions.Version) (P : Network) (lower : ℕ) (best : Option ℕ) (values : List ℕ) (nodes : List Line) → (lower_in ((opening_lines version P lower best values ++ nodes) ++ End ∷ []) ≡ lower) × (best_in ((opening_lines version P lower best values ++ nodes) ++ End ∷ []) ≡ best) × (threshold_in ((opening_lines version P lower best values ++ nodes) ++ End ∷ []) ≡ unwrap_or best P.upper)
+opening_claims version P lower None values nodes = (refl, refl, refl)
+opening_claims version P lower (Some cost) values nodes = (refl, refl, refl)
 
-certificate_claims : (n e upper lower : ℕ) (best : Option Solution) (more : List Line) → best_in ((Version ∷ Numbers n e upper ∷ Lower lower ∷ lines_of_best best) ++ more) ≡ cost_of best
-certificate_claims n e upper lower None more = claims_none more
+certificate_claims : (version : versions.Version) (n e upper lower : ℕ) (best : Option Solution) (more : List Line) → best_in ((Version version ∷ Numbers n e upper ∷ Lower lower ∷ lines_of_best best) ++ more) ≡ cost_of best
+certificate_claims version n e upper lower None more = claims_none more
   where
-    claims_none : (more : List Line) → best_in (Version ∷ Numbers n e upper ∷ Lower lower ∷ NoBest ∷ more) ≡ None
+    claims_none : (more : List Line) → best_in (Version version ∷ Numbers n e upper ∷ Lower lower ∷ NoBest ∷ more) ≡ None
     claims_none more = refl
-certificate_claims n e upper lower (Some best) more = refl
+certificate_claims version n e upper lower (Some best) more = refl
 
 -- the best assignment has its cost
 best_reached : (P : Network) (found : Option Solution) (best : Option ℕ) → cost_of found ≡ best → IsBest P found → IsReached P best
@@ -77,16 +78,16 @@ pub record Ends (P : Network) (bytes : List ℕ) (w : Walking) (lower : ℕ) (be
   pub verified : lower ≤ w.least → IsVerified P bytes lower best
   pub refused : w.least < lower → Fault P bytes 3 kinds.Lower
 
-pub tree_ends : (P : Network) (r : Reading) (w : Walking) (bytes : List ℕ) (lower : ℕ) (best : Option ℕ) → IsNetwork P → (tree : InTree P r w lower best) → IsAll P bytes ((opening_lines P lower best tree.values ++ tree.nodes) ++ End ∷ []) → Ends P bytes w lower best
+pub tree_ends : (P : Network) (r : Reading) (w : Walking) (bytes : List ℕ) (lower : ℕ) (best : Option ℕ) → IsNetwork P → (tree : InTree P r w lower best) → IsAll P bytes ((opening_lines tree.version P lower best tree.values ++ tree.nodes) ++ End ∷ []) → Ends P bytes w lower best
 tree_ends P r w bytes lower best network tree all =
-    let ls = (opening_lines P lower best tree.values ++ tree.nodes) ++ End ∷ [] in
-    let claims = opening_claims P lower best tree.values tree.nodes in
+    let ls = (opening_lines tree.version P lower best tree.values ++ tree.nodes) ++ End ∷ [] in
+    let claims = opening_claims tree.version P lower best tree.values tree.nodes in
     let whole = whole_texts P bytes ls all.fronts all.pass in
     let c = whole.0 in
     let k : threshold_in ls ≡ w.threshold = claims.2 ∙ sym tree.threshold in
-    let bound : bound_in P ls ≡ w.least = ap₂ lowest k (open_floors-end P ([] ∷ []) (opening_lines P lower best tree.values ++ tree.nodes)) ∙ sym tree.least in
+    let bound : bound_in P ls ≡ w.least = ap₂ lowest k (open_floors-end P ([] ∷ []) (opening_lines tree.version P lower best tree.values ++ tree.nodes)) ∙ sym tree.least in
     let same : c.lower ≡ lower = ap lower_in whole.1.lines ∙ claims.0 in
-    let costs : cost_of c.best ≡ best = sym (certificate_claims c.variables c.functions c.upper c.lower c.best _) ∙ ap best_in whole.1.lines ∙ claims.1 in
+    let costs : cost_of c.best ≡ best = sym (certificate_claims c.version c.variables c.functions c.upper c.lower c.best _) ∙ ap best_in whole.1.lines ∙ claims.1 in
     record {
       verified = λ enough. let good = whole.1.good (omega (arith, claims.0, bound)) in record {
         certificate = c;
@@ -109,9 +110,9 @@ same_lines c other bytes spells its =
 
 best_same : (c other : Certificate) (rest : List Line) → lines_of c ≡ lines_of other ++ rest → cost_of c.best ≡ cost_of other.best
 best_same c other rest is =
-    sym (certificate_claims c.variables c.functions c.upper c.lower c.best _) ∙ ap best_in is
-    ∙ ap best_in (append_assoc (Version ∷ Numbers other.variables other.functions other.upper ∷ Lower other.lower ∷ lines_of_best other.best) _ rest)
-    ∙ certificate_claims other.variables other.functions other.upper other.lower other.best _
+    sym (certificate_claims c.version c.variables c.functions c.upper c.lower c.best _) ∙ ap best_in is
+    ∙ ap best_in (append_assoc (Version other.version ∷ Numbers other.variables other.functions other.upper ∷ Lower other.lower ∷ lines_of_best other.best) _ rest)
+    ∙ certificate_claims other.version other.variables other.functions other.upper other.lower other.best _
 
 pub exact : (P : Network) (bytes : List ℕ) (answer : Check) → IsChecked P bytes answer → IsExact P bytes answer
 exact P bytes (Verified lower best) v = record {

@@ -4,9 +4,9 @@ use Rattle.std.proofs.lemmas.List.{drop-drop, length-drop}
 use Rattle.std.specs.Prelude.{Bool, true, false}
 use Rattle.cfn_model.specs.declared.step.Step.{Step}
 use Rattle.cfn_model.specs.declared.step.Event.{Event}
-use Rattle.cfn_model.specs.declared.step.Event.TheVariants.{Did, Is, IsNot}
+use Rattle.cfn_model.specs.declared.step.Event.TheVariants.{Did, Took, Refused}
 use Rattle.cfn_model.specs.Network.{Network}
-use Rattle.cfn_model.specs.Steps.{IsValue, Allowed}
+use Rattle.cfn_model.specs.Steps.{IsDecision, Allowed}
 use Rattle.cfn_fault.specs.Fault.{FailsStep, OutOfRange, refusal_of}
 use Rattle.cfn_fault.specs.Fault as fault
 use Rattle.cfn_check.specs.declared.asked.Judged.{Judged}
@@ -26,7 +26,7 @@ owed_kept P event history n [] l h = refl
 owed_kept P event history n (o ∷ owed) l h =
     let e : suc (length history) - o.mark.events ≡ suc (length history - o.mark.events) = omega (arith, h.0) in
     let d = ap (λ k. drop k (event ∷ history)) e in
-    ap₂ (λ x xs. (IsNot o.variable o.value ∷ x) ∷ xs) d (owed_kept P event history o.mark.events owed (omega (arith, h.0)) h.2)
+    ap₂ (λ x xs. (Refused o.decision ∷ x) ∷ xs) d (owed_kept P event history o.mark.events owed (omega (arith, h.0)) h.2)
 
 -- going back to a mark changes nothing of what was owed before it
 pub owed_undone : (P : Network) (history : List Event) (n m : ℕ) (owed : List Owed) → m ≤ n → n ≤ length history → AreOwed P m owed → owed_paths (drop (length history - n) history) owed ≡ owed_paths history owed
@@ -35,7 +35,7 @@ owed_undone P history n m (o ∷ owed) l k h =
     let long = length-drop (length history - n) history in
     let d : drop (length (drop (length history - n) history) - o.mark.events) (drop (length history - n) history) ≡ drop (length history - o.mark.events) history
     = drop-drop (length (drop (length history - n) history) - o.mark.events) (length history - n) history ∙ ap (λ j. drop j history) (omega (arith, long, h.0)) in
-    ap₂ (λ x xs. (IsNot o.variable o.value ∷ x) ∷ xs) d (owed_undone P history n o.mark.events owed (omega (arith, h.0)) k h.2)
+    ap₂ (λ x xs. (Refused o.decision ∷ x) ∷ xs) d (owed_undone P history n o.mark.events owed (omega (arith, h.0)) k h.2)
 
 abbrev pub walking : ℕ → ℕ → Bool → List Owed → Standing → Walking
 walking k least over owed s = record { network = s.network; threshold = k; paths = due_paths over s.history owed; least = least }
@@ -73,30 +73,30 @@ judged_longer s s' k step Done is = let e = ap (λ z. length z.history) is.1 in 
 judged_longer s s' k step Range is = let e = ap (λ z. length z.history) is.1 in omega (arith, e)
 judged_longer s s' k step NotAllowed is = let e = ap (λ z. length z.history) is.2 in omega (arith, e)
 
--- a leaf that leads to a second child
-pub left : (s s' : Standing) (k least : ℕ) (over : Bool) (o : Owed) (owed : List Owed) → AreOwed s.network (length s.history) (o ∷ owed) → s' ≡ with_event (IsNot o.variable o.value) (without (length s.history - o.mark.events) s) → (history : List Event) (paths : List (List Event)) → due_paths over s.history (o ∷ owed) ≡ history ∷ paths → walking k least over owed s' ≡ with_paths paths (walking k least over (o ∷ owed) s)
+-- a leaf that leads to a second side
+pub left : (s s' : Standing) (k least : ℕ) (over : Bool) (o : Owed) (owed : List Owed) → AreOwed s.network (length s.history) (o ∷ owed) → s' ≡ with_event (Refused o.decision) (without (length s.history - o.mark.events) s) → (history : List Event) (paths : List (List Event)) → due_paths over s.history (o ∷ owed) ≡ history ∷ paths → walking k least over owed s' ≡ with_paths paths (walking k least over (o ∷ owed) s)
 left s s' k least over o owed are is history paths e =
     let d = due_first over s.history (o ∷ owed) history paths e in
     let back = drop (length s.history - o.mark.events) s.history in
     let long : length back ≡ o.mark.events = omega (arith, length-drop (length s.history - o.mark.events) s.history, are.0) in
-    let rest : owed_paths (IsNot o.variable o.value ∷ back) owed ≡ owed_paths s.history owed = owed_kept s.network (IsNot o.variable o.value) back o.mark.events owed (omega arith) are.2 ∙ owed_undone s.network s.history o.mark.events o.mark.events owed (omega arith) are.0 are.2 in
+    let rest : owed_paths (Refused o.decision ∷ back) owed ≡ owed_paths s.history owed = owed_kept s.network (Refused o.decision) back o.mark.events owed (omega arith) are.2 ∙ owed_undone s.network s.history o.mark.events o.mark.events owed (omega arith) are.0 are.2 in
     ap (walking k least over owed) is
-    ∙ ap (λ ps. record { network = s.network; threshold = k; paths = ps; least = least }) (ap (λ b. due_paths b (IsNot o.variable o.value ∷ back) owed) d.due ∙ ap (λ hs. (IsNot o.variable o.value ∷ back) ∷ hs) rest ∙ d.rest)
+    ∙ ap (λ ps. record { network = s.network; threshold = k; paths = ps; least = least }) (ap (λ b. due_paths b (Refused o.decision ∷ back) owed) d.due ∙ ap (λ hs. (Refused o.decision ∷ back) ∷ hs) rest ∙ d.rest)
 
 -- a split
-pub parted : (s s' : Standing) (k least : ℕ) (over : Bool) (owed : List Owed) (o : Owed) (x a : ℕ) → o.variable ≡ x → o.value ≡ a → o.mark.events ≡ length s.history → AreOwed s.network (length s.history) owed → IsValue s.network x a → s' ≡ with_event (Is x a) s → (history : List Event) (paths : List (List Event)) → due_paths over s.history owed ≡ history ∷ paths → Splits (walking k least over owed s) (walking k least over (o ∷ owed) s') x a history paths true
-parted s s' k least over owed o x a is_x is_a mark are value is history paths e =
+pub parted : (s s' : Standing) (k least : ℕ) (over : Bool) (owed : List Owed) (o : Owed) → o.mark.events ≡ length s.history → AreOwed s.network (length s.history) owed → IsDecision s.network o.decision → s' ≡ with_event (Took o.decision) s → (history : List Event) (paths : List (List Event)) → due_paths over s.history owed ≡ history ∷ paths → Splits (walking k least over owed s) (walking k least over (o ∷ owed) s') o.decision history paths true
+parted s s' k least over owed o mark are decision is history paths e =
     let d = due_first over s.history owed history paths e in
     let none : suc (length s.history) - o.mark.events ≡ 1 = omega (arith, mark) in
-    let back : drop (suc (length s.history) - o.mark.events) (Is x a ∷ s.history) ≡ s.history = ap (λ n. drop n (Is x a ∷ s.history)) none in
-    let other : (IsNot o.variable o.value ∷ drop (suc (length s.history) - o.mark.events) (Is x a ∷ s.history)) ≡ IsNot x a ∷ history = ap₂ (λ y b. IsNot y b ∷ drop (suc (length s.history) - o.mark.events) (Is x a ∷ s.history)) is_x is_a ∙ ap (λ h. IsNot x a ∷ h) (back ∙ d.first) in
-    let more = owed_kept s.network (Is x a) s.history (length s.history) owed (omega arith) are in (
-      value,
+    let back : drop (suc (length s.history) - o.mark.events) (Took o.decision ∷ s.history) ≡ s.history = ap (λ n. drop n (Took o.decision ∷ s.history)) none in
+    let other : (Refused o.decision ∷ drop (suc (length s.history) - o.mark.events) (Took o.decision ∷ s.history)) ≡ Refused o.decision ∷ history = ap (λ h. Refused o.decision ∷ h) (back ∙ d.first) in
+    let more = owed_kept s.network (Took o.decision) s.history (length s.history) owed (omega arith) are in (
+      decision,
       ap (walking k least over (o ∷ owed)) is
-          ∙ ap (λ ps. record { network = s.network; threshold = k; paths = ps; least = least }) (ap (λ b. due_paths b (Is x a ∷ s.history) (o ∷ owed)) d.due ∙ ap₂ (λ h hs. (Is x a ∷ h) ∷ hs) d.first (ap₂ (λ p ps. p ∷ ps) other (more ∙ d.rest))),
+          ∙ ap (λ ps. record { network = s.network; threshold = k; paths = ps; least = least }) (ap (λ b. due_paths b (Took o.decision ∷ s.history) (o ∷ owed)) d.due ∙ ap₂ (λ h hs. (Took o.decision ∷ h) ∷ hs) d.first (ap₂ (λ p ps. p ∷ ps) other (more ∙ d.rest))),
     )
 
-pub still_owed : (s s' : Standing) (o : Owed) (owed : List Owed) → AreOwed s.network (length s.history) (o ∷ owed) → s' ≡ with_event (IsNot o.variable o.value) (without (length s.history - o.mark.events) s) → AreOwed s'.network (length s'.history) owed
+pub still_owed : (s s' : Standing) (o : Owed) (owed : List Owed) → AreOwed s.network (length s.history) (o ∷ owed) → s' ≡ with_event (Refused o.decision) (without (length s.history - o.mark.events) s) → AreOwed s'.network (length s'.history) owed
 still_owed s s' o owed are is =
     let back = length-drop (length s.history - o.mark.events) s.history in
     subst (λ (z : Standing). AreOwed z.network (length z.history) owed) (sym is) (owed_longer s.network o.mark.events (suc (length (drop (length s.history - o.mark.events) s.history))) owed (omega (arith, back, are.0)) are.2)

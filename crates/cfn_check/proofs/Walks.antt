@@ -6,7 +6,7 @@ use Rattle.std.specs.Prelude.{Bool, true, false, ◌&&◌}
 use Rattle.cfn_model.specs.declared.step.Event.{Event}
 use Rattle.cfn_model.specs.Network.{Fits, cell, cell_from, dims}
 use Rattle.cfn_model.specs.Sums.{is_live, all_live}
-use Rattle.cfn_net.proofs.Cells.{Fits-length, Fits-at, length-dims}
+use Rattle.cfn_net.proofs.CallerLemmas.{Fits-length, Fits-at, length-dims}
 
 cell_from-take_more : (n : ℕ) (sizes values : List ℕ) (p : ℕ) → p < length sizes → length values ≡ length sizes → cell_from n (take (suc p) sizes) (take (suc p) values) ≡ cell_from n (take p sizes) (take p values) * get_or sizes p 0 + get_or values p 0
 cell_from-take_more n [] values p l same = absurd (omega arith)

@@ -1,9 +1,10 @@
 -- What a judge of steps and decisions answers, and does.
 use Rattle.std.specs.Prelude.{◌≡◌, ℕ, Bool, true, false}
 use Rattle.cfn_model.specs.declared.step.Step.{Step}
+use Rattle.cfn_model.specs.declared.step.Decision.{Decision}
 use Rattle.cfn_model.specs.declared.step.Event.{Event}
 use Rattle.cfn_model.specs.declared.step.Event.TheVariants.{Did}
-use Rattle.cfn_model.specs.Steps.{IsValue, InRange, Allowed}
+use Rattle.cfn_model.specs.Steps.{IsDecision, InRange, Allowed}
 use Rattle.cfn_check.specs.declared.asked.Judged.{Judged}
 use Rattle.cfn_check.specs.declared.asked.Judged.TheVariants.{Done, Range, NotAllowed}
 use Rattle.cfn_check.specs.Standing.{Standing, with_event}
@@ -15,6 +16,6 @@ IsJudged old k step new Range = (InRange old.network step → ⊥) × (new ≡ o
 IsJudged old k step new NotAllowed = InRange old.network step × (Allowed old.network old.history k step → ⊥) × (new ≡ old)
 
 -- What a decision has found and done: true exactly where its numbers are in range, and then the event is made.
-abbrev pub IsDecided : Standing → ℕ → ℕ → Event → Standing → Bool → Type 0
-IsDecided old x a event new true = IsValue old.network x a × (new ≡ with_event event old)
-IsDecided old x a event new false = (IsValue old.network x a → ⊥) × (new ≡ old)
+abbrev pub IsDecided : Standing → Decision → Event → Standing → Bool → Type 0
+IsDecided old d event new true = IsDecision old.network d × (new ≡ with_event event old)
+IsDecided old d event new false = (IsDecision old.network d → ⊥) × (new ≡ old)

@@ -13,7 +13,7 @@ IsTold P told all left = MatchBool told.possible (all ≡ told.values.items ++ l
 
 -- The value that an event tells, if it tells one.
 abbrev pub value_of : Item → Option ℕ
-value_of (Version n) = None
+value_of (Version version) = None
 value_of (Numbers n e upper) = None
 value_of (Lower lower) = None
 value_of NoBest = None
@@ -23,7 +23,7 @@ value_of Tree = None
 value_of (Step step) = None
 value_of Open = None
 value_of Closed = None
-value_of (Split x a) = None
+value_of (Split decision) = None
 value_of End = None
 value_of Over = None
 

@@ -1,5 +1,6 @@
 -- What the judge of a certificate finds.
 use Rattle.std.specs.Prelude.{◌≡◌, ℕ, ◌≤◌, List, [], ◌∷◌, ◌++◌, length, Option, Some, None, unwrap_or}
+use Rattle.cfn_model.specs.declared.version.Version.{Version}
 use Rattle.cfn_model.specs.Network.{Network, Fits, cost}
 use Rattle.cfn_model.specs.Certificate.{Solution, Certificate, Good}
 use Rattle.cfn_model.specs.Text.{Spells}
@@ -52,27 +53,33 @@ pub record Right (P : Network) (r : Reading) (ls : List Line) (s : State) : Type
   pub pass : AllPass P ls
 
 -- The lines of the version and the numbers of the network.
-abbrev pub front_lines : Network → List Line
-front_lines P = lines.Version ∷ lines.Numbers (length P.sizes) (length P.functions) P.upper ∷ []
+abbrev pub front_lines : Version → Network → List Line
+front_lines version P = lines.Version version ∷ lines.Numbers (length P.sizes) (length P.functions) P.upper ∷ []
 
 -- All lines before those of nodes.
-abbrev pub opening_lines : Network → ℕ → Option ℕ → List ℕ → List Line
-opening_lines P lower None values = lines.Version ∷ lines.Numbers (length P.sizes) (length P.functions) P.upper ∷ lines.Lower lower ∷ lines.NoBest ∷ lines.Root ∷ []
-opening_lines P lower (Some cost) values =
-    lines.Version ∷ lines.Numbers (length P.sizes) (length P.functions) P.upper ∷ lines.Lower lower ∷ lines.Best cost ∷ lines.Values values ∷ lines.Root ∷ []
+abbrev pub opening_lines : Version → Network → ℕ → Option ℕ → List ℕ → List Line
+opening_lines version P lower None values =
+    lines.Version version ∷ lines.Numbers (length P.sizes) (length P.functions) P.upper ∷ lines.Lower lower ∷ lines.NoBest ∷ lines.Root ∷ []
+opening_lines version P lower (Some cost) values =
+    lines.Version version ∷ lines.Numbers (length P.sizes) (length P.functions) P.upper ∷ lines.Lower lower ∷ lines.Best cost ∷ lines.Values values ∷ lines.Root ∷ []
 
 -- The tree's lines so far are right, and the walk has come where they lead.
 pub record InTree (P : Network) (r : Reading) (w : Walking) (lower : ℕ) (best : Option ℕ) : Type 0 where
+  pub version : Version
   pub values : List ℕ
   pub nodes : List Line
-  pub right : Right P r (opening_lines P lower best values ++ nodes) (lines.AtNodes w.paths)
+  pub right : Right P r (opening_lines version P lower best values ++ nodes) (lines.AtNodes version w.paths)
   pub network : w.network ≡ P
   pub threshold : w.threshold ≡ unwrap_or best P.upper
-  pub least : w.least ≡ lowest w.threshold (open_floors P ([] ∷ []) (opening_lines P lower best values ++ nodes))
+  pub least : w.least ≡ lowest w.threshold (open_floors P ([] ∷ []) (opening_lines version P lower best values ++ nodes))
 
 -- A line is due where a state says.
 abbrev pub IsDue : Reading → State → Type 0
 IsDue r s = (ls : List Line) × HasRead r ls s × (r.left ≡ [])
+
+-- A line is due where a state says, in some version.
+abbrev pub IsDueIn : Reading → (Version → State) → Type 0
+IsDueIn r s = (version : Version) × IsDue r (s version)
 
 -- Where all lines so far are right, the text is refused as the answer says.
 abbrev pub Stops : Reading → Stop → Type 0
@@ -84,12 +91,23 @@ pub record IsAll (P : Network) (bytes : List ℕ) (ls : List Line) : Type 0 wher
   pub pass : AllPass P ls
 
 -- The lines before the best assignment.
-abbrev pub best_front : Network → ℕ → List Line
-best_front P lower = lines.Version ∷ lines.Numbers (length P.sizes) (length P.functions) P.upper ∷ lines.Lower lower ∷ []
+abbrev pub best_front : Version → Network → ℕ → List Line
+best_front version P lower = lines.Version version ∷ lines.Numbers (length P.sizes) (length P.functions) P.upper ∷ lines.Lower lower ∷ []
+
+-- The lines up to the version, the numbers and the lower bound were read, and are right.
+abbrev pub IsBegun : Network → Reading → Type 0
+IsBegun P r = (version : Version) × Right P r (lines.Version version ∷ []) (lines.AtNumbers version)
+
+abbrev pub IsNumbered : Network → Reading → Type 0
+IsNumbered P r = (version : Version) × Right P r (front_lines version P) (lines.AtLower version)
+
+abbrev pub IsBounded : Network → Reading → ℕ → Type 0
+IsBounded P r lower = (version : Version) × Right P r (best_front version P lower) (lines.AtBest version)
 
 -- All lines before those of nodes were read, and are right.
 abbrev pub IsOpened : Network → Reading → ℕ → Option ℕ → Type 0
-IsOpened P r lower best = (values : List ℕ) × Right P r (opening_lines P lower best values) (lines.AtNodes ([] ∷ []))
+IsOpened P r lower best =
+    (version : Version) × (values : List ℕ) × Right P r (opening_lines version P lower best values) (lines.AtNodes version ([] ∷ []))
 
 -- Where the bytes spell a good certificate, it is verified; and where a line is the first that fails, it is refused there.
 pub record IsExact (P : Network) (bytes : List ℕ) (answer : Check) : Type 0 where

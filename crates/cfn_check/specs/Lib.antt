@@ -1,3 +1,4 @@
+pub mod Sides
 pub mod Values
 pub mod Tables
 pub mod Columns

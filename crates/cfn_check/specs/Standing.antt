@@ -3,10 +3,10 @@ use Rattle.std.specs.Prelude.{◌≡◌, ℕ, ◌<◌, ◌≤◌, ◌^◌, Bool,
 use Rattle.cfn_model.specs.declared.step.Step.{Step}
 use Rattle.cfn_model.specs.declared.step.Step.TheVariants.{Project, Extend, Lift, CutValue, CutTuple}
 use Rattle.cfn_model.specs.declared.step.Event.{Event}
-use Rattle.cfn_model.specs.declared.step.Event.TheVariants.{Did, Is, IsNot}
+use Rattle.cfn_model.specs.declared.step.Event.TheVariants.{Did, Took, Refused}
 use Rattle.cfn_model.specs.Network.{Network}
 use Rattle.cfn_model.specs.Sums.{is_cut}
-use Rattle.cfn_model.specs.Steps.{IsValue, InRange}
+use Rattle.cfn_model.specs.Steps.{IsDecision, InRange}
 use Rattle.cfn_check.specs.declared.entry.Entry.{Entry}
 use Rattle.cfn_check.specs.Tables.{Tables, Says}
 
@@ -31,8 +31,8 @@ IsSmallStep (CutTuple f c) = Unit {0}
 
 abbrev pub IsPossible : Network → Event → Type 0
 IsPossible P (Did step) = InRange P step × IsSmallStep step
-IsPossible P (Is x a) = IsValue P x a
-IsPossible P (IsNot x a) = IsValue P x a
+IsPossible P (Took d) = IsDecision P d
+IsPossible P (Refused d) = IsDecision P d
 
 -- A cut of a tuple is marked where the tuple was not cut before it.
 abbrev pub IsMarked : Event → Bool → List Event → Type 0
@@ -41,8 +41,8 @@ IsMarked (Did (Extend f i a m)) fresh history = Unit {0}
 IsMarked (Did (Lift x m)) fresh history = Unit {0}
 IsMarked (Did (CutValue x a)) fresh history = Unit {0}
 IsMarked (Did (CutTuple f c)) fresh history = fresh ≡ not (is_cut history f c)
-IsMarked (Is x a) fresh history = Unit {0}
-IsMarked (IsNot x a) fresh history = Unit {0}
+IsMarked (Took d) fresh history = Unit {0}
+IsMarked (Refused d) fresh history = Unit {0}
 
 -- What happened, from entries with the newest first.
 abbrev pub events_of : List Entry → List Event

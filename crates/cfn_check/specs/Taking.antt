@@ -2,8 +2,8 @@
 use Rattle.std.specs.Prelude.{◌≡◌, List, ◌++◌, Option, Some, None}
 use Rattle.cfn_model.specs.declared.step.Event.{Event}
 use Rattle.cfn_fault.specs.declared.kind.FaultKind.{FaultKind}
-use Rattle.cfn_fault.specs.Fault.{Item, FailsPlace}
-use Rattle.cfn_fault.specs.Lines.{paths_after}
+use Rattle.cfn_fault.specs.Nodes.{Item, paths_after}
+use Rattle.cfn_fault.specs.Fault.{FailsPlace}
 use Rattle.cfn_fault.specs.Judging.{PassesPlace, floor_at, lowest}
 use Rattle.cfn_check.specs.Walking.{Walking}
 

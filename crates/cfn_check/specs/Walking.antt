@@ -1,11 +1,12 @@
 -- The paths that are due in a certificate's tree, and what a line of a node makes of them.
 use Rattle.std.specs.Prelude.{◌≡◌, ℕ, ◌-◌, ◌≤◌, min, List, [], ◌∷◌, length, drop, Option, Some, None, Bool, true, false}
 use Rattle.cfn_model.specs.declared.step.Step.{Step}
+use Rattle.cfn_model.specs.declared.step.Decision.{Decision}
 use Rattle.cfn_model.specs.declared.step.Event.{Event}
-use Rattle.cfn_model.specs.declared.step.Event.TheVariants.{Did, Is, IsNot}
+use Rattle.cfn_model.specs.declared.step.Event.TheVariants.{Did, Took, Refused}
 use Rattle.cfn_model.specs.Network.{Network}
 use Rattle.cfn_model.specs.Sums.{floor}
-use Rattle.cfn_model.specs.Steps.{IsValue, Allowed}
+use Rattle.cfn_model.specs.Steps.{IsDecision, Allowed}
 use Rattle.cfn_model.specs.Tree.{CanClose}
 use Rattle.cfn_fault.specs.declared.kind.FaultKind.{FaultKind}
 use Rattle.cfn_fault.specs.declared.kind.FaultKind.TheVariants as kinds
@@ -22,19 +23,19 @@ pub record Walking : Type 0 where
   pub paths : List (List Event)
   pub least : ℕ
 
--- The paths to the second children that are owed, the newest split first, from the path where one stands.
+-- The paths to the second sides that are owed, the newest split first, from the path where one stands.
 abbrev pub owed_paths : List Event → List Owed → List (List Event)
 owed_paths history [] = []
-owed_paths history (o ∷ owed) = (IsNot o.variable o.value ∷ drop (length history - o.mark.events) history) ∷ owed_paths history owed
+owed_paths history (o ∷ owed) = (Refused o.decision ∷ drop (length history - o.mark.events) history) ∷ owed_paths history owed
 
 abbrev pub due_paths : Bool → List Event → List Owed → List (List Event)
 due_paths true history owed = []
 due_paths false history owed = history ∷ owed_paths history owed
 
--- Each split that owes a child stands on the path, before the newer ones, and is in range.
+-- Each split that owes a side stands on the path, before the newer ones, and its decision is in range.
 abbrev pub AreOwed : Network → ℕ → List Owed → Type 0
 AreOwed P n [] = Unit {0}
-AreOwed P n (o ∷ owed) = (o.mark.events ≤ n) × IsValue P o.variable o.value × AreOwed P o.mark.events owed
+AreOwed P n (o ∷ owed) = (o.mark.events ≤ n) × IsDecision P o.decision × AreOwed P o.mark.events owed
 
 -- The walk with these paths due.
 abbrev pub with_paths : List (List Event) → Walking → Walking
@@ -58,6 +59,6 @@ abbrev pub Closes : Walking → Walking → List Event → List (List Event) →
 Closes old new history paths true = CanClose old.network history old.threshold × (new ≡ with_paths paths old)
 Closes old new history paths false = CanClose old.network history old.threshold → ⊥
 
-abbrev pub Splits : Walking → Walking → ℕ → ℕ → List Event → List (List Event) → Bool → Type 0
-Splits old new x a history paths true = IsValue old.network x a × (new ≡ with_paths ((Is x a ∷ history) ∷ (IsNot x a ∷ history) ∷ paths) old)
-Splits old new x a history paths false = IsValue old.network x a → ⊥
+abbrev pub Splits : Walking → Walking → Decision → List Event → List (List Event) → Bool → Type 0
+Splits old new d history paths true = IsDecision old.network d × (new ≡ with_paths ((Took d ∷ history) ∷ (Refused d ∷ history) ∷ paths) old)
+Splits old new d history paths false = IsDecision old.network d → ⊥

@@ -1,12 +1,12 @@
-//! Steps as a text has them, and which of them are in range.
+//! Steps and decisions as a text has them, and which of them are in range.
 
 ghost use Rattle.std.specs.Prelude.{◌≡◌, ◌<◌, ◌↔◌, length, IsTrue, MatchOption};
-ghost use Rattle.cfn_model.specs.Steps.{IsValue, IsPlace, IsCell, InRange};
-ghost use Rattle.cfn_certtext.specs.Reading.{step_of};
+ghost use Rattle.cfn_model.specs.Steps.{IsValue, IsDecision, IsPlace, IsCell, InRange};
+ghost use Rattle.cfn_certtext.specs.Reading.{step_of, decision_of};
 ghost use Rattle.cfn_check.specs.Numbers.{HasSmallNumbers};
 
-use cfn_certtext::StepText;
-use cfn_model::Step;
+use cfn_certtext::{DecisionText, StepText};
+use cfn_model::{Decision, Step};
 use cfn_net::Network;
 
 /// What became of a step that was asked for.
@@ -99,8 +99,37 @@ fn narrowed(step: StepText) -> Step
     }
 }
 
+/// The decision that is asked for, where its numbers are in range.
+pub(crate) fn decision_in_range(network: &Network, decision: DecisionText) -> Option<Decision>
+    ensures { MatchOption result (IsDecision network.now (decision_of decision) → ⊥)
+        (λ found. (found ≡ decision_of decision) × IsDecision network.now (decision_of decision)) }
+{
+    match decision {
+        DecisionText::Is { variable, value } => {
+            let (variable, value) = value_in_range(network, variable, value)?;
+            Some(Decision::Is { variable, value })
+        }
+        DecisionText::Most { variable, value } => {
+            let (variable, value) = value_in_range(network, variable, value)?;
+            Some(Decision::Most { variable, value })
+        }
+    }
+}
+
+/// A variable and one of its values, where they are that.
+fn value_in_range(network: &Network, x: u64, value: u64) -> Option<(u32, u32)>
+    ensures { MatchOption result (IsValue network.now x value → ⊥)
+        (λ found. (found.0 ≡ x) × (found.1 ≡ value) × IsValue network.now x value) }
+{
+    if is_value(network, x, value) {
+        Some((x as u32, value as u32))
+    } else {
+        None
+    }
+}
+
 /// Whether `x` is a variable, and `value` one of its values.
-pub(crate) fn is_value(network: &Network, x: u64, value: u64) -> bool
+fn is_value(network: &Network, x: u64, value: u64) -> bool
     ensures answer { IsTrue result ↔ IsValue network.now x value }
     ensures small { IsTrue result → (x < 4294967296) × (value < 4294967296) }
 {

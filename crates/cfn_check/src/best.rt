@@ -1,9 +1,10 @@
 //! The best assignment of a certificate.
 
 ghost use Rattle.std.specs.Prelude.{◌≡◌, ℕ, ◌<◌, ◌↔◌, List, [], ◌∷◌, ◌++◌, length, Option, IfOk, IfErr, IfSome, OnOk, MatchResult, IsTrue};
+ghost use Rattle.cfn_model.specs.declared.version.Version.{Version};
 ghost use Rattle.cfn_fault.specs.Lines as lines;
 ghost use Rattle.cfn_fault.specs.Lines.{Line};
-ghost use Rattle.cfn_check.specs.Checking.{Right, IsDue, Stops, IsStop, front_lines, opening_lines, best_front};
+ghost use Rattle.cfn_check.specs.Checking.{Right, IsDueIn, IsBounded, IsOpened, Stops, IsStop};
 ghost use Rattle.cfn_fault.specs.Judging.{threshold_in};
 ghost use Rattle.cfn_check.specs.Assigning.{value_in};
 
@@ -21,11 +22,11 @@ pub(crate) fn best(
     network: &Network,
     reader: &mut Reader<'_>,
 ) -> Result<Option<u64>, Stop>
-    requires { IsDue reader.old lines.AtBest }
+    requires { IsDueIn reader.old lines.AtBest }
     ensures text { reader.new.text ≡ reader.old.text }
-    ensures right { IfOk result (λ best. (lower : ℕ) → Right network.now reader.old (best_front network.now lower) lines.AtBest
-        → (values : List ℕ) × Right network.now reader.new (opening_lines network.now lower best values) (lines.AtNodes ([] ∷ []))) }
-    ensures stop { IfErr result (λ stop. (lower : ℕ) → Right network.now reader.old (best_front network.now lower) lines.AtBest
+    ensures right { IfOk result (λ best. (lower : ℕ) → IsBounded network.now reader.old lower
+        → IsOpened network.now reader.new lower best) }
+    ensures stop { IfErr result (λ stop. (lower : ℕ) → IsBounded network.now reader.old lower
         → IsStop network.now reader.old.text stop) }
 {
     let event = next(reader)?;
@@ -50,11 +51,13 @@ pub(crate) fn best(
 
 /// Reads the values of the best assignment, which has to have the cost, and the line that begins the tree.
 fn values(alloc: Global, network: &Network, reader: &mut Reader<'_>, cost: u64) -> Result<(), Stop>
-    requires { IsDue reader.old lines.AtValues }
+    requires { IsDueIn reader.old lines.AtValues }
     ensures text { reader.new.text ≡ reader.old.text }
-    ensures right { OnOk result ((ls : List Line) → Right network.now reader.old ls lines.AtValues → threshold_in ls ≡ cost
-        → (values : List ℕ) × Right network.now reader.new ((ls ++ lines.Values values ∷ []) ++ lines.Root ∷ []) (lines.AtNodes ([] ∷ []))) }
-    ensures stop { IfErr result (λ stop. (ls : List Line) → Right network.now reader.old ls lines.AtValues → threshold_in ls ≡ cost
+    ensures right { OnOk result ((ls : List Line) (version : Version)
+        → Right network.now reader.old ls (lines.AtValues version) → threshold_in ls ≡ cost
+        → (values : List ℕ) × Right network.now reader.new ((ls ++ lines.Values values ∷ []) ++ lines.Root ∷ []) (lines.AtNodes version ([] ∷ []))) }
+    ensures stop { IfErr result (λ stop. (ls : List Line) (version : Version)
+        → Right network.now reader.old ls (lines.AtValues version) → threshold_in ls ≡ cost
         → IsStop network.now reader.old.text stop) }
 {
     let event = next(reader)?;

@@ -3,18 +3,20 @@
 //! A project or an extend touches one value and the cells that have it at one place; a lift, a cut or a decision
 //! touches the values of one variable, or one cell. What an event adds can be taken off again at the same cost.
 
-ghost use Rattle.std.specs.Prelude.{◌≡◌, ◌≢◌, ℕ, ◌+◌, ◌*◌, ◌<◌, ◌≤◌, ◌^◌, ◌==◌, ◌&&◌, ◌↔◌, not, true, List, [], ◌∷◌, length, slice_index, slice_index_or, sum_by, replicate, pos, neg_ℤ, ◌+ℤ◌, IfOk, IsTrue, if◌then◌else◌};
+ghost use Rattle.std.specs.Prelude.{◌≡◌, ℕ, ◌+◌, ◌*◌, ◌<◌, ◌≤◌, ◌^◌, ◌==◌, ◌&&◌, ◌↔◌, not, true, List, [], ◌∷◌, length, slice_index, slice_index_or, sum_by, replicate, pos, neg_ℤ, ◌+ℤ◌, IfOk, IsTrue, if◌then◌else◌};
 ghost use Rattle.cfn_model.specs.declared.step.Step.TheVariants.{Project, Lift, CutTuple};
 ghost use Rattle.cfn_model.specs.declared.step.Event.TheVariants.{Did};
 ghost use Rattle.cfn_model.specs.Network.{Fits, cells, cell, dims_at, variable_at, function_at};
 ghost use Rattle.cfn_model.specs.Sums.{when, constant, residual};
 ghost use Rattle.cfn_model.specs.Steps.{IsValue, IsPlace, IsCell};
 ghost use Rattle.cfn_check.specs.Tables.{Values, Tuples, values_at, tuples_at, no_values, no_tuples, IsFirst, first_values, has_none, wiped_count, unary_at, takers_at, residual_at, cut_at, HasShape, Says, Moves, Adds, Has, Cuts, HasRoom, IsAmount};
+ghost use Rattle.cfn_check.specs.Sides.{is_on, side_variable};
 ghost use Rattle.cfn_check.specs.Standing.{IsPossible};
 
 use crate::column::Column;
 use crate::domain::Domain;
 use crate::residuals::Residuals;
+use crate::side::Side;
 use cfn_model::{Event, Step};
 use cfn_net::Network;
 use std::alloc::{AllocError, Global};
@@ -111,8 +113,8 @@ impl Costs {
     {
         match event {
             Event::Did(step) => self.make(network, step),
-            Event::Is { variable, value } => self.take_others(network, variable, value),
-            Event::IsNot { variable, value } => self.take(network, variable, value),
+            Event::Took(decision) => self.take_side(network, Side::Second(decision)),
+            Event::Refused(decision) => self.take_side(network, Side::First(decision)),
         }
     }
 
@@ -128,8 +130,8 @@ impl Costs {
     {
         match event {
             Event::Did(step) => self.unmake(network, step, fresh),
-            Event::Is { variable, value } => self.give_others(network, variable, value),
-            Event::IsNot { variable, value } => self.give(network, variable, value),
+            Event::Took(decision) => self.give_side(network, Side::Second(decision)),
+            Event::Refused(decision) => self.give_side(network, Side::First(decision)),
         }
     }
 
@@ -282,38 +284,41 @@ impl Costs {
         self.wiped = recount(self.wiped, before, now);
     }
 
-    /// Takes each value of a variable but one once more.
-    fn take_others(&mut self, network: &Network, x: u32, value: u32)
+    /// Takes each value on a side of a decision once more.
+    fn take_side(&mut self, network: &Network, side: Side)
         requires shape { HasShape network.now self.old }
         requires room { HasRoom network.now self.old }
-        requires value { IsValue network.now x value }
+        requires variable { side_variable side < length network.now.sizes }
         ensures shape { HasShape network.now self.new }
-        ensures moves { Moves network.now 0 (λ y b. pos 0) (λ y b. if (x == y) && not (value == b) then 1 else 0)
+        ensures moves { Moves network.now 0 (λ y b. pos 0) (λ y b. if (side_variable side == y) && is_on side b then 1 else 0)
             (λ g tuple. pos 0) self.old self.new }
         ensures functions { self.new.functions ≡ self.old.functions }
     {
         network.limits();
+        let x = side.variable();
         let domain = &mut self.domains[x as usize];
         let before = domain.has_none();
-        domain.take_others(value);
+        domain.take_side(side);
         let now = domain.has_none();
         self.wiped = recount(self.wiped, before, now);
     }
 
-    /// Gives each value of a variable but one back once.
-    fn give_others(&mut self, network: &Network, x: u32, value: u32)
+    /// Gives each value on a side of a decision back once.
+    fn give_side(&mut self, network: &Network, side: Side)
         requires shape { HasShape network.now self.old }
-        requires value { IsValue network.now x value }
-        requires taken { (b : ℕ) → b < slice_index network.now.sizes x → value ≢ b → 0 < takers_at self.old x b }
+        requires variable { side_variable side < length network.now.sizes }
+        requires taken { (b : ℕ) → b < slice_index network.now.sizes (side_variable side) → IsTrue (is_on side b)
+            → 0 < takers_at self.old (side_variable side) b }
         ensures shape { HasShape network.now self.new }
-        ensures moves { Moves network.now 0 (λ y b. pos 0) (λ y b. if (x == y) && not (value == b) then 1 else 0)
+        ensures moves { Moves network.now 0 (λ y b. pos 0) (λ y b. if (side_variable side == y) && is_on side b then 1 else 0)
             (λ g tuple. pos 0) self.new self.old }
         ensures functions { self.new.functions ≡ self.old.functions }
     {
         network.limits();
+        let x = side.variable();
         let domain = &mut self.domains[x as usize];
         let before = domain.has_none();
-        domain.give_others(value);
+        domain.give_side(side);
         let now = domain.has_none();
         self.wiped = recount(self.wiped, before, now);
     }

@@ -1,10 +1,12 @@
 //! The unary costs of one variable's values, and which of them are live.
 
-ghost use Rattle.std.specs.Prelude.{◌≡◌, ℕ, ◌+◌, ◌<◌, ◌≤◌, ◌^◌, ◌==◌, not, length, slice_index, slice_index_or, replicate, pos, ◌+ℤ◌, IfOk, if◌then◌else◌};
+ghost use Rattle.std.specs.Prelude.{◌≡◌, ℕ, ◌+◌, ◌<◌, ◌≤◌, ◌^◌, ◌==◌, length, slice_index, slice_index_or, replicate, pos, ◌+ℤ◌, IfOk, IsTrue, if◌then◌else◌};
 ghost use Rattle.cfn_model.specs.Sums.{when};
 ghost use Rattle.cfn_check.specs.Tables.{has_none, first_values, IsWide, IsAmount};
+ghost use Rattle.cfn_check.specs.Sides.{is_on};
 ghost use Rattle.cfn_check.specs.Values.{Gains, Takes};
 
+use crate::side::Side;
 use std::alloc::{AllocError, Global};
 use std::marker::Model;
 
@@ -110,29 +112,29 @@ impl Domain {
         self.takers[value as usize] = takers;
     }
 
-    /// Takes each value but one once more.
-    pub(crate) fn take_others(&mut self, value: u32)
+    /// Takes each value on a side of a decision once more.
+    pub(crate) fn take_side(&mut self, side: Side)
         requires few { (b : ℕ) → b < length self.old.takers → slice_index self.old.takers b < 2 ^ 62 }
         requires size { length self.old.takers ≤ 4096 }
         ensures costs { self.new.costs ≡ self.old.costs }
-        ensures takers { Takes (λ b. if not (value == b) then 1 else 0) self.old.takers self.new.takers }
+        ensures takers { Takes (λ b. if is_on side b then 1 else 0) self.old.takers self.new.takers }
     {
         for b in 0..self.takers.len() as u32 {
-            if b != value {
+            if side.has(b) {
                 self.take(b);
             }
         }
     }
 
-    /// Gives each value but one back once.
-    pub(crate) fn give_others(&mut self, value: u32)
-        requires taken { (b : ℕ) → b < length self.old.takers → (value ≡ b → ⊥) → 0 < slice_index self.old.takers b }
+    /// Gives each value on a side of a decision back once.
+    pub(crate) fn give_side(&mut self, side: Side)
+        requires taken { (b : ℕ) → b < length self.old.takers → IsTrue (is_on side b) → 0 < slice_index self.old.takers b }
         requires size { length self.old.takers ≤ 4096 }
         ensures costs { self.new.costs ≡ self.old.costs }
-        ensures takers { Takes (λ b. if not (value == b) then 1 else 0) self.new.takers self.old.takers }
+        ensures takers { Takes (λ b. if is_on side b then 1 else 0) self.new.takers self.old.takers }
     {
         for b in 0..self.takers.len() as u32 {
-            if b != value {
+            if side.has(b) {
                 self.give(b);
             }
         }

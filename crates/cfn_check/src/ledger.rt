@@ -1,20 +1,20 @@
 //! Where a checker stands on the way down a search tree.
 
 ghost use Rattle.std.specs.Prelude.{◌≡◌, ℕ, ◌+◌, ◌-◌, ◌<◌, ◌≤◌, ◌↔◌, List, [], ◌∷◌, length, slice_index, IsTrue, IfOk, OnOk, OnErr};
-ghost use Rattle.cfn_model.specs.declared.step.Event.TheVariants.{Is, IsNot};
+ghost use Rattle.cfn_model.specs.declared.step.Event.TheVariants.{Took, Refused};
 ghost use Rattle.cfn_model.specs.Network.{Fits, cells, cell, dims, dims_at, scope_at};
 ghost use Rattle.cfn_model.specs.Sums.{floor, unary, residual, is_live, is_cut, all_live, is_live_tuple};
 ghost use Rattle.cfn_model.specs.Steps.{IsValue, IsCell};
 ghost use Rattle.cfn_model.specs.Tree.{CanClose, IsWiped};
 ghost use Rattle.cfn_check.specs.Standing.{IsPossible, IsMarked, with_event, without};
-ghost use Rattle.cfn_certtext.specs.Reading.{step_of};
+ghost use Rattle.cfn_certtext.specs.Reading.{step_of, decision_of};
 ghost use Rattle.cfn_check.specs.Asking.{IsJudged, IsDecided};
 
 use crate::allowed::allowed;
-use crate::asked::{Judged, in_range, is_value};
+use crate::asked::{Judged, decision_in_range, in_range};
 use crate::costs::Costs;
 use crate::entry::Entry;
-use cfn_certtext::StepText;
+use cfn_certtext::{DecisionText, StepText};
 use cfn_model::{Event, Step};
 use cfn_net::Network;
 use std::alloc::{AllocError, Global};
@@ -85,45 +85,33 @@ impl Ledger {
         Ok(Judged::Done)
     }
 
-    /// Decides that `x` has a value, and answers whether both are in range; where they are not, all stays as it was.
-    /// An `Err`, want of memory, leaves all as it was too.
-    pub fn is(&mut self, network: &Network, x: u64, value: u64) -> Result<bool, AllocError>
+    /// Goes to the first side of a split: its decision holds. The answer is whether the decision is in range; where it is
+    /// not, all stays as it was. An `Err`, want of memory, leaves all as it was too.
+    pub fn take(&mut self, network: &Network, decision: DecisionText) -> Result<bool, AllocError>
         requires { network.now ≡ self.old.network }
         ensures network { self.new.network ≡ self.old.network }
-        ensures ok { IfOk result (IsDecided self.old x value (Is x value) self.new) }
+        ensures ok { IfOk result (IsDecided self.old (decision_of decision) (Took (decision_of decision)) self.new) }
         ensures err { OnErr result (self.new ≡ self.old) }
     {
-        if !is_value(network, x, value) {
+        let Some(decision) = decision_in_range(network, decision) else {
             return Ok(false);
-        }
-        self.record(
-            network,
-            Event::Is {
-                variable: x as u32,
-                value: value as u32,
-            },
-        )?;
+        };
+        self.record(network, Event::Took(decision))?;
         Ok(true)
     }
 
-    /// Decides that `x` has another value, and answers whether both are in range; where they are not, all stays as it
-    /// was. An `Err`, want of memory, leaves all as it was too.
-    pub fn is_not(&mut self, network: &Network, x: u64, value: u64) -> Result<bool, AllocError>
+    /// Goes to the second side of a split: its decision fails. The answer is whether the decision is in range; where it
+    /// is not, all stays as it was. An `Err`, want of memory, leaves all as it was too.
+    pub fn refuse(&mut self, network: &Network, decision: DecisionText) -> Result<bool, AllocError>
         requires { network.now ≡ self.old.network }
         ensures network { self.new.network ≡ self.old.network }
-        ensures ok { IfOk result (IsDecided self.old x value (IsNot x value) self.new) }
+        ensures ok { IfOk result (IsDecided self.old (decision_of decision) (Refused (decision_of decision)) self.new) }
         ensures err { OnErr result (self.new ≡ self.old) }
     {
-        if !is_value(network, x, value) {
+        let Some(decision) = decision_in_range(network, decision) else {
             return Ok(false);
-        }
-        self.record(
-            network,
-            Event::IsNot {
-                variable: x as u32,
-                value: value as u32,
-            },
-        )?;
+        };
+        self.record(network, Event::Refused(decision))?;
         Ok(true)
     }
 

@@ -4,13 +4,13 @@
 //!
 //! - `check` judges a certificate from the bytes of its text; `Check` is its answer. `certificate` goes over the text in
 //!   the order of its lines: `reading` has those before the tree, `best` and `assignment` the best assignment, `nodes`
-//!   those of the tree. `Walk` is the way down and up the tree, with an `Owed` for each split whose second child is
+//!   those of the tree. `Walk` is the way down and up the tree, with an `Owed` for each split whose second side is
 //!   still to come.
-//! - `Ledger` is where one path of the tree stands. It judges a step and makes it, makes decisions, tells whether a leaf
-//!   may be closed, and goes back to a mark. `asked` has which steps of a text are in range, `allowed` what each step
-//!   asks; an `Entry` is one event of the path.
+//! - `Ledger` is where one path of the tree stands. It judges a step and makes it, takes or refuses a decision, tells
+//!   whether a leaf may be closed, and goes back to a mark. `asked` has which steps and decisions of a text are in range,
+//!   `allowed` what each step asks; an `Entry` is one event of the path.
 //! - `Costs` are the tables: the floor, a `Domain` for each variable, `Residuals` for each function. A `Column` has the
-//!   cells of a function that a project or an extend touches.
+//!   cells of a function that a project or an extend touches, a `Side` the values that a decision keeps, or the others.
 #![tactic(auto)]
 
 mod allowed;
@@ -28,6 +28,7 @@ mod nodes;
 mod owed;
 mod reading;
 mod residuals;
+mod side;
 mod walk;
 
 pub use answer::Check;

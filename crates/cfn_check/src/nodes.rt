@@ -2,10 +2,10 @@
 
 ghost use Rattle.std.specs.Prelude.{◌≡◌, ℕ, List, [], ◌∷◌, Option, Some, None, IfOk, IfErr, OnOk, if◌then◌else◌};
 ghost use Rattle.cfn_model.specs.declared.step.Event.{Event as PathEvent};
-ghost use Rattle.cfn_fault.specs.Fault.{Item as NodeItem};
+ghost use Rattle.cfn_fault.specs.Nodes.{Item as NodeItem};
 ghost use Rattle.cfn_fault.specs.Lines as lines;
 ghost use Rattle.cfn_certtext.specs.Reading.{item_of};
-ghost use Rattle.cfn_check.specs.Checking.{InTree, IsDue, IsStop};
+ghost use Rattle.cfn_check.specs.Checking.{InTree, IsDueIn, IsStop};
 ghost use Rattle.cfn_check.specs.Taking.{Takes};
 
 use crate::answer::Stop;
@@ -19,7 +19,7 @@ use std::alloc::AllocError;
 /// Judges the lines of all nodes that are due.
 pub(crate) fn nodes(network: &Network, reader: &mut Reader<'_>, walk: &mut Walk) -> Result<(), Stop>
     requires same { network.now ≡ walk.old.network }
-    requires due { IsDue reader.old (lines.AtNodes walk.old.paths) }
+    requires due { IsDueIn reader.old (λ version. lines.AtNodes version walk.old.paths) }
     ensures text { reader.new.text ≡ reader.old.text }
     ensures nodes { OnOk result ((lower : ℕ) (best : Option ℕ) → InTree network.now reader.old walk.old lower best
         → InTree network.now reader.new walk.new lower best × (walk.new.paths ≡ [])) }
@@ -56,8 +56,8 @@ fn node(network: &Network, walk: &mut Walk, item: Item) -> Result<Option<FaultKi
             let closes = walk.close(network)?;
             Ok(fault_unless(closes, FaultKind::Close))
         }
-        Item::Split { variable, value } => {
-            let splits = walk.split(network, variable, value)?;
+        Item::Split(decision) => {
+            let splits = walk.split(network, decision)?;
             Ok(fault_unless(splits, FaultKind::Range))
         }
         _ => Ok(None),

@@ -1,11 +1,11 @@
-//! A split whose second child is still to come.
+//! A split whose second side is still to come.
 
 use crate::ledger::Mark;
+use cfn_model::Decision;
 
-/// Where the path stood at the split, and what was split.
+/// Where the path stood at the split, and its decision.
 #[derive(Clone, Copy, Debug, PartialEq, Eq)]
 pub(crate) struct Owed {
     pub(crate) mark: Mark,
-    pub(crate) variable: u32,
-    pub(crate) value: u32,
+    pub(crate) decision: Decision,
 }

@@ -1,11 +1,12 @@
 //! The lines of a certificate's text, one after another, up to its tree.
 
 ghost use Rattle.std.specs.Prelude.{◌≡◌, List, [], ◌∷◌, ◌++◌, IfOk, IfErr, OnOk, OnErr, IsTrue, ◌↔◌, length};
+ghost use Rattle.cfn_model.specs.declared.version.Version.{Version};
 ghost use Rattle.cfn_model.specs.Network.{Network as CostNetwork};
 ghost use Rattle.cfn_fault.specs.Lines as lines;
 ghost use Rattle.cfn_fault.specs.Lines.{Line, State};
 ghost use Rattle.cfn_certtext.specs.Reading.{HasRead, Tells};
-ghost use Rattle.cfn_check.specs.Checking.{Right, IsDue, Stops, IsStop, IsAll, front_lines};
+ghost use Rattle.cfn_check.specs.Checking.{Right, IsBegun, IsNumbered, IsBounded, IsDueIn, Stops, IsStop, IsAll};
 
 use crate::answer::Stop;
 use cfn_certtext::{Event, Item, Reader};
@@ -32,8 +33,7 @@ pub(crate) fn next(reader: &mut Reader<'_>) -> Result<Event, Stop>
 /// Reads the line of the version.
 pub(crate) fn version(reader: &mut Reader<'_>) -> Result<(), Stop>
     ensures text { reader.new.text ≡ reader.old.text }
-    ensures right { OnOk result ((P : CostNetwork) → Right P reader.old [] lines.AtVersion
-        → Right P reader.new (lines.Version ∷ []) lines.AtNumbers) }
+    ensures right { OnOk result ((P : CostNetwork) → Right P reader.old [] lines.AtVersion → IsBegun P reader.new) }
     ensures stop { IfErr result (Stops reader.old) }
 {
     let _version = next(reader)?;
@@ -42,9 +42,9 @@ pub(crate) fn version(reader: &mut Reader<'_>) -> Result<(), Stop>
 
 /// Reads the line of the network's numbers, which have to be the network's.
 pub(crate) fn numbers(network: &Network, reader: &mut Reader<'_>) -> Result<(), Stop>
-    requires { Right network.now reader.old (lines.Version ∷ []) lines.AtNumbers }
+    requires { IsBegun network.now reader.old }
     ensures text { reader.new.text ≡ reader.old.text }
-    ensures right { OnOk result (Right network.now reader.new (front_lines network.now) lines.AtLower) }
+    ensures right { OnOk result (IsNumbered network.now reader.new) }
     ensures stop { IfErr result (IsStop network.now reader.old.text) }
 {
     let event = next(reader)?;
@@ -77,10 +77,9 @@ fn has_numbers(network: &Network, variables: u64, functions: u64, upper: u64) ->
 
 /// Reads the line of the lower bound.
 pub(crate) fn lower_bound(reader: &mut Reader<'_>) -> Result<u64, Stop>
-    requires { IsDue reader.old lines.AtLower }
+    requires { IsDueIn reader.old lines.AtLower }
     ensures text { reader.new.text ≡ reader.old.text }
-    ensures right { IfOk result (λ lower. (P : CostNetwork) (ls : List Line) → Right P reader.old ls lines.AtLower
-        → Right P reader.new (ls ++ lines.Lower lower ∷ []) lines.AtBest) }
+    ensures right { IfOk result (λ lower. (P : CostNetwork) → IsNumbered P reader.old → IsBounded P reader.new lower) }
     ensures stop { IfErr result (Stops reader.old) }
 {
     let event = next(reader)?;
@@ -93,8 +92,9 @@ pub(crate) fn lower_bound(reader: &mut Reader<'_>) -> Result<u64, Stop>
 /// Reads the line that begins the tree.
 pub(crate) fn root(reader: &mut Reader<'_>) -> Result<(), Stop>
     ensures text { reader.new.text ≡ reader.old.text }
-    ensures right { OnOk result ((P : CostNetwork) (ls : List Line) → Right P reader.old ls lines.AtRoot
-        → Right P reader.new (ls ++ lines.Root ∷ []) (lines.AtNodes ([] ∷ []))) }
+    ensures right { OnOk result ((P : CostNetwork) (ls : List Line) (version : Version)
+        → Right P reader.old ls (lines.AtRoot version)
+        → Right P reader.new (ls ++ lines.Root ∷ []) (lines.AtNodes version ([] ∷ []))) }
     ensures stop { IfErr result (Stops reader.old) }
 {
     let _root = next(reader)?;
@@ -104,10 +104,10 @@ pub(crate) fn root(reader: &mut Reader<'_>) -> Result<(), Stop>
 /// Reads the last line, behind which nothing may stand.
 pub(crate) fn end(reader: &mut Reader<'_>) -> Result<(), Stop>
     ensures text { reader.new.text ≡ reader.old.text }
-    ensures right { OnOk result ((P : CostNetwork) (ls : List Line) → Right P reader.old ls (lines.AtNodes [])
-        → IsAll P reader.old.text (ls ++ lines.End ∷ [])) }
-    ensures stop { IfErr result (λ stop. (P : CostNetwork) (ls : List Line) → Right P reader.old ls (lines.AtNodes [])
-        → IsStop P reader.old.text stop) }
+    ensures right { OnOk result ((P : CostNetwork) (ls : List Line) (version : Version)
+        → Right P reader.old ls (lines.AtNodes version []) → IsAll P reader.old.text (ls ++ lines.End ∷ [])) }
+    ensures stop { IfErr result (λ stop. (P : CostNetwork) (ls : List Line) (version : Version)
+        → Right P reader.old ls (lines.AtNodes version []) → IsStop P reader.old.text stop) }
 {
     let _end = next(reader)?;
     let _over = next(reader)?;

@@ -1,7 +1,7 @@
 ghost use Rattle.std.specs.Prelude.{◌≡◌, IfOk};
 
 use crate::{Check, Judged, Ledger, check};
-use cfn_certtext::StepText;
+use cfn_certtext::{DecisionText, StepText};
 use cfn_fault::FaultKind;
 use cfn_net::{Builder, Network};
 use std::alloc::{AllocError, Global};
@@ -61,6 +61,14 @@ fn cut(variable: u64, value: u64) -> StepText {
 
 fn cut_tuple(function: u64, cell: u64) -> StepText {
     StepText::CutTuple { function, cell }
+}
+
+fn is(variable: u64, value: u64) -> DecisionText {
+    DecisionText::Is { variable, value }
+}
+
+fn most(variable: u64, value: u64) -> DecisionText {
+    DecisionText::Most { variable, value }
 }
 
 /// Judges steps one after another, and answers whether this becomes of each of them.
@@ -129,12 +137,12 @@ fn both_sides_close(rt: HostRuntime) -> Result<(), Fail> {
     let network = tri(&rt)?;
     let mut ledger = Ledger::make(rt.alloc(), &network)?;
     let root = ledger.mark();
-    assert!(rt; ledger.is(&network, 0, 0)?);
+    assert!(rt; ledger.take(&network, is(0, 0))?);
     assert!(rt; closes_side(&mut ledger, &network, 0, 1)?);
     assert!(rt; root.events <= ledger.mark().events);
     ledger.undo(&network, root);
     assert!(rt; !ledger.can_close(1));
-    assert!(rt; ledger.is_not(&network, 0, 0)?);
+    assert!(rt; ledger.refuse(&network, is(0, 0))?);
     assert!(rt; closes_side(&mut ledger, &network, 1, 0)?);
     assert!(rt; root.events <= ledger.mark().events);
     ledger.undo(&network, root);
@@ -196,8 +204,10 @@ fn numbers_out_of_range(rt: HostRuntime) -> Result<(), Fail> {
         cut_tuple(0, 2),
     ];
     assert!(rt; all_are(Judged::Range, &mut ledger, &network, 0, &steps)?);
-    assert!(rt; !ledger.is(&network, far, 0)?);
-    assert!(rt; !ledger.is_not(&network, 0, far)?);
+    assert!(rt; !ledger.take(&network, is(far, 0))?);
+    assert!(rt; !ledger.refuse(&network, is(0, far))?);
+    assert!(rt; !ledger.take(&network, most(0, 2))?);
+    assert!(rt; !ledger.refuse(&network, most(1, 0))?);
     assert_eq!(rt; ledger.mark().events, 0);
     Ok(())
 }
@@ -348,6 +358,45 @@ fn both_sides_of_a_split_are_judged(rt: HostRuntime) -> Result<(), Fail> {
         check(rt.alloc(), &network, half)?,
         refused(FaultKind::Text, 15)
     );
+    Ok(())
+}
+
+#[test]
+fn both_sides_of_a_bound_are_judged(rt: HostRuntime) -> Result<(), Fail> {
+    let network = tiny(&rt)?;
+    let text =
+        b"wcspcert 2\nnetwork 1 1 10\nlower 1\nbest 1\nvalues 1\ntree\npart 0 0\np 0 0 0 3\nu 0 3\nclosed\np 0 0 1 1\nu 0 1\nclosed\nend\n";
+    assert_eq!(rt; check(rt.alloc(), &network, text)?, VERIFIED);
+    let first =
+        b"wcspcert 1\nnetwork 1 1 10\nlower 1\nbest 1\nvalues 1\ntree\npart 0 0\np 0 0 0 3\nu 0 3\nclosed\np 0 0 1 1\nu 0 1\nclosed\nend\n";
+    assert_eq!(rt;
+        check(rt.alloc(), &network, first)?,
+        refused(FaultKind::Text, 7)
+    );
+    let range =
+        b"wcspcert 2\nnetwork 1 1 10\nlower 1\nbest 1\nvalues 1\ntree\npart 0 2\np 0 0 0 3\nu 0 3\nclosed\np 0 0 1 1\nu 0 1\nclosed\nend\n";
+    assert_eq!(rt;
+        check(rt.alloc(), &network, range)?,
+        refused(FaultKind::Range, 7)
+    );
+    Ok(())
+}
+
+#[test]
+fn undo_takes_a_bound_back(rt: HostRuntime) -> Result<(), Fail> {
+    let network = tiny(&rt)?;
+    let mut ledger = Ledger::make(rt.alloc(), &network)?;
+    let root = ledger.mark();
+    assert!(rt; ledger.refuse(&network, most(0, 1))?);
+    assert!(rt; ledger.can_close(1));
+    assert!(rt; root.events <= ledger.mark().events);
+    ledger.undo(&network, root);
+    assert!(rt; ledger.take(&network, most(0, 1))?);
+    assert!(rt; !ledger.can_close(1));
+    assert!(rt; ledger.take(&network, most(0, 0))?);
+    assert!(rt; !ledger.can_close(1));
+    assert!(rt; ledger.refuse(&network, is(0, 0))?);
+    assert!(rt; ledger.can_close(1));
     Ok(())
 }
 

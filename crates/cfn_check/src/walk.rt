@@ -2,21 +2,21 @@
 
 ghost use Rattle.std.specs.Prelude.{◌≡◌, ℕ, ◌<◌, ◌≤◌, ◌↔◌, List, [], ◌∷◌, IfOk, OnOk, IsTrue};
 ghost use Rattle.cfn_model.specs.declared.step.Event.{Event};
-ghost use Rattle.cfn_certtext.specs.Reading.{step_of};
+ghost use Rattle.cfn_certtext.specs.Reading.{step_of, decision_of};
 ghost use Rattle.cfn_fault.specs.Fault.{refusal_of};
 ghost use Rattle.cfn_check.specs.Walking.{Steps, Opens, Closes, Splits, fault_of, with_paths};
 
-use crate::asked::{Judged, is_value};
+use crate::asked::{Judged, decision_in_range};
 use crate::ledger::Ledger;
 use crate::owed::Owed;
-use cfn_certtext::StepText;
+use cfn_certtext::{DecisionText, StepText};
 use cfn_fault::FaultKind;
 use cfn_model::Event as PathEvent;
 use cfn_net::Network;
 use std::alloc::{AllocError, Global};
 use std::marker::Model;
 
-/// A path down a tree with the splits on it that still owe their second child. Contracts see the paths to all nodes
+/// A path down a tree with the splits on it that still owe their second side. Contracts see the paths to all nodes
 /// that are due, the next one first. It takes memory for the tables, the path's events, and the splits on it.
 #[derive(Drop)]
 pub(crate) struct Walk {
@@ -116,30 +116,23 @@ impl Walk {
         Ok(true)
     }
 
-    /// The node that is due is a split. The answer is whether it is in range.
+    /// The node that is due is a split. The answer is whether its decision is in range.
     pub(crate) fn split(
         &mut self,
         network: &Network,
-        x: u64,
-        value: u64,
+        decision: DecisionText,
     ) -> Result<bool, AllocError>
         requires { network.now ≡ self.old.network }
         ensures network { self.new.network ≡ self.old.network }
         ensures splits { IfOk result (λ answer. (history : List Event) (paths : List (List Event))
-            → self.old.paths ≡ history ∷ paths → Splits self.old self.new x value history paths answer) }
+            → self.old.paths ≡ history ∷ paths → Splits self.old self.new (decision_of decision) history paths answer) }
     {
-        if !is_value(network, x, value) {
+        let Some(decision) = decision_in_range(network, decision) else {
             return Ok(false);
-        }
-        let (variable, value) = (x as u32, value as u32);
+        };
         let mark = self.ledger.mark();
-        self.ledger
-            .record(network, PathEvent::Is { variable, value })?;
-        self.owed.push(Owed {
-            mark,
-            variable,
-            value,
-        })?;
+        self.ledger.record(network, PathEvent::Took(decision))?;
+        self.owed.push(Owed { mark, decision })?;
         Ok(true)
     }
 
@@ -154,14 +147,9 @@ impl Walk {
             self.over = true;
             return Ok(());
         };
-        let Owed {
-            mark,
-            variable,
-            value,
-        } = owed;
+        let Owed { mark, decision } = owed;
         self.ledger.undo(network, mark);
-        self.ledger
-            .record(network, PathEvent::IsNot { variable, value })?;
+        self.ledger.record(network, PathEvent::Refused(decision))?;
         Ok(())
     }
 }

@@ -8,8 +8,9 @@ use Rattle.cfn_model.specs.declared.step.Step.{Step}
 use Rattle.cfn_model.specs.Words.{with_first}
 use Rattle.cfn_model.specs.Tree.{Tree, Open, Closed, Split}
 use Rattle.cfn_model.specs.Certificate.{Solution, Certificate}
-use Rattle.cfn_model.specs.Text.{text, step_words, split_words, tree_lines, best_lines, certificate_lines, spelling, IsSpelled}
-use Rattle.cfn_fault.specs.Fault.{lines, line_at, Begins, NoneBeginsWith, TextFault, Makes, LeavesOpen, Closes, Splits}
+use Rattle.cfn_model.specs.Text.{text, step_words, decision_words, version_word, tree_lines, best_lines, certificate_lines, spelling, IsSpelled}
+use Rattle.cfn_fault.specs.Nodes.{Makes, LeavesOpen, Closes, Splits}
+use Rattle.cfn_fault.specs.Fault.{lines, line_at, Begins, NoneBeginsWith, TextFault}
 use Rattle.cfn_fault.specs.Lines.{Line, Version, Numbers, Lower, Root, Node, End, words_of, bytes_of, text_of, IsSpelledLine, lines_of_tree, lines_of_best, lines_of, State, AtVersion, AtOver, Follows, Runs}
 use Rattle.cfn_fault.specs.Decoding.{line_of}
 use Rattle.cfn_fault.proofs.Running.{same_end, run_split, runs_certificate, spelled_lines, spelled_front, spelled_back, begun}
@@ -27,9 +28,9 @@ before_end block rest = map-append words_of (map (λ step. Node (Makes step)) bl
 tree_words : (tree : Tree) → map words_of (lines_of_tree tree) ≡ tree_lines tree
 tree_words (Open block) = before_end block (Node LeavesOpen ∷ [])
 tree_words (Closed block) = before_end block (Node Closes ∷ [])
-tree_words (Split block x a first second) =
-    before_end block (Node (Splits x a) ∷ (lines_of_tree first ++ lines_of_tree second))
-    ∙ ap (λ r. map step_words block ++ split_words x a ∷ r) (map-append words_of (lines_of_tree first) (lines_of_tree second) ∙ ap₂ (λ a b. a ++ b) (tree_words first) (tree_words second))
+tree_words (Split block d first second) =
+    before_end block (Node (Splits d) ∷ (lines_of_tree first ++ lines_of_tree second))
+    ∙ ap (λ r. map step_words block ++ decision_words d ∷ r) (map-append words_of (lines_of_tree first) (lines_of_tree second) ∙ ap₂ (λ a b. a ++ b) (tree_words first) (tree_words second))
 
 best_words : (best : Option Solution) → map words_of (lines_of_best best) ≡ best_lines best
 best_words None = refl
@@ -37,8 +38,8 @@ best_words (Some best) = refl
 
 pub certificate_words : (c : Certificate) → map words_of (lines_of c) ≡ certificate_lines c
 certificate_words c =
-    map-append words_of (Version ∷ Numbers c.variables c.functions c.upper ∷ Lower c.lower ∷ lines_of_best c.best) (Root ∷ (lines_of_tree c.tree ++ End ∷ []))
-    ∙ ap₂ (λ a b. ((codes "wcspcert" ∷ codes "1" ∷ []) ∷ words_of (Numbers c.variables c.functions c.upper) ∷ words_of (Lower c.lower) ∷ a) ++ (codes "tree" ∷ []) ∷ b) (best_words c.best)
+    map-append words_of (Version c.version ∷ Numbers c.variables c.functions c.upper ∷ Lower c.lower ∷ lines_of_best c.best) (Root ∷ (lines_of_tree c.tree ++ End ∷ []))
+    ∙ ap₂ (λ a b. ((codes "wcspcert" ∷ version_word c.version ∷ []) ∷ words_of (Numbers c.variables c.functions c.upper) ∷ words_of (Lower c.lower) ∷ a) ++ (codes "tree" ∷ []) ∷ b) (best_words c.best)
     (map-append words_of (lines_of_tree c.tree) (End ∷ []) ∙ ap (λ t. t ++ (codes "end" ∷ []) ∷ []) (tree_words c.tree))
 
 text_words : (ls : List Line) → text (map words_of ls) ≡ text_of ls
@@ -118,7 +119,7 @@ pub none_begins : (bytes rest : List ℕ) (ls : List Line) (s : State) → Runs 
 none_begins bytes rest ls s run spelled is no_line more c all begins =
     let front = front_of_lines c bytes rest ls (length ls + 1) all spelled is (omega arith) begins in
     let P : List Line → Type 0 = λ x. Runs AtVersion x AtOver in
-    let whole = run_split AtVersion AtOver ls front.rest (subst P front.whole (runs_certificate c)) in
+    let whole = run_split AtVersion AtOver ls front.rest (subst P front.whole (runs_certificate c all)) in
     let Q : State → Type 0 = λ x. Runs x front.rest AtOver in
     let behind = subst Q (same_end AtVersion whole.0 s ls whole.1 run) whole.2 in
     let here : slice_index_or (map bytes_of front.rest) 0 [] ≡ line_at rest 0 =

@@ -5,9 +5,12 @@ use Rattle.std.proofs.lemmas.List.{append_cancel_right}
 use Rattle.std.specs.Prelude.{decimal, map, not, ◌&&◌, ◌==◌, nat_le}
 use Rattle.std.specs.List.{AllByRecursion, list_all}
 use Rattle.cfn_model.specs.declared.step.Step.TheVariants.{Project, Extend, Lift, CutValue, CutTuple}
+use Rattle.cfn_model.specs.declared.step.Decision.TheVariants.{Is, Most}
+use Rattle.cfn_model.specs.declared.version.Version.TheVariants.{First, Second}
 use Rattle.cfn_model.specs.Words.{greatest, is_digit, with_first}
 use Rattle.cfn_model.specs.Text.{line}
-use Rattle.cfn_fault.specs.Fault.{lines, Makes, LeavesOpen, Closes, Splits}
+use Rattle.cfn_fault.specs.Nodes.{Makes, LeavesOpen, Closes, Splits}
+use Rattle.cfn_fault.specs.Fault.{lines}
 use Rattle.cfn_fault.specs.Lines.{Line, Version, Numbers, Lower, NoBest, Best, Values, Root, Node, End, words_of, bytes_of, text_of, IsSpelledLine}
 use Rattle.cfn_fault.specs.Decoding.{words_in}
 use Rattle.cfn_fault.proofs.Numerals.{decimal_digits}
@@ -51,7 +54,8 @@ clean_numbers [] all = tt
 clean_numbers (a ∷ values) all = (decimal_clean a all.0, clean_numbers values all.1)
 
 pub clean_words : (l : Line) → IsSpelledLine l → AllByRecursion IsClean (words_of l)
-clean_words Version h = (refl, (refl, tt))
+clean_words (Version First) h = (refl, (refl, tt))
+clean_words (Version Second) h = (refl, (refl, tt))
 clean_words (Numbers n e upper) h = (refl, (decimal_clean n h.0, (decimal_clean e h.1, (decimal_clean upper h.2, tt))))
 clean_words (Lower lower) h = (refl, (decimal_clean lower h, tt))
 clean_words NoBest h = (refl, (refl, tt))
@@ -65,7 +69,8 @@ clean_words (Node (Makes (CutValue x a))) h = (refl, (decimal_clean x h.0, (deci
 clean_words (Node (Makes (CutTuple f c))) h = (refl, (decimal_clean f h.0, (decimal_clean c h.1, tt)))
 clean_words (Node LeavesOpen) h = (refl, tt)
 clean_words (Node Closes) h = (refl, tt)
-clean_words (Node (Splits x a)) h = (refl, (decimal_clean x h.0, (decimal_clean a h.1, tt)))
+clean_words (Node (Splits (Is x a))) h = (refl, (decimal_clean x h.0, (decimal_clean a h.1, tt)))
+clean_words (Node (Splits (Most x v))) h = (refl, (decimal_clean x h.0, (decimal_clean v h.1, tt)))
 clean_words End h = (refl, tt)
 
 -- what stands before the LF of a line
@@ -132,7 +137,7 @@ line_back (b ∷ bytes) =
 
 -- each line has a first word
 pub first_of_line : (l : Line) → (word : List ℕ) × (words : List (List ℕ)) × (words_of l ≡ word ∷ words)
-first_of_line Version = (_, _, refl)
+first_of_line (Version version) = (_, _, refl)
 first_of_line (Numbers n e upper) = (_, _, refl)
 first_of_line (Lower lower) = (_, _, refl)
 first_of_line NoBest = (_, _, refl)
@@ -146,7 +151,8 @@ first_of_line (Node (Makes (CutValue x a))) = (_, _, refl)
 first_of_line (Node (Makes (CutTuple f c))) = (_, _, refl)
 first_of_line (Node LeavesOpen) = (_, _, refl)
 first_of_line (Node Closes) = (_, _, refl)
-first_of_line (Node (Splits x a)) = (_, _, refl)
+first_of_line (Node (Splits (Is x a))) = (_, _, refl)
+first_of_line (Node (Splits (Most x v))) = (_, _, refl)
 first_of_line End = (_, _, refl)
 
 -- a spelled line, as what stands before its LF

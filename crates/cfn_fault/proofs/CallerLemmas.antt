@@ -1,5 +1,5 @@
 -- What the crates above cite of the proofs here.
-pub use Rattle.cfn_fault.proofs.Running.{run_one_more, spelled_append, spelled_back, spelled_lines}
+pub use Rattle.cfn_fault.proofs.Running.{has_node, no_node_due, node_follows, run_one_more, spelled_append, spelled_back, spelled_lines}
 pub use Rattle.cfn_fault.proofs.Decoding.{said_by, says}
 pub use Rattle.cfn_fault.proofs.Bytes.{HasNoEnd, fronted, line_back, lines_first, lines_last, same_words, words_some}
 pub use Rattle.cfn_fault.proofs.Beginning.{first_line, front_of_lines, none_begins, some_bytes, some_rest, spelling_is, text_append, text_fails}

@@ -6,21 +6,27 @@ use Rattle.std.specs.Prelude.{Option, Some, None, ℤ, pos, negsuc, ◌≤ℤ◌
 use Rattle.std.specs.List.{list_all}
 use Rattle.cfn_model.specs.declared.step.Step.{Step}
 use Rattle.cfn_model.specs.declared.step.Step.TheVariants.{Project, Extend, Lift, CutValue, CutTuple}
+use Rattle.cfn_model.specs.declared.step.Decision.{Decision}
+use Rattle.cfn_model.specs.declared.step.Decision.TheVariants.{Is, Most}
 use Rattle.cfn_model.specs.declared.step.Event.{Event}
+use Rattle.cfn_model.specs.declared.version.Version as versions
+use Rattle.cfn_model.specs.declared.version.Version.TheVariants.{First, Second}
+use Rattle.cfn_model.specs.Decisions.{variable_of, value_of}
 use Rattle.cfn_model.specs.Network.{Network, Fits, cost, cells, cell, arity, variable_at, dims_at}
 use Rattle.cfn_model.specs.Sums.{floor, unary, residual, is_live, is_live_tuple}
 use Rattle.cfn_model.specs.Steps.{IsValue, IsPlace, IsCell, InRange, Allowed}
 use Rattle.cfn_model.specs.Tree.{CanClose}
 use Rattle.cfn_model.specs.Certificate.{Certificate, Good}
-use Rattle.cfn_model.specs.Text.{line, Spells}
+use Rattle.cfn_model.specs.Text.{line, HasDecision, Spells}
 use Rattle.cfn_fault.specs.declared.kind.FaultKind.{FaultKind}
 use Rattle.cfn_fault.specs.declared.kind.FaultKind.TheVariants as kinds
-use Rattle.cfn_fault.specs.Fault.{lines, line_at, Item, Makes, LeavesOpen, Closes, Splits, refusal_of, OutOfRange, NotAllowed, FailsPlace, Fault}
-use Rattle.cfn_fault.specs.Lines.{Line, Version, Numbers, Lower, NoBest, Best, Values, Root, Node, End, bytes_of, text_of, IsSpelledLine, State, AtVersion, AtNumbers, AtLower, AtBest, AtValues, AtRoot, AtNodes, AtOver, paths_after, Follows, VersionFollows, NumbersFollow, LowerFollows, NoBestFollows, BestFollows, ValuesFollow, RootFollows, NodeFollows, EndFollows}
+use Rattle.cfn_fault.specs.Nodes.{Item, Makes, LeavesOpen, Closes, Splits, HasItem, paths_after}
+use Rattle.cfn_fault.specs.Fault.{lines, line_at, refusal_of, OutOfRange, NotAllowed, FailsPlace, Fault}
+use Rattle.cfn_fault.specs.Lines.{Line, Version, Numbers, Lower, NoBest, Best, Values, Root, Node, End, bytes_of, text_of, IsSpelledLine, State, AtVersion, AtNumbers, AtLower, AtBest, AtValues, AtRoot, AtNodes, AtOver, Follows, VersionFollows, NumbersFollow, LowerFollows, NoBestFollows, BestFollows, ValuesFollow, RootFollows, EndFollows}
 use Rattle.cfn_fault.specs.Decoding.{words_in, line_of}
 use Rattle.cfn_fault.specs.Judging.{threshold_in, NodeFails, LineFails, PassesPlace, NodePasses, LinePasses, AllPass, lower_in, bound_in}
 use Rattle.cfn_fault.specs.Laws.{GoodOrFault, Fronts}
-use Rattle.cfn_fault.proofs.Running.{run_one_more, spelled_append}
+use Rattle.cfn_fault.proofs.Running.{has_node, no_node_due, node_follows, run_one_more, spelled_append}
 use Rattle.cfn_fault.proofs.Decoding.{says, said_by}
 use Rattle.cfn_fault.proofs.Bytes.{HasNoEnd, line_back, same_words, lines_first, lines_last, fronted}
 use Rattle.cfn_fault.proofs.Beginning.{some_bytes, first_line, some_rest, none_begins, text_append}
@@ -159,21 +165,21 @@ right_place P k history (Makes step) = elim (allowed P history k step) [
 ]
 right_place P k history LeavesOpen = inl tt
 right_place P k history Closes = elim (can_close P history k) [ inl may ↦ inl may | inr not ↦ inr (kinds.Close, (refl, not)) ]
-right_place P k history (Splits x a) = elim (is_value P x a) [ inl is ↦ inl is | inr not ↦ inr (kinds.Range, (refl, not)) ]
+right_place P k history (Splits d) = elim (is_value P (variable_of d) (value_of d)) [ inl is ↦ inl is | inr not ↦ inr (kinds.Range, (refl, not)) ]
 
 right_node : (P : Network) (k : ℕ) (s : State) (item : Item) → NodePasses P k s item ⊎ ((kind : FaultKind) × NodeFails P k s item kind)
-right_node P k (AtNodes (history ∷ paths)) item = right_place P k history item
-right_node P k (AtNodes []) item = inl tt
+right_node P k (AtNodes version (history ∷ paths)) item = right_place P k history item
+right_node P k (AtNodes version []) item = inl tt
 right_node P k AtVersion item = inl tt
-right_node P k AtNumbers item = inl tt
-right_node P k AtLower item = inl tt
-right_node P k AtBest item = inl tt
-right_node P k AtValues item = inl tt
-right_node P k AtRoot item = inl tt
+right_node P k (AtNumbers version) item = inl tt
+right_node P k (AtLower version) item = inl tt
+right_node P k (AtBest version) item = inl tt
+right_node P k (AtValues version) item = inl tt
+right_node P k (AtRoot version) item = inl tt
 right_node P k AtOver item = inl tt
 
 right_line : (P : Network) (front : List Line) (s : State) (l : Line) → LinePasses P front s l ⊎ ((kind : FaultKind) × LineFails P front s l kind)
-right_line P front s Version = inl tt
+right_line P front s (Version version) = inl tt
 right_line P front s (Numbers n e upper) = elim (three (cases_eq n (length P.sizes)) (cases_eq e (length P.functions)) (cases_eq upper P.upper)) [ inl same ↦ inl same | inr other ↦ inr (kinds.Network, (refl, other)) ]
 right_line P front s (Lower lower) = inl tt
 right_line P front s NoBest = inl tt
@@ -187,25 +193,45 @@ right_line P front s End = inl tt
 Followed : State → Line → Type 0
 Followed s l = ((t : State) × Follows s l t) ⊎ ((t : State) → Follows s l t → ⊥)
 
+has_decision : (version : versions.Version) (d : Decision) → Decided (HasDecision version d)
+has_decision First (Is x a) = inl tt
+has_decision First (Most x v) = inr (λ h. h)
+has_decision Second (Is x a) = inl tt
+has_decision Second (Most x v) = inl tt
+
+has_item : (version : versions.Version) (item : Item) → Decided (HasItem version item)
+has_item version (Makes step) = inl tt
+has_item version LeavesOpen = inl tt
+has_item version Closes = inl tt
+has_item version (Splits d) = has_decision version d
+
+node_may_follow : (version : versions.Version) (history : List Event) (paths : List (List Event)) (item : Item) → Followed (AtNodes version (history ∷ paths)) (Node item)
+unfolding Followed
+node_may_follow version history paths item = elim (has_item version item) [
+  | inl has ↦ inl (AtNodes version (paths_after history item ++ paths), node_follows has)
+  | inr not ↦ inr (λ t follows. not (has_node follows))
+]
+
 may_follow : (s : State) (l : Line) → Followed s l
 unfolding Followed
-may_follow AtVersion Version = inl (AtNumbers, VersionFollows)
+may_follow AtVersion (Version version) = inl (AtNumbers version, VersionFollows)
 may_follow AtVersion _ = inr (λ t follows. elim follows [ ])
-may_follow AtNumbers (Numbers n e upper) = inl (AtLower, NumbersFollow)
-may_follow AtNumbers _ = inr (λ t follows. elim follows [ ])
-may_follow AtLower (Lower lower) = inl (AtBest, LowerFollows)
-may_follow AtLower _ = inr (λ t follows. elim follows [ ])
-may_follow AtBest NoBest = inl (AtRoot, NoBestFollows)
-may_follow AtBest (Best cost) = inl (AtValues, BestFollows)
-may_follow AtBest _ = inr (λ t follows. elim follows [ ])
-may_follow AtValues (Values values) = inl (AtRoot, ValuesFollow)
-may_follow AtValues _ = inr (λ t follows. elim follows [ ])
-may_follow AtRoot Root = inl (AtNodes ([] ∷ []), RootFollows)
-may_follow AtRoot _ = inr (λ t follows. elim follows [ ])
-may_follow (AtNodes []) End = inl (AtOver, EndFollows)
-may_follow (AtNodes []) _ = inr (λ t follows. elim follows [ ])
-may_follow (AtNodes (history ∷ paths)) (Node item) = inl (AtNodes (paths_after history item ++ paths), NodeFollows)
-may_follow (AtNodes (history ∷ paths)) _ = inr (λ t follows. elim follows [ ])
+may_follow (AtNumbers version) (Numbers n e upper) = inl (AtLower version, NumbersFollow)
+may_follow (AtNumbers version) _ = inr (λ t follows. elim follows [ ])
+may_follow (AtLower version) (Lower lower) = inl (AtBest version, LowerFollows)
+may_follow (AtLower version) _ = inr (λ t follows. elim follows [ ])
+may_follow (AtBest version) NoBest = inl (AtRoot version, NoBestFollows)
+may_follow (AtBest version) (Best cost) = inl (AtValues version, BestFollows)
+may_follow (AtBest version) _ = inr (λ t follows. elim follows [ ])
+may_follow (AtValues version) (Values values) = inl (AtRoot version, ValuesFollow)
+may_follow (AtValues version) _ = inr (λ t follows. elim follows [ ])
+may_follow (AtRoot version) Root = inl (AtNodes version ([] ∷ []), RootFollows)
+may_follow (AtRoot version) _ = inr (λ t follows. elim follows [ ])
+may_follow (AtNodes version []) End = inl (AtOver, EndFollows)
+may_follow (AtNodes version []) (Node item) = inr (λ t follows. no_node_due follows)
+may_follow (AtNodes version []) _ = inr (λ t follows. elim follows [ ])
+may_follow (AtNodes version (history ∷ paths)) (Node item) = node_may_follow version history paths item
+may_follow (AtNodes version (history ∷ paths)) _ = inr (λ t follows. elim follows [ ])
 may_follow AtOver _ = inr (λ t follows. elim follows [ ])
 
 -- the first LF of the rest
@@ -304,12 +330,12 @@ whole_judged P bytes ls fronts all =
 
 pub is_over : (s : State) → Decided (s ≡ AtOver)
 is_over AtVersion = inr (λ e. absurd (cc))
-is_over AtNumbers = inr (λ e. absurd (cc))
-is_over AtLower = inr (λ e. absurd (cc))
-is_over AtBest = inr (λ e. absurd (cc))
-is_over AtValues = inr (λ e. absurd (cc))
-is_over AtRoot = inr (λ e. absurd (cc))
-is_over (AtNodes paths) = inr (λ e. absurd (cc))
+is_over (AtNumbers version) = inr (λ e. absurd (cc))
+is_over (AtLower version) = inr (λ e. absurd (cc))
+is_over (AtBest version) = inr (λ e. absurd (cc))
+is_over (AtValues version) = inr (λ e. absurd (cc))
+is_over (AtRoot version) = inr (λ e. absurd (cc))
+is_over (AtNodes version paths) = inr (λ e. absurd (cc))
 is_over AtOver = inl refl
 
 no_text : (P : Network) (bytes rest : List ℕ) (ls : List Line) (s : State) → Fronts bytes rest ls s → AllPass P ls → NoNext rest s → (s ≡ AtOver → line_at rest 0 ≡ [] → ⊥) → Judged P bytes

@@ -6,10 +6,14 @@ use Rattle.std.specs.Prelude.{Option, Some, None, decimal, map, codes, ◌==◌,
 use Rattle.std.specs.List.{AllByRecursion, list_all}
 use Rattle.std.specs.Str.{bytes_eq}
 use Rattle.cfn_model.specs.declared.step.Step.TheVariants.{Project, Extend, Lift, CutValue, CutTuple}
+use Rattle.cfn_model.specs.declared.step.Decision.TheVariants.{Is, Most}
+use Rattle.cfn_model.specs.declared.version.Version as versions
+use Rattle.cfn_model.specs.declared.version.Version.TheVariants.{First, Second}
 use Rattle.cfn_model.specs.Words.{greatest, is_digit}
-use Rattle.cfn_fault.specs.Fault.{Item, Makes, LeavesOpen, Closes, Splits}
+use Rattle.cfn_model.specs.Text.{version_word}
+use Rattle.cfn_fault.specs.Nodes.{Item, Makes, LeavesOpen, Closes, Splits}
 use Rattle.cfn_fault.specs.Lines.{Line, Version, Numbers, Lower, NoBest, Best, Values, Root, Node, End, words_of, IsSpelledLine}
-use Rattle.cfn_fault.specs.Decoding.{◌>>=◌, numeral, with_rest, number_from, amount_from, at_end, numbers_in, numbers_line, lower_line, best_line, are_values, version_line, project_line, extend_line, lift_line, value_line, tuple_line, split_line, node_line, item_line, line_by, line_of}
+use Rattle.cfn_fault.specs.Decoding.{◌>>=◌, numeral, with_rest, number_from, amount_from, at_end, numbers_in, numbers_line, lower_line, best_line, are_values, version_of, version_line, project_line, extend_line, lift_line, value_line, tuple_line, split_line, part_line, node_line, item_line, line_by, line_of}
 use Rattle.cfn_fault.proofs.Numerals.{numeral_of_decimal, numeral_is, decimal_digits, chose, chose_other, chose_either}
 
 -- the words of a line whose numbers have a spelling say that line
@@ -35,7 +39,7 @@ values_say [] some all = absurd (omega arith)
 values_say (a ∷ values) some all = rw (numbers (a ∷ values) all) refl
 
 item_says : (item : Item) → IsSpelledLine (Node item) → line_of (words_of (Node item)) ≡ Some (Node item)
-unfolding line_of line_by item_line node_line project_line extend_line lift_line value_line tuple_line split_line
+unfolding line_of line_by item_line node_line project_line extend_line lift_line value_line tuple_line split_line part_line
 item_says (Makes (Project f i a m)) h = rw (number f (decimal i ∷ decimal a ∷ decimal m ∷ []) h.0, number i (decimal a ∷ decimal m ∷ []) h.1, number a (decimal m ∷ []) h.2, amount m [] h.3 h.4) refl
 item_says (Makes (Extend f i a m)) h = rw (number f (decimal i ∷ decimal a ∷ decimal m ∷ []) h.0, number i (decimal a ∷ decimal m ∷ []) h.1, number a (decimal m ∷ []) h.2, amount m [] h.3 h.4) refl
 item_says (Makes (Lift x m)) h = rw (number x (decimal m ∷ []) h.0, amount m [] h.1 h.2) refl
@@ -43,11 +47,13 @@ item_says (Makes (CutValue x a)) h = rw (number x (decimal a ∷ []) h.0, number
 item_says (Makes (CutTuple f c)) h = rw (number f (decimal c ∷ []) h.0, number c [] h.1) refl
 item_says LeavesOpen h = refl
 item_says Closes h = refl
-item_says (Splits x a) h = rw (number x (decimal a ∷ []) h.0, number a [] h.1) refl
+item_says (Splits (Is x a)) h = rw (number x (decimal a ∷ []) h.0, number a [] h.1) refl
+item_says (Splits (Most x v)) h = rw (number x (decimal v ∷ []) h.0, number v [] h.1) refl
 
 pub says : (l : Line) → IsSpelledLine l → line_of (words_of l) ≡ Some l
-unfolding line_of line_by item_line version_line numbers_line lower_line best_line
-says Version h = refl
+unfolding line_of line_by item_line version_of version_line numbers_line lower_line best_line
+says (Version First) h = refl
+says (Version Second) h = refl
 says (Numbers n e upper) h = rw (number n (decimal e ∷ decimal upper ∷ []) h.0, number e (decimal upper ∷ []) h.1, number upper [] h.2) refl
 says (Lower lower) h = rw (number lower [] h) refl
 says NoBest h = refl
@@ -116,14 +122,23 @@ three key words second third fourth a b c ta tb tc none = ap (λ w. key ∷ w) (
 four : (key : List ℕ) (words second third fourth fifth : List (List ℕ)) (a b c d : ℕ) → Took words a second → Took second b third → Took third c fourth → Took fourth d fifth → fifth ≡ [] → key ∷ words ≡ key ∷ decimal a ∷ decimal b ∷ decimal c ∷ decimal d ∷ []
 four key words second third fourth fifth a b c d ta tb tc td none = ap (λ w. key ∷ w) (ta.first ∙ ap (λ w. decimal a ∷ w) (tb.first ∙ ap (λ w. decimal b ∷ w) (tc.first ∙ ap (λ w. decimal c ∷ w) (td.first ∙ ap (λ w. decimal d ∷ w) none))))
 
+version_named : (word : List ℕ) (version : versions.Version) → version_of word ≡ Some version → word ≡ version_word version
+unfolding version_of
+version_named word version e = elim (chose_either (bytes_eq word (codes "1")) (Some First) (if bytes_eq word (codes "2") then Some Second else None) version e) [
+  | inl c ↦ named First c.0 c.1
+  | inr c ↦ let d = chose (bytes_eq word (codes "2")) (Some Second) version c.1 in named Second d.0 d.1
+]
+  where
+    named : (its : versions.Version) → bytes_eq word (version_word its) ≡ true → Some its ≡ Some version → word ≡ version_word version
+    named its e is = let same : its ≡ version = cc in (bytes_eq-Decides word (version_word its)).0 e ∙ ap version_word same
+
 version_says : (words : List (List ℕ)) (l : Line) → version_line words ≡ Some l → Says (codes "wcspcert") words l
 unfolding version_line
 version_says [] l e = absurd cc
 version_says (word ∷ words) l e =
-    let c = chose (bytes_eq word (codes "1")) (at_end Version words) l e in
-    let is = (bytes_eq-Decides word (codes "1")).0 c.0 in
-    let none = ended Version l words c.1 in
-    said (codes "wcspcert") (word ∷ words) Version l none.1 (ap (λ w. codes "wcspcert" ∷ w ∷ words) is ∙ ap (λ w. codes "wcspcert" ∷ codes "1" ∷ w) none.0) tt
+    let v = bound (version_of word) (λ version. at_end (Version version) words) l e in
+    let none = ended (Version v.0) l words v.2 in
+    said (codes "wcspcert") (word ∷ words) (Version v.0) l none.1 (ap (λ w. codes "wcspcert" ∷ w ∷ words) (version_named word v.0 v.1) ∙ ap (λ w. codes "wcspcert" ∷ version_word v.0 ∷ w) none.0) tt
 
 numbers_say : (words : List (List ℕ)) (l : Line) → numbers_line words ≡ Some l → Says (codes "network") words l
 unfolding numbers_line
@@ -238,7 +253,11 @@ tuple_says words l e = two_numbers_say (codes "t") (λ f c. Node (Makes (CutTupl
 
 split_says : (words : List (List ℕ)) (l : Line) → split_line words ≡ Some l → Says (codes "split") words l
 unfolding split_line
-split_says words l e = two_numbers_say (codes "split") (λ x a. Node (Splits x a)) (λ x a h g. (h, g)) (λ x a. refl) words l e
+split_says words l e = two_numbers_say (codes "split") (λ x a. Node (Splits (Is x a))) (λ x a h g. (h, g)) (λ x a. refl) words l e
+
+part_says : (words : List (List ℕ)) (l : Line) → part_line words ≡ Some l → Says (codes "part") words l
+unfolding part_line
+part_says words l e = two_numbers_say (codes "part") (λ x v. Node (Splits (Most x v))) (λ x v h g. (h, g)) (λ x v. refl) words l e
 
 -- by the first word
 keyed : (word key : List ℕ) (words : List (List ℕ)) (l : Line) → bytes_eq word key ≡ true → Says key words l → Says word words l
@@ -252,7 +271,7 @@ no_line word words l e = absurd cc
 
 node_says : (word : List ℕ) (words : List (List ℕ)) (l : Line) → node_line word words ≡ Some l → Says word words l
 unfolding node_line
-node_says word words l = by_key (codes "p") word words l (project_line words) (if bytes_eq word (codes "e") then extend_line words else (if bytes_eq word (codes "u") then lift_line words else (if bytes_eq word (codes "v") then value_line words else (if bytes_eq word (codes "t") then tuple_line words else (if bytes_eq word (codes "open") then at_end (Node LeavesOpen) words else (if bytes_eq word (codes "closed") then at_end (Node Closes) words else (if bytes_eq word (codes "split") then split_line words else (None)))))))) (project_says words l) (by_key (codes "e") word words l (extend_line words) (if bytes_eq word (codes "u") then lift_line words else (if bytes_eq word (codes "v") then value_line words else (if bytes_eq word (codes "t") then tuple_line words else (if bytes_eq word (codes "open") then at_end (Node LeavesOpen) words else (if bytes_eq word (codes "closed") then at_end (Node Closes) words else (if bytes_eq word (codes "split") then split_line words else (None))))))) (extend_says words l) (by_key (codes "u") word words l (lift_line words) (if bytes_eq word (codes "v") then value_line words else (if bytes_eq word (codes "t") then tuple_line words else (if bytes_eq word (codes "open") then at_end (Node LeavesOpen) words else (if bytes_eq word (codes "closed") then at_end (Node Closes) words else (if bytes_eq word (codes "split") then split_line words else (None)))))) (lift_says words l) (by_key (codes "v") word words l (value_line words) (if bytes_eq word (codes "t") then tuple_line words else (if bytes_eq word (codes "open") then at_end (Node LeavesOpen) words else (if bytes_eq word (codes "closed") then at_end (Node Closes) words else (if bytes_eq word (codes "split") then split_line words else (None))))) (value_says words l) (by_key (codes "t") word words l (tuple_line words) (if bytes_eq word (codes "open") then at_end (Node LeavesOpen) words else (if bytes_eq word (codes "closed") then at_end (Node Closes) words else (if bytes_eq word (codes "split") then split_line words else (None)))) (tuple_says words l) (by_key (codes "open") word words l (at_end (Node LeavesOpen) words) (if bytes_eq word (codes "closed") then at_end (Node Closes) words else (if bytes_eq word (codes "split") then split_line words else (None))) (end_says (codes "open") (Node LeavesOpen) refl tt words l) (by_key (codes "closed") word words l (at_end (Node Closes) words) (if bytes_eq word (codes "split") then split_line words else (None)) (end_says (codes "closed") (Node Closes) refl tt words l) (by_key (codes "split") word words l (split_line words) (None) (split_says words l) (no_line word words l))))))))
+node_says word words l = by_key (codes "p") word words l (project_line words) (if bytes_eq word (codes "e") then extend_line words else (if bytes_eq word (codes "u") then lift_line words else (if bytes_eq word (codes "v") then value_line words else (if bytes_eq word (codes "t") then tuple_line words else (if bytes_eq word (codes "open") then at_end (Node LeavesOpen) words else (if bytes_eq word (codes "closed") then at_end (Node Closes) words else (if bytes_eq word (codes "split") then split_line words else (if bytes_eq word (codes "part") then part_line words else (None))))))))) (project_says words l) (by_key (codes "e") word words l (extend_line words) (if bytes_eq word (codes "u") then lift_line words else (if bytes_eq word (codes "v") then value_line words else (if bytes_eq word (codes "t") then tuple_line words else (if bytes_eq word (codes "open") then at_end (Node LeavesOpen) words else (if bytes_eq word (codes "closed") then at_end (Node Closes) words else (if bytes_eq word (codes "split") then split_line words else (if bytes_eq word (codes "part") then part_line words else (None)))))))) (extend_says words l) (by_key (codes "u") word words l (lift_line words) (if bytes_eq word (codes "v") then value_line words else (if bytes_eq word (codes "t") then tuple_line words else (if bytes_eq word (codes "open") then at_end (Node LeavesOpen) words else (if bytes_eq word (codes "closed") then at_end (Node Closes) words else (if bytes_eq word (codes "split") then split_line words else (if bytes_eq word (codes "part") then part_line words else (None))))))) (lift_says words l) (by_key (codes "v") word words l (value_line words) (if bytes_eq word (codes "t") then tuple_line words else (if bytes_eq word (codes "open") then at_end (Node LeavesOpen) words else (if bytes_eq word (codes "closed") then at_end (Node Closes) words else (if bytes_eq word (codes "split") then split_line words else (if bytes_eq word (codes "part") then part_line words else (None)))))) (value_says words l) (by_key (codes "t") word words l (tuple_line words) (if bytes_eq word (codes "open") then at_end (Node LeavesOpen) words else (if bytes_eq word (codes "closed") then at_end (Node Closes) words else (if bytes_eq word (codes "split") then split_line words else (if bytes_eq word (codes "part") then part_line words else (None))))) (tuple_says words l) (by_key (codes "open") word words l (at_end (Node LeavesOpen) words) (if bytes_eq word (codes "closed") then at_end (Node Closes) words else (if bytes_eq word (codes "split") then split_line words else (if bytes_eq word (codes "part") then part_line words else (None)))) (end_says (codes "open") (Node LeavesOpen) refl tt words l) (by_key (codes "closed") word words l (at_end (Node Closes) words) (if bytes_eq word (codes "split") then split_line words else (if bytes_eq word (codes "part") then part_line words else (None))) (end_says (codes "closed") (Node Closes) refl tt words l) (by_key (codes "split") word words l (split_line words) (if bytes_eq word (codes "part") then part_line words else (None)) (split_says words l) (by_key (codes "part") word words l (part_line words) (None) (part_says words l) (no_line word words l)))))))))
 
 item_line_says : (word : List ℕ) (words : List (List ℕ)) (l : Line) → item_line word words ≡ Some l → Says word words l
 unfolding item_line

@@ -11,7 +11,8 @@ use Rattle.cfn_model.specs.Tree.{bound}
 use Rattle.cfn_model.specs.Certificate.{Solution, Certificate, Good, threshold, threshold_of, IsBest}
 use Rattle.cfn_model.specs.Text.{IsSpelled, Spells}
 use Rattle.cfn_fault.specs.declared.kind.FaultKind.{FaultKind}
-use Rattle.cfn_fault.specs.Fault.{lines, Begins, Item, Makes, LeavesOpen, Closes, Splits, Place, FailsStep, OutOfRange, NotAllowed, FailsPlace, FailsLine, OtherNetwork, NotBelow, NoSolution, AtPlace, Fails, AsText, InCertificate, First, LowerAbove}
+use Rattle.cfn_fault.specs.Nodes.{Item, Makes, LeavesOpen, Closes, Splits}
+use Rattle.cfn_fault.specs.Fault.{lines, Begins, Place, FailsStep, OutOfRange, NotAllowed, FailsPlace, FailsLine, OtherNetwork, NotBelow, NoSolution, AtPlace, Fails, AsText, InCertificate, First, LowerAbove}
 use Rattle.cfn_fault.specs.Lines.{Line, Version, Numbers, Lower, NoBest, Best, Values, Root, Node, End, bytes_of, text_of, IsSpelledLine, lines_of_tree, lines_of_best, lines_of, State, AtVersion, AtNumbers, AtLower, AtBest, AtValues, AtRoot, AtNodes, AtOver, Follows, Runs}
 use Rattle.cfn_fault.specs.Judging.{threshold_in, lower_in, NodeFails, LineFails, AllPass, open_floors, lowest, bound_in}
 use Rattle.cfn_fault.specs.Laws.{OneFault, NoFaultWhereGood, SomeBegins, AllBegin, WholeSpells, TextFaults, LineFaults, WholeTexts, OneMorePasses}
@@ -32,21 +33,21 @@ one_kind_place : (P : Network) (k : ℕ) (history : List Event) (item : Item) (a
 one_kind_place P k history (Makes step) a b f g = one_kind_step P k history step a b f g
 one_kind_place P k history LeavesOpen a b f g = absurd f
 one_kind_place P k history Closes a b f g = f.0 ∙ sym g.0
-one_kind_place P k history (Splits x v) a b f g = f.0 ∙ sym g.0
+one_kind_place P k history (Splits d) a b f g = f.0 ∙ sym g.0
 
 one_kind_node : (P : Network) (k : ℕ) (s : State) (item : Item) (a b : FaultKind) → NodeFails P k s item a → NodeFails P k s item b → a ≡ b
-one_kind_node P k (AtNodes (history ∷ paths)) item a b f g = one_kind_place P k history item a b f g
-one_kind_node P k (AtNodes []) item a b f g = absurd f
+one_kind_node P k (AtNodes version (history ∷ paths)) item a b f g = one_kind_place P k history item a b f g
+one_kind_node P k (AtNodes version []) item a b f g = absurd f
 one_kind_node P k AtVersion item a b f g = absurd f
-one_kind_node P k AtNumbers item a b f g = absurd f
-one_kind_node P k AtLower item a b f g = absurd f
-one_kind_node P k AtBest item a b f g = absurd f
-one_kind_node P k AtValues item a b f g = absurd f
-one_kind_node P k AtRoot item a b f g = absurd f
+one_kind_node P k (AtNumbers version) item a b f g = absurd f
+one_kind_node P k (AtLower version) item a b f g = absurd f
+one_kind_node P k (AtBest version) item a b f g = absurd f
+one_kind_node P k (AtValues version) item a b f g = absurd f
+one_kind_node P k (AtRoot version) item a b f g = absurd f
 one_kind_node P k AtOver item a b f g = absurd f
 
 one_kind : (P : Network) (front : List Line) (s : State) (l : Line) (a b : FaultKind) → LineFails P front s l a → LineFails P front s l b → a ≡ b
-one_kind P front s Version a b f g = absurd f
+one_kind P front s (Version version) a b f g = absurd f
 one_kind P front s (Numbers n e upper) a b f g = f.0 ∙ sym g.0
 one_kind P front s (Lower lower) a b f g = absurd f
 one_kind P front s NoBest a b f g = absurd f
@@ -76,8 +77,8 @@ last_same (z ∷ a) (w ∷ b) x y e = let more = last_same a b x y (same_tail e)
 
 one_kind_at : (P : Network) (c other : Certificate) (bytes : List ℕ) (l : ℕ) (a b : FaultKind) → IsSpelled c → IsSpelled other → Begins c bytes l → Begins other bytes l → FailsLine P c l a → FailsLine P other l b → a ≡ b
 one_kind_at P c other bytes l a b hc ho begins also f g =
-    let at = fails_at P c l a f in
-    let its = fails_at P other l b g in
+    let at = fails_at P c l a hc f in
+    let its = fails_at P other l b ho g in
     let front = shared c other bytes l at.front at.line at.back hc ho begins also at.whole at.number in
     let long : length (at.front ++ at.line ∷ []) ≡ length its.front + 1 = omega (arith, length-append at.front (at.line ∷ []), at.number, its.number) in
     let same : at.front ++ at.line ∷ [] ≡ its.front ++ its.line ∷ [] = same_front (at.front ++ at.line ∷ []) its.front its.line front.rest its.back (sym front.whole ∙ its.whole) long in
@@ -123,7 +124,7 @@ good_line P c l kind good (AtPlace before behind at number is fails) =
 threshold_of_lines : (c : Certificate) → threshold_in (lines_of c) ≡ threshold c
 threshold_of_lines c = by_best c.best
   where
-    by_best : (best : Option Solution) → threshold_in ((Version ∷ Numbers c.variables c.functions c.upper ∷ Lower c.lower ∷ lines_of_best best) ++ Root ∷ (lines_of_tree c.tree ++ End ∷ [])) ≡ threshold_of c.upper best
+    by_best : (best : Option Solution) → threshold_in ((Version c.version ∷ Numbers c.variables c.functions c.upper ∷ Lower c.lower ∷ lines_of_best best) ++ Root ∷ (lines_of_tree c.tree ++ End ∷ [])) ≡ threshold_of c.upper best
     by_best None = refl
     by_best (Some best) = refl
 
@@ -138,15 +139,15 @@ front_whole c other bytes sc so =
     let front = agree (lines_of other) (lines_of c) [] (spelled_lines other so.spelled) (spelled_lines c sc.spelled)
     (λ i lt. ap (λ x. slice_index_or x i []) (sym (lines_of_spelling other so.spelled) ∙ ap lines (sym so.exact ∙ sc.exact) ∙ lines_of_spelling c sc.spelled ∙ sym (append-nil (map bytes_of (lines_of c))))) in
     let Q : List Line → Type 0 = λ x. Runs AtVersion x AtOver in
-    let parts = run_split AtVersion AtOver (lines_of c) front.rest (subst Q front.whole (runs_certificate other)) in
+    let parts = run_split AtVersion AtOver (lines_of c) front.rest (subst Q front.whole (runs_certificate other so.spelled)) in
     let R : State → Type 0 = λ x. Runs x front.rest AtOver in
-    let over = nothing_over front.rest AtOver (subst R (same_end AtVersion parts.0 AtOver (lines_of c) parts.1 (runs_certificate c)) parts.2) in
+    let over = nothing_over front.rest AtOver (subst R (same_end AtVersion parts.0 AtOver (lines_of c) parts.1 (runs_certificate c sc.spelled)) parts.2) in
     sym (front.whole ∙ ap (λ x. lines_of c ++ x) over ∙ append-nil (lines_of c))
 
 pub no_fault_where_good : NoFaultWhereGood
 no_fault_where_good P bytes c l kind spells good (First (AsText is fault) before) = fault.none c spells.spelled (spelled_text c bytes l spells)
 no_fault_where_good P bytes c l kind spells good (First (InCertificate other its also fails) before) =
-    let at = fails_at P other l kind fails in
+    let at = fails_at P other l kind its fails in
     let front = shared other c bytes l at.front at.line at.back its spells.spelled also (spelled_text c bytes l spells) at.whole at.number in
     let whole : lines_of c ≡ at.front ++ at.line ∷ front.rest = front.whole ∙ append_assoc at.front (at.line ∷ []) front.rest in
     good_line P c (length at.front + 1) kind good (fails_line P c at.state kind at.front at.line front.rest whole at.run at.fails)
@@ -196,7 +197,7 @@ whole_texts P bytes ls fronts all =
       record {
         spells = spells;
         lines = sym c.lines;
-        good = λ le. good_by_lines P c.certificate (subst Q c.lines all) (omega arith);
+        good = λ le. good_by_lines P c.certificate c.spelled (subst Q c.lines all) (omega arith);
         fault = λ lt. LowerAbove c.certificate refl refl (none_at_all P bytes ls fronts.run fronts.spelled text (none_fails P ls all)) spells (omega arith);
       },
     )

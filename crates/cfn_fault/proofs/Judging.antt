@@ -12,7 +12,8 @@ use Rattle.cfn_model.specs.Steps.{InRange, Allowed}
 use Rattle.cfn_model.specs.Text.{spelling}
 use Rattle.cfn_fault.specs.declared.kind.FaultKind.{FaultKind}
 use Rattle.cfn_fault.specs.declared.kind.FaultKind.TheVariants as kinds
-use Rattle.cfn_fault.specs.Fault.{Begins, NoneBeginsWith, Item, Makes, LeavesOpen, Closes, Splits, FailsStep, OutOfRange, NotAllowed, FailsPlace, Fails, AsText, InCertificate, Fault, First}
+use Rattle.cfn_fault.specs.Nodes.{Item, Makes, LeavesOpen, Closes, Splits}
+use Rattle.cfn_fault.specs.Fault.{Begins, NoneBeginsWith, FailsStep, OutOfRange, NotAllowed, FailsPlace, Fails, AsText, InCertificate, Fault, First}
 use Rattle.cfn_fault.specs.Lines.{Line, Version, Numbers, Lower, NoBest, Best, Values, Root, Node, End, bytes_of, text_of, IsSpelledLine, lines_of, State, AtVersion, AtNumbers, AtLower, AtBest, AtValues, AtRoot, AtNodes, AtOver, Follows, Runs}
 use Rattle.cfn_fault.specs.Judging.{threshold_in, NodeFails, LineFails, NoneFails, PassesPlace, NodePasses, LinePasses, AllPass}
 use Rattle.cfn_fault.proofs.Running.{same_end, run_split, run_one_more, runs_certificate, spelled_front, nothing_over, told, begun}
@@ -73,21 +74,21 @@ pub place_right : (P : Network) (k : ℕ) (history : List Event) (item : Item) (
 place_right P k history (Makes step) kind passes fails = step_right P k history step kind passes fails
 place_right P k history LeavesOpen kind passes fails = fails
 place_right P k history Closes kind passes fails = fails.1 passes
-place_right P k history (Splits x a) kind passes fails = fails.1 passes
+place_right P k history (Splits d) kind passes fails = fails.1 passes
 
 node_right : (P : Network) (k : ℕ) (s : State) (item : Item) (kind : FaultKind) → NodePasses P k s item → NodeFails P k s item kind → ⊥
-node_right P k (AtNodes (history ∷ paths)) item kind passes fails = place_right P k history item kind passes fails
-node_right P k (AtNodes []) item kind passes fails = fails
+node_right P k (AtNodes version (history ∷ paths)) item kind passes fails = place_right P k history item kind passes fails
+node_right P k (AtNodes version []) item kind passes fails = fails
 node_right P k AtVersion item kind passes fails = fails
-node_right P k AtNumbers item kind passes fails = fails
-node_right P k AtLower item kind passes fails = fails
-node_right P k AtBest item kind passes fails = fails
-node_right P k AtValues item kind passes fails = fails
-node_right P k AtRoot item kind passes fails = fails
+node_right P k (AtNumbers version) item kind passes fails = fails
+node_right P k (AtLower version) item kind passes fails = fails
+node_right P k (AtBest version) item kind passes fails = fails
+node_right P k (AtValues version) item kind passes fails = fails
+node_right P k (AtRoot version) item kind passes fails = fails
 node_right P k AtOver item kind passes fails = fails
 
 line_right : (P : Network) (front : List Line) (s : State) (l : Line) (kind : FaultKind) → LinePasses P front s l → LineFails P front s l kind → ⊥
-line_right P front s Version kind passes fails = fails
+line_right P front s (Version version) kind passes fails = fails
 line_right P front s (Numbers n e upper) kind passes fails = fails.1 passes
 line_right P front s (Lower lower) kind passes fails = fails
 line_right P front s NoBest kind passes fails = fails
@@ -128,7 +129,7 @@ none_before P bytes rest ls s run spelled is none l kind le (AsText text fault) 
     let c = begun ls s run spelled in
     fault.none c.certificate c.spelled (λ i lt. begins_with c.certificate bytes rest ls c.rest c.spelled c.lines is i (omega arith))
 none_before P bytes rest ls s run spelled is none l kind le (InCertificate c all begins fails) =
-    let at = fails_at P c l kind fails in
+    let at = fails_at P c l kind all fails in
     let parts = cut ls l le in
     let Q : List Line → Type 0 = AllByRecursion IsSpelledLine in
     let text : bytes ≡ text_of parts.front ++ (text_of parts.back ++ rest) = is ∙ ap (λ x. text_of x ++ rest) parts.whole ∙ ap (λ x. x ++ rest) (text_append parts.front parts.back) ∙ append_assoc (text_of parts.front) (text_of parts.back) rest in
@@ -163,10 +164,10 @@ none_at_all P bytes ls run spelled is none l kind (InCertificate c all begins fa
     elim (cases_lt (length ls) l) [
       | inr le ↦ none_before P bytes [] ls AtOver run spelled (is ∙ sym (append-nil (text_of ls))) none l kind le (InCertificate c all begins fails)
       | inl lt ↦
-          let at = fails_at P c l kind fails in
+          let at = fails_at P c l kind all fails in
           let its = front_of_lines c bytes [] ls l all spelled (is ∙ sym (append-nil (text_of ls))) (omega arith) begins in
           let Q : List Line → Type 0 = λ x. Runs AtVersion x AtOver in
-          let parts = run_split AtVersion AtOver ls its.rest (subst Q its.whole (runs_certificate c)) in
+          let parts = run_split AtVersion AtOver ls its.rest (subst Q its.whole (runs_certificate c all)) in
           let R : State → Type 0 = λ x. Runs x its.rest AtOver in
           let over : its.rest ≡ [] = nothing_over its.rest AtOver (subst R (same_end AtVersion parts.0 AtOver ls parts.1 run) parts.2) in
           let both : at.front ++ at.line ∷ at.back ≡ ls = sym at.whole ∙ its.whole ∙ ap (λ x. ls ++ x) over ∙ append-nil ls in

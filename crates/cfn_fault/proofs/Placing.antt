@@ -3,17 +3,19 @@ use Rattle.std.proofs.Common.{◌≡◌, ℕ, ◌+◌, List, [], ◌∷◌, ◌+
 use Rattle.std.specs.Prelude.{Option, Some, None}
 use Rattle.cfn_model.specs.declared.step.Step.{Step}
 use Rattle.cfn_model.specs.declared.step.Event.{Event}
-use Rattle.cfn_model.specs.declared.step.Event.TheVariants.{Did, Is, IsNot}
+use Rattle.cfn_model.specs.declared.step.Event.TheVariants.{Did, Took, Refused}
+use Rattle.cfn_model.specs.declared.version.Version as versions
 use Rattle.cfn_model.specs.Network.{Network, cost}
 use Rattle.cfn_model.specs.Steps.{after}
 use Rattle.cfn_model.specs.Tree.{Tree, Open, Closed, Split}
 use Rattle.cfn_model.specs.Certificate.{Solution, Certificate, threshold, threshold_of}
-use Rattle.cfn_model.specs.Text.{head_lines}
+use Rattle.cfn_model.specs.Text.{HasTree, IsSpelled, head_lines}
 use Rattle.cfn_fault.specs.declared.kind.FaultKind.{FaultKind}
-use Rattle.cfn_fault.specs.Fault.{Item, Makes, LeavesOpen, Closes, Splits, Place, place, block_places, places, FailsPlace, FailsLine, OtherNetwork, NotBelow, NoSolution, AtPlace}
-use Rattle.cfn_fault.specs.Lines.{Line, Version, Numbers, Lower, NoBest, Best, Values, Root, Node, End, lines_of_tree, lines_of_best, lines_of, State, AtVersion, AtNumbers, AtLower, AtBest, AtValues, AtRoot, AtNodes, AtOver, paths_after, Follows, VersionFollows, NumbersFollow, LowerFollows, NoBestFollows, BestFollows, ValuesFollow, RootFollows, NodeFollows, EndFollows, Runs}
+use Rattle.cfn_fault.specs.Nodes.{Item, Makes, LeavesOpen, Closes, Splits, HasItem, paths_after, NodeFollows, ItemFollows}
+use Rattle.cfn_fault.specs.Fault.{Place, place, block_places, places, FailsPlace, FailsLine, OtherNetwork, NotBelow, NoSolution, AtPlace}
+use Rattle.cfn_fault.specs.Lines.{Line, Version, Numbers, Lower, NoBest, Best, Values, Root, Node, End, lines_of_tree, lines_of_best, lines_of, State, AtVersion, AtNumbers, AtLower, AtBest, AtValues, AtRoot, AtNodes, AtOver, Follows, VersionFollows, NumbersFollow, LowerFollows, NoBestFollows, BestFollows, ValuesFollow, RootFollows, NodeLineFollows, EndFollows, Runs}
 use Rattle.cfn_fault.specs.Judging.{threshold_in, LineFails}
-use Rattle.cfn_fault.proofs.Running.{same_end, run_append, run_split}
+use Rattle.cfn_fault.proofs.Running.{has_node, node_follows, same_end, same_follow, run_append, run_split, runs_nodes}
 
 -- the places along lines of nodes
 abbrev pub walk : List (List Event) → List Line → List Place
@@ -35,25 +37,25 @@ walk_leaf history paths block item ls none =
 pub walk_tree : (history : List Event) (paths : List (List Event)) (tree : Tree) (ls : List Line) → walk (history ∷ paths) (lines_of_tree tree ++ ls) ≡ places history tree ++ walk paths ls
 walk_tree history paths (Open block) ls = walk_leaf history paths block LeavesOpen ls refl
 walk_tree history paths (Closed block) ls = walk_leaf history paths block Closes ls refl
-walk_tree history paths (Split block x a first second) ls =
+walk_tree history paths (Split block d first second) ls =
     let h = after block history in
     let steps = map (λ step. Node (Makes step)) block in
     let firsts = lines_of_tree first in
     let seconds = lines_of_tree second in
-    ap (walk (history ∷ paths)) (append_assoc steps (Node (Splits x a) ∷ (firsts ++ seconds)) ls) ∙ walk_block history paths block (Node (Splits x a) ∷ ((firsts ++ seconds) ++ ls))
-    ∙ ap (λ r. block_places history block ++ place h (Splits x a) ∷ r)
-    (ap (walk ((Is x a ∷ h) ∷ (IsNot x a ∷ h) ∷ paths)) (append_assoc firsts seconds ls) ∙ walk_tree (Is x a ∷ h) ((IsNot x a ∷ h) ∷ paths) first (seconds ++ ls)
-    ∙ ap (λ r. places (Is x a ∷ h) first ++ r) (walk_tree (IsNot x a ∷ h) paths second ls) ∙ sym (append_assoc (places (Is x a ∷ h) first) (places (IsNot x a ∷ h) second) (walk paths ls)))
-    ∙ sym (append_assoc (block_places history block) (place h (Splits x a) ∷ (places (Is x a ∷ h) first ++ places (IsNot x a ∷ h) second)) (walk paths ls))
+    ap (walk (history ∷ paths)) (append_assoc steps (Node (Splits d) ∷ (firsts ++ seconds)) ls) ∙ walk_block history paths block (Node (Splits d) ∷ ((firsts ++ seconds) ++ ls))
+    ∙ ap (λ r. block_places history block ++ place h (Splits d) ∷ r)
+    (ap (walk ((Took d ∷ h) ∷ (Refused d ∷ h) ∷ paths)) (append_assoc firsts seconds ls) ∙ walk_tree (Took d ∷ h) ((Refused d ∷ h) ∷ paths) first (seconds ++ ls)
+    ∙ ap (λ r. places (Took d ∷ h) first ++ r) (walk_tree (Refused d ∷ h) paths second ls) ∙ sym (append_assoc (places (Took d ∷ h) first) (places (Refused d ∷ h) second) (walk paths ls)))
+    ∙ sym (append_assoc (block_places history block) (place h (Splits d) ∷ (places (Took d ∷ h) first ++ places (Refused d ∷ h) second)) (walk paths ls))
 
 -- a place of the walk is a line, with its path due
-pub record AtLine (paths : List (List Event)) (ls : List Line) (before : List Place) (at : Place) : Type 0 where
+pub record AtLine (version : versions.Version) (paths : List (List Event)) (ls : List Line) (before : List Place) (at : Place) : Type 0 where
   pub front : List Line
   pub back : List Line
   pub others : List (List Event)
   pub whole : ls ≡ front ++ Node at.item ∷ back
   pub long : length front ≡ length before
-  pub run : Runs (AtNodes paths) front (AtNodes (at.history ∷ others))
+  pub run : Runs (AtNodes version paths) front (AtNodes version (at.history ∷ others))
 
 no_place : {A : Type 0} (before : List Place) (at : Place) (behind : List Place) → [] ≡ before ++ at ∷ behind → A
 no_place [] at behind e = absurd cc
@@ -65,17 +67,27 @@ same_head e = cc
 same_tail : {A : Type 0} {x y : A} {xs ys : List A} → x ∷ xs ≡ y ∷ ys → xs ≡ ys
 same_tail e = cc
 
-pub line_of_place : (ls : List Line) (paths : List (List Event)) (before : List Place) (at : Place) (behind : List Place) → walk paths ls ≡ before ++ at ∷ behind → AtLine paths ls before at
-line_of_place ls [] before at behind e = no_place before at behind e
-line_of_place [] (history ∷ paths) before at behind e = no_place before at behind e
-line_of_place (Node item ∷ ls) (history ∷ paths) [] at behind e =
+-- what runs behind a line of a node
+behind_node : (version : versions.Version) (history : List Event) (paths : List (List Event)) (item : Item) (ls : List Line) (t : State) → Runs (AtNodes version (history ∷ paths)) (Node item ∷ ls) t
+    → HasItem version item × Runs (AtNodes version (paths_after history item ++ paths)) ls t
+behind_node version history paths item ls t run =
+    let has = has_node run.1 in
+    let Q : State → Type 0 = λ x. Runs x ls t in
+    (has, subst Q (same_follow (AtNodes version (history ∷ paths)) (Node item) run.0 (AtNodes version (paths_after history item ++ paths)) run.1 (node_follows has)) run.2)
+
+pub line_of_place : (version : versions.Version) (ls : List Line) (paths : List (List Event)) (before : List Place) (at : Place) (behind : List Place) (t : State) → Runs (AtNodes version paths) ls t → walk paths ls ≡ before ++ at ∷ behind
+    → AtLine version paths ls before at
+line_of_place version ls [] before at behind t run e = no_place before at behind e
+line_of_place version [] (history ∷ paths) before at behind t run e = no_place before at behind e
+line_of_place version (Node item ∷ ls) (history ∷ paths) [] at behind t run e =
     let is : place history item ≡ at = same_head e in
-    let P : Place → Type 0 = λ p. AtLine (history ∷ paths) (Node item ∷ ls) [] p in
+    let P : Place → Type 0 = λ p. AtLine version (history ∷ paths) (Node item ∷ ls) [] p in
     subst P is (record { front = []; back = ls; others = paths; whole = refl; long = refl; run = refl })
-line_of_place (Node item ∷ ls) (history ∷ paths) (p ∷ before) at behind e =
-    let more = line_of_place ls (paths_after history item ++ paths) before at behind (same_tail e) in
-    record { front = Node item ∷ more.front; back = more.back; others = more.others; whole = ap (λ r. Node item ∷ r) more.whole; long = omega (arith, more.long); run = (AtNodes (paths_after history item ++ paths), NodeFollows, more.run) }
-line_of_place (_ ∷ ls) (history ∷ paths) before at behind e = no_place before at behind e
+line_of_place version (Node item ∷ ls) (history ∷ paths) (p ∷ before) at behind t run e =
+    let its = behind_node version history paths item ls t run in
+    let more = line_of_place version ls (paths_after history item ++ paths) before at behind t its.1 (same_tail e) in
+    record { front = Node item ∷ more.front; back = more.back; others = more.others; whole = ap (λ r. Node item ∷ r) more.whole; long = omega (arith, more.long); run = (AtNodes version (paths_after history item ++ paths), node_follows its.0, more.run) }
+line_of_place version (_ ∷ ls) (history ∷ paths) before at behind t run e = no_place before at behind e
 
 -- and the other way round
 pub record AtItem (paths : List (List Event)) (ls front : List Line) (at : Place) : Type 0 where
@@ -84,51 +96,53 @@ pub record AtItem (paths : List (List Event)) (ls front : List Line) (at : Place
   pub whole : walk paths ls ≡ before ++ at ∷ behind
   pub long : length before ≡ length front
 
-same_paths : {a b : List (List Event)} → AtNodes a ≡ AtNodes b → a ≡ b
+same_paths : {v w : versions.Version} {a b : List (List Event)} → AtNodes v a ≡ AtNodes w b → a ≡ b
 same_paths e = cc
 
-place_of_line : (front : List Line) (paths : List (List Event)) (back : List Line) (item : Item) (history : List Event) (others : List (List Event)) → Runs (AtNodes paths) front (AtNodes (history ∷ others))
+place_of_line : (version : versions.Version) (front : List Line) (paths : List (List Event)) (back : List Line) (item : Item) (its : versions.Version) (history : List Event) (others : List (List Event)) → Runs (AtNodes version paths) front (AtNodes its (history ∷ others))
     → AtItem paths (front ++ Node item ∷ back) front (place history item)
-place_of_line [] paths back item history others run =
+place_of_line version [] paths back item its history others run =
     let P : List (List Event) → Type 0 = λ x. AtItem x (Node item ∷ back) [] (place history item) in
     subst P (sym (same_paths run)) (record { before = []; behind = walk (paths_after history item ++ others) back; whole = refl; long = refl })
-place_of_line (l ∷ front) paths back item history others run = by_follow paths l run.0 run.1 run.2 (λ more rest. place_of_line front more back item history others rest)
+place_of_line version (l ∷ front) paths back item its history others run = by_follow paths l run.0 run.1 run.2 (λ more rest. place_of_line version front more back item its history others rest)
   where
-    not_nodes : (s : State) (ls : List Line) (t : State) → Runs s ls t → s ≡ AtOver → (p : List (List Event)) → t ≡ AtNodes p → ⊥
-    not_nodes s [] t run over p is = let both = sym over ∙ run ∙ is in absurd (cc)
-    not_nodes s (l ∷ ls) t run over p is = let P : State → Type 0 = λ x. Follows x l run.0 in nothing (subst P over run.1)
+    not_nodes : (s : State) (ls : List Line) (t : State) → Runs s ls t → s ≡ AtOver → (v : versions.Version) (p : List (List Event)) → t ≡ AtNodes v p → ⊥
+    not_nodes s [] t run over v p is = let both = sym over ∙ run ∙ is in absurd (cc)
+    not_nodes s (l ∷ ls) t run over v p is = let P : State → Type 0 = λ x. Follows x l run.0 in nothing (subst P over run.1)
       where
         nothing : Follows AtOver l run.0 → ⊥
         nothing follows = elim follows [ ]
 
-    by_follow : (paths : List (List Event)) (l : Line) (m : State) → Follows (AtNodes paths) l m → Runs m front (AtNodes (history ∷ others))
-        → ((more : List (List Event)) → Runs (AtNodes more) front (AtNodes (history ∷ others)) → AtItem more (front ++ Node item ∷ back) front (place history item)) → AtItem paths (l ∷ (front ++ Node item ∷ back)) (l ∷ front) (place history item)
-    by_follow queue l m (NodeFollows {history = h} {paths = ps} {item = i}) run recur =
-        let more = recur (paths_after h i ++ ps) run in
-        record { before = place h i ∷ more.before; behind = more.behind; whole = ap (λ r. place h i ∷ r) more.whole; long = omega (arith, more.long) }
-    by_follow queue l m EndFollows run recur = absurd (not_nodes AtOver front (AtNodes (history ∷ others)) run refl (history ∷ others) refl)
+    by_item : (queue more : List (List Event)) (i : Item) → NodeFollows version queue i more → AtItem more (front ++ Node item ∷ back) front (place history item) → AtItem queue (Node i ∷ (front ++ Node item ∷ back)) (Node i ∷ front) (place history item)
+    by_item queue more i (ItemFollows {history = h} has) rest =
+        record { before = place h i ∷ rest.before; behind = rest.behind; whole = ap (λ r. place h i ∷ r) rest.whole; long = omega (arith, rest.long) }
+
+    by_follow : (paths : List (List Event)) (l : Line) (m : State) → Follows (AtNodes version paths) l m → Runs m front (AtNodes its (history ∷ others))
+        → ((more : List (List Event)) → Runs (AtNodes version more) front (AtNodes its (history ∷ others)) → AtItem more (front ++ Node item ∷ back) front (place history item)) → AtItem paths (l ∷ (front ++ Node item ∷ back)) (l ∷ front) (place history item)
+    by_follow queue l m (NodeLineFollows {more = more} {item = i} follows) run recur = by_item queue more i follows (recur more run)
+    by_follow queue l m EndFollows run recur = absurd (not_nodes AtOver front (AtNodes its (history ∷ others)) run refl its (history ∷ others) refl)
 
 -- a certificate's lines before its tree
-abbrev pub heads : ℕ → ℕ → ℕ → ℕ → Option Solution → List Line
-heads n e upper lower best = Version ∷ Numbers n e upper ∷ Lower lower ∷ lines_of_best best
+abbrev pub heads : Certificate → Option Solution → List Line
+heads c best = Version c.version ∷ Numbers c.variables c.functions c.upper ∷ Lower c.lower ∷ lines_of_best best
 
 abbrev pub heads_of : Certificate → List Line
-heads_of c = heads c.variables c.functions c.upper c.lower c.best
+heads_of c = heads c c.best
 
-head_threshold : (n e upper lower : ℕ) (best : Option Solution) (ls : List Line) → threshold_in (heads n e upper lower best ++ ls) ≡ threshold_of upper best
-head_threshold n e upper lower None ls = refl
-head_threshold n e upper lower (Some best) ls = refl
+head_threshold : (c : Certificate) (best : Option Solution) (ls : List Line) → threshold_in (heads c best ++ ls) ≡ threshold_of c.upper best
+head_threshold c None ls = refl
+head_threshold c (Some best) ls = refl
 
-runs_heads : (n e upper lower : ℕ) (best : Option Solution) → Runs AtVersion (heads n e upper lower best ++ Root ∷ []) (AtNodes ([] ∷ []))
-runs_heads n e upper lower None = (AtNumbers, VersionFollows, (AtLower, NumbersFollow, (AtBest, LowerFollows, (AtRoot, NoBestFollows, (AtNodes ([] ∷ []), RootFollows, refl)))))
-runs_heads n e upper lower (Some best) = (AtNumbers, VersionFollows, (AtLower, NumbersFollow, (AtBest, LowerFollows, (AtValues, BestFollows, (AtRoot, ValuesFollow, (AtNodes ([] ∷ []), RootFollows, refl))))))
+runs_heads : (c : Certificate) (best : Option Solution) → Runs AtVersion (heads c best ++ Root ∷ []) (AtNodes c.version ([] ∷ []))
+runs_heads c None = (AtNumbers c.version, VersionFollows, (AtLower c.version, NumbersFollow, (AtBest c.version, LowerFollows, (AtRoot c.version, NoBestFollows, (AtNodes c.version ([] ∷ []), RootFollows, refl)))))
+runs_heads c (Some best) = (AtNumbers c.version, VersionFollows, (AtLower c.version, NumbersFollow, (AtBest c.version, LowerFollows, (AtValues c.version, BestFollows, (AtRoot c.version, ValuesFollow, (AtNodes c.version ([] ∷ []), RootFollows, refl))))))
 
 head_count : (c : Certificate) (best : Option Solution) → c.best ≡ best → length (heads_of c) ≡ length (head_lines c)
 head_count c best is =
-    let P : Option Solution → Type 0 = λ b. length (heads c.variables c.functions c.upper c.lower b) ≡ length (head_lines (record c { best = b })) in
+    let P : Option Solution → Type 0 = λ b. length (heads c b) ≡ length (head_lines (record c { best = b })) in
     subst P (sym is) (by_best best)
   where
-    by_best : (b : Option Solution) → length (heads c.variables c.functions c.upper c.lower b) ≡ length (head_lines (record c { best = b }))
+    by_best : (b : Option Solution) → length (heads c b) ≡ length (head_lines (record c { best = b }))
     by_best None = refl
     by_best (Some b) = refl
 
@@ -156,13 +170,13 @@ pub record PlaceLine (c : Certificate) (before : List Place) (at : Place) : Type
   pub others : List (List Event)
   pub whole : lines_of c ≡ front ++ Node at.item ∷ back
   pub long : length front ≡ length (head_lines c) + 1 + length before
-  pub run : Runs AtVersion front (AtNodes (at.history ∷ others))
+  pub run : Runs AtVersion front (AtNodes c.version (at.history ∷ others))
   pub threshold : threshold_in front ≡ threshold c
 
-pub place_line : (c : Certificate) (before : List Place) (at : Place) (behind : List Place) → places [] c.tree ≡ before ++ at ∷ behind → PlaceLine c before at
+pub place_line : (c : Certificate) (before : List Place) (at : Place) (behind : List Place) → HasTree c.version c.tree → places [] c.tree ≡ before ++ at ∷ behind → PlaceLine c before at
 unfolding nodes_of
-place_line c before at behind is =
-    let it = line_of_place (nodes_of c.tree) ([] ∷ []) before at behind (walk_nodes c.tree ∙ is) in
+place_line c before at behind has is =
+    let it = line_of_place c.version (nodes_of c.tree) ([] ∷ []) before at behind AtOver (runs_nodes c.version c.tree has) (walk_nodes c.tree ∙ is) in
     let head = heads_of c in
     record {
       front = (head ++ Root ∷ []) ++ it.front;
@@ -170,50 +184,50 @@ place_line c before at behind is =
       others = it.others;
       whole = ap (λ r. head ++ Root ∷ r) it.whole ∙ sym (append_assoc head (Root ∷ []) (it.front ++ Node at.item ∷ it.back)) ∙ sym (append_assoc (head ++ Root ∷ []) it.front (Node at.item ∷ it.back));
       long = omega (arith, it.long, head_count c c.best refl, length-append (head ++ Root ∷ []) it.front, length-append head (Root ∷ []));
-      run = run_append AtVersion (AtNodes ([] ∷ [])) (AtNodes (at.history ∷ it.others)) (head ++ Root ∷ []) it.front (runs_heads c.variables c.functions c.upper c.lower c.best) it.run;
-      threshold = ap threshold_in (append_assoc head (Root ∷ []) it.front) ∙ head_threshold c.variables c.functions c.upper c.lower c.best (Root ∷ it.front);
+      run = run_append AtVersion (AtNodes c.version ([] ∷ [])) (AtNodes c.version (at.history ∷ it.others)) (head ++ Root ∷ []) it.front (runs_heads c c.best) it.run;
+      threshold = ap threshold_in (append_assoc head (Root ∷ []) it.front) ∙ head_threshold c c.best (Root ∷ it.front);
     }
 
-pub fails_at : (P : Network) (c : Certificate) (l : ℕ) (kind : FaultKind) → FailsLine P c l kind → FailsAt P c l kind
+pub fails_at : (P : Network) (c : Certificate) (l : ℕ) (kind : FaultKind) → IsSpelled c → FailsLine P c l kind → FailsAt P c l kind
 unfolding nodes_of
-fails_at P c l kind (OtherNetwork number is other) = record {
-  front = Version ∷ [];
+fails_at P c l kind all (OtherNetwork number is other) = record {
+  front = Version c.version ∷ [];
   line = Numbers c.variables c.functions c.upper;
   back = Lower c.lower ∷ (lines_of_best c.best ++ Root ∷ nodes_of c.tree);
-  state = AtNumbers;
+  state = AtNumbers c.version;
   whole = refl;
   number = number;
-  run = (AtNumbers, VersionFollows, refl);
+  run = (AtNumbers c.version, VersionFollows, refl);
   fails = (is, λ same. other (record { variables = same.0; functions = same.1; upper = same.2 }));
 }
-fails_at P c l kind (NotBelow best number is some above) = record {
-  front = Version ∷ Numbers c.variables c.functions c.upper ∷ Lower c.lower ∷ [];
+fails_at P c l kind all (NotBelow best number is some above) = record {
+  front = Version c.version ∷ Numbers c.variables c.functions c.upper ∷ Lower c.lower ∷ [];
   line = Best best.cost;
   back = Values best.values ∷ Root ∷ nodes_of c.tree;
-  state = AtBest;
-  whole = ap (λ b. heads c.variables c.functions c.upper c.lower b ++ Root ∷ nodes_of c.tree) some;
+  state = AtBest c.version;
+  whole = ap (λ b. heads c b ++ Root ∷ nodes_of c.tree) some;
   number = number;
-  run = (AtNumbers, VersionFollows, (AtLower, NumbersFollow, (AtBest, LowerFollows, refl)));
+  run = (AtNumbers c.version, VersionFollows, (AtLower c.version, NumbersFollow, (AtBest c.version, LowerFollows, refl)));
   fails = (is, above);
 }
-fails_at P c l kind (NoSolution best number is some none) = record {
-  front = Version ∷ Numbers c.variables c.functions c.upper ∷ Lower c.lower ∷ Best best.cost ∷ [];
+fails_at P c l kind all (NoSolution best number is some none) = record {
+  front = Version c.version ∷ Numbers c.variables c.functions c.upper ∷ Lower c.lower ∷ Best best.cost ∷ [];
   line = Values best.values;
   back = Root ∷ nodes_of c.tree;
-  state = AtValues;
-  whole = ap (λ b. heads c.variables c.functions c.upper c.lower b ++ Root ∷ nodes_of c.tree) some;
+  state = AtValues c.version;
+  whole = ap (λ b. heads c b ++ Root ∷ nodes_of c.tree) some;
   number = number;
-  run = (AtNumbers, VersionFollows, (AtLower, NumbersFollow, (AtBest, LowerFollows, (AtValues, BestFollows, refl))));
+  run = (AtNumbers c.version, VersionFollows, (AtLower c.version, NumbersFollow, (AtBest c.version, LowerFollows, (AtValues c.version, BestFollows, refl))));
   fails = (is, none);
 }
-fails_at P c l kind (AtPlace before behind at number is fails) =
-    let it = place_line c before at behind is in
+fails_at P c l kind all (AtPlace before behind at number is fails) =
+    let it = place_line c before at behind all.has_tree is in
     let Q : ℕ → Type 0 = λ k. FailsPlace P k at.history at.item kind in
-    record { front = it.front; line = Node at.item; back = it.back; state = AtNodes (at.history ∷ it.others); whole = it.whole; number = omega (arith, number, it.long); run = it.run; fails = subst Q (sym it.threshold) fails }
+    record { front = it.front; line = Node at.item; back = it.back; state = AtNodes c.version (at.history ∷ it.others); whole = it.whole; number = omega (arith, number, it.long); run = it.run; fails = subst Q (sym it.threshold) fails }
 
 -- and the other way round: in the tree all lines are those of nodes
 IsNodeLine : Line → Type 0
-IsNodeLine Version = ⊥
+IsNodeLine (Version version) = ⊥
 IsNodeLine (Numbers n e upper) = ⊥
 IsNodeLine (Lower lower) = ⊥
 IsNodeLine NoBest = ⊥
@@ -241,7 +255,7 @@ tree_nodes : (tree : Tree) → AllNodes (lines_of_tree tree)
 unfolding AllNodes IsNodeLine
 tree_nodes (Open block) = nodes_append _ (Node LeavesOpen ∷ []) (block_nodes block) (tt, tt)
 tree_nodes (Closed block) = nodes_append _ (Node Closes ∷ []) (block_nodes block) (tt, tt)
-tree_nodes (Split block x a first second) = nodes_append _ (Node (Splits x a) ∷ (lines_of_tree first ++ lines_of_tree second)) (block_nodes block) (tt, nodes_append _ _ (tree_nodes first) (tree_nodes second))
+tree_nodes (Split block d first second) = nodes_append _ (Node (Splits d) ∷ (lines_of_tree first ++ lines_of_tree second)) (block_nodes block) (tt, nodes_append _ _ (tree_nodes first) (tree_nodes second))
 
 all_nodes : (tree : Tree) → AllNodes (nodes_of tree)
 unfolding nodes_of AllNodes IsNodeLine
@@ -252,10 +266,10 @@ unfolding AllNodes
 node_there [] l back all = all.0
 node_there (m ∷ front) l back all = node_there front l back all.1
 
-in_nodes : (P : Network) (c : Certificate) (fl : List Line) (line : Line) (back : List Line) (s : State) (kind : FaultKind) → IsNodeLine line → nodes_of c.tree ≡ fl ++ line ∷ back → Runs (AtNodes ([] ∷ [])) fl s
+in_nodes : (P : Network) (c : Certificate) (fl : List Line) (line : Line) (back : List Line) (s : State) (kind : FaultKind) → IsNodeLine line → nodes_of c.tree ≡ fl ++ line ∷ back → Runs (AtNodes c.version ([] ∷ [])) fl s
     → LineFails P ((heads_of c ++ Root ∷ []) ++ fl) s line kind → FailsLine P c (length ((heads_of c ++ Root ∷ []) ++ fl) + 1) kind
 unfolding nodes_of IsNodeLine
-in_nodes P c fl Version back s kind node is run fails = absurd node
+in_nodes P c fl (Version version) back s kind node is run fails = absurd node
 in_nodes P c fl (Numbers n e upper) back s kind node is run fails = absurd node
 in_nodes P c fl (Lower lower) back s kind node is run fails = absurd node
 in_nodes P c fl NoBest back s kind node is run fails = absurd node
@@ -263,30 +277,30 @@ in_nodes P c fl (Best cost) back s kind node is run fails = absurd node
 in_nodes P c fl (Values values) back s kind node is run fails = absurd node
 in_nodes P c fl Root back s kind node is run fails = absurd node
 in_nodes P c fl End back s kind node is run fails = absurd fails
-in_nodes P c fl (Node item) back (AtNodes (history ∷ paths)) kind node is run fails =
-    let it = place_of_line fl ([] ∷ []) back item history paths run in
+in_nodes P c fl (Node item) back (AtNodes version (history ∷ paths)) kind node is run fails =
+    let it = place_of_line c.version fl ([] ∷ []) back item version history paths run in
     let head = heads_of c in
     let Q : ℕ → Type 0 = λ k. FailsPlace P k history item kind in
     AtPlace it.before it.behind (place history item) (omega (arith, it.long, head_count c c.best refl, length-append (head ++ Root ∷ []) fl, length-append head (Root ∷ []))) (sym (walk_nodes c.tree) ∙ ap (walk ([] ∷ [])) is ∙ it.whole)
-    (subst Q (ap threshold_in (append_assoc head (Root ∷ []) fl) ∙ head_threshold c.variables c.functions c.upper c.lower c.best (Root ∷ fl)) fails)
-in_nodes P c fl (Node item) back (AtNodes []) kind node is run fails = absurd fails
+    (subst Q (ap threshold_in (append_assoc head (Root ∷ []) fl) ∙ head_threshold c c.best (Root ∷ fl)) fails)
+in_nodes P c fl (Node item) back (AtNodes version []) kind node is run fails = absurd fails
 in_nodes P c fl (Node item) back AtVersion kind node is run fails = absurd fails
-in_nodes P c fl (Node item) back AtNumbers kind node is run fails = absurd fails
-in_nodes P c fl (Node item) back AtLower kind node is run fails = absurd fails
-in_nodes P c fl (Node item) back AtBest kind node is run fails = absurd fails
-in_nodes P c fl (Node item) back AtValues kind node is run fails = absurd fails
-in_nodes P c fl (Node item) back AtRoot kind node is run fails = absurd fails
+in_nodes P c fl (Node item) back (AtNumbers version) kind node is run fails = absurd fails
+in_nodes P c fl (Node item) back (AtLower version) kind node is run fails = absurd fails
+in_nodes P c fl (Node item) back (AtBest version) kind node is run fails = absurd fails
+in_nodes P c fl (Node item) back (AtValues version) kind node is run fails = absurd fails
+in_nodes P c fl (Node item) back (AtRoot version) kind node is run fails = absurd fails
 in_nodes P c fl (Node item) back AtOver kind node is run fails = absurd fails
 
 module _ (P : Network) (c : Certificate) (s : State) (kind : FaultKind) where
   lines_by : Option Solution → List Line
-  lines_by best = heads c.variables c.functions c.upper c.lower best ++ Root ∷ nodes_of c.tree
+  lines_by best = heads c best ++ Root ∷ nodes_of c.tree
 
-  in_tree : (best : Option Solution) → c.best ≡ best → (front fl : List Line) (line : Line) (back : List Line) → (heads c.variables c.functions c.upper c.lower best ++ Root ∷ []) ++ fl ≡ front → nodes_of c.tree ≡ fl ++ line ∷ back
+  in_tree : (best : Option Solution) → c.best ≡ best → (front fl : List Line) (line : Line) (back : List Line) → (heads c best ++ Root ∷ []) ++ fl ≡ front → nodes_of c.tree ≡ fl ++ line ∷ back
       → Runs AtVersion front s → LineFails P front s line kind → FailsLine P c (length front + 1) kind
   in_tree best is front fl line back same rest run fails =
       let Q : List Line → Type 0 = λ x. Runs AtVersion x s → LineFails P x s line kind → FailsLine P c (length x + 1) kind in
-      let head_is : (heads_of c ++ Root ∷ []) ++ fl ≡ front = ap (λ b. (heads c.variables c.functions c.upper c.lower b ++ Root ∷ []) ++ fl) is ∙ same in
+      let head_is : (heads_of c ++ Root ∷ []) ++ fl ≡ front = ap (λ b. (heads c b ++ Root ∷ []) ++ fl) is ∙ same in
       subst Q head_is here run fails
     where
       here : Runs AtVersion ((heads_of c ++ Root ∷ []) ++ fl) s → LineFails P ((heads_of c ++ Root ∷ []) ++ fl) s line kind → FailsLine P c (length ((heads_of c ++ Root ∷ []) ++ fl) + 1) kind
@@ -295,14 +309,14 @@ module _ (P : Network) (c : Certificate) (s : State) (kind : FaultKind) where
           let R : State → Type 0 = λ x. Runs x fl s in
           let N : List Line → Type 0 = AllNodes in
           in_nodes P c fl line back s kind (node_there fl line back (subst N rest (all_nodes c.tree))) rest
-          (subst R (same_end AtVersion parts.0 (AtNodes ([] ∷ [])) (heads_of c ++ Root ∷ []) parts.1 (runs_heads c.variables c.functions c.upper c.lower c.best)) parts.2) fails
+          (subst R (same_end AtVersion parts.0 (AtNodes c.version ([] ∷ [])) (heads_of c ++ Root ∷ []) parts.1 (runs_heads c c.best)) parts.2) fails
 
   by_line : (front : List Line) (line its : Line) → its ≡ line → LineFails P front s line kind → LineFails P front s its kind
   by_line front line its is fails = let Q : Line → Type 0 = λ x. LineFails P front s x kind in subst Q (sym is) fails
 
   by_front : (best : Option Solution) → c.best ≡ best → (front : List Line) (line : Line) (back : List Line) → lines_by best ≡ front ++ line ∷ back → Runs AtVersion front s → LineFails P front s line kind → FailsLine P c (length front + 1) kind
   unfolding lines_by
-  by_front best is [] line back e run fails = absurd (by_line [] line Version (same_head e) fails)
+  by_front best is [] line back e run fails = absurd (by_line [] line (Version c.version) (same_head e) fails)
   by_front best is (a ∷ []) line back e run fails =
       let f = by_line (a ∷ []) line (Numbers c.variables c.functions c.upper) (same_head (same_tail e)) fails in
       OtherNetwork (omega arith) f.0 (λ numbers. f.1 (numbers.variables, numbers.functions, numbers.upper))
@@ -314,7 +328,7 @@ module _ (P : Network) (c : Certificate) (s : State) (kind : FaultKind) where
       let e2 = same_tail e1 in
       let e3 = same_tail e2 in
       let e4 = same_tail e3 in
-      let h0 : Version ≡ a = same_head e in
+      let h0 : Version c.version ≡ a = same_head e in
       let h1 : Numbers c.variables c.functions c.upper ≡ b = same_head e1 in
       let h2 : Lower c.lower ≡ d = same_head e2 in
       let h3 : NoBest ≡ f = same_head e3 in
@@ -327,11 +341,11 @@ module _ (P : Network) (c : Certificate) (s : State) (kind : FaultKind) where
       let e1 = same_tail e in
       let e2 = same_tail e1 in
       let e3 = same_tail e2 in
-      let h0 : Version ≡ a = same_head e in
+      let h0 : Version c.version ≡ a = same_head e in
       let h1 : Numbers c.variables c.functions c.upper ≡ b = same_head e1 in
       let h2 : Lower c.lower ≡ d = same_head e2 in
       let h3 : Best best.cost ≡ f = same_head e3 in
-      let same : a ∷ b ∷ d ∷ f ∷ [] ≡ Version ∷ Numbers c.variables c.functions c.upper ∷ Lower c.lower ∷ Best best.cost ∷ [] = cc in
+      let same : a ∷ b ∷ d ∷ f ∷ [] ≡ Version c.version ∷ Numbers c.variables c.functions c.upper ∷ Lower c.lower ∷ Best best.cost ∷ [] = cc in
       let Q : List Line → Type 0 = λ x. LineFails P x s (Values best.values) kind in
       let g = subst Q same (by_line (a ∷ b ∷ d ∷ f ∷ []) line (Values best.values) (same_head (same_tail e3)) fails) in
       NoSolution best (omega arith) g.0 is g.1
@@ -342,7 +356,7 @@ module _ (P : Network) (c : Certificate) (s : State) (kind : FaultKind) where
       let e3 = same_tail e2 in
       let e4 = same_tail e3 in
       let e5 = same_tail e4 in
-      let h0 : Version ≡ a = same_head e in
+      let h0 : Version c.version ≡ a = same_head e in
       let h1 : Numbers c.variables c.functions c.upper ≡ b = same_head e1 in
       let h2 : Lower c.lower ≡ d = same_head e2 in
       let h3 : Best best.cost ≡ f = same_head e3 in

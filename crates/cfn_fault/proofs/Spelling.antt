@@ -2,10 +2,12 @@
 use Rattle.std.proofs.Common.{◌≡◌, ℕ, List, [], ◌∷◌, ◌++◌, map, refl, sym, ap, ap₂, subst, ◌∙◌, append_assoc}
 use Rattle.std.specs.Prelude.{Option, Some, None}
 use Rattle.cfn_model.specs.declared.step.Step.{Step}
+use Rattle.cfn_model.specs.declared.step.Decision.{Decision}
+use Rattle.cfn_model.specs.declared.version.Version as versions
 use Rattle.cfn_model.specs.Tree.{Tree, Open, Closed, Split}
 use Rattle.cfn_model.specs.Certificate.{Solution, Certificate}
-use Rattle.cfn_fault.specs.Fault.{Item, Makes, LeavesOpen, Closes, Splits}
-use Rattle.cfn_fault.specs.Lines.{Line, Numbers, Lower, NoBest, Best, Values, Root, Node, End, lines_of_tree, lines_of_best, lines_of}
+use Rattle.cfn_fault.specs.Nodes.{Item, Makes, LeavesOpen, Closes, Splits}
+use Rattle.cfn_fault.specs.Lines.{Line, Version, Numbers, Lower, NoBest, Best, Values, Root, Node, End, lines_of_tree, lines_of_best, lines_of}
 use Rattle.cfn_fault.specs.Laws.{OneCertificate}
 use Rattle.cfn_fault.proofs.Judging.{same_head, same_tail}
 use Rattle.cfn_fault.proofs.Faults.{front_whole}
@@ -18,7 +20,7 @@ abbrev EndsBlock : Item → Type 0
 EndsBlock (Makes step) = ⊥
 EndsBlock LeavesOpen = Unit {0}
 EndsBlock Closes = Unit {0}
-EndsBlock (Splits x a) = Unit {0}
+EndsBlock (Splits d) = Unit {0}
 
 same_item : {i j : Item} → Node i ≡ Node j → i ≡ j
 same_item e = cc
@@ -38,53 +40,52 @@ same_block (x ∷ b) (y ∷ c) i j r s ends other e =
 abbrev block_of : Tree → List Step
 block_of (Open block) = block
 block_of (Closed block) = block
-block_of (Split block x a first second) = block
+block_of (Split block d first second) = block
 
 abbrev end_of : Tree → Item
 end_of (Open block) = LeavesOpen
 end_of (Closed block) = Closes
-end_of (Split block x a first second) = Splits x a
+end_of (Split block d first second) = Splits d
 
 abbrev behind : Tree → List Line → List Line
 behind (Open block) rest = rest
 behind (Closed block) rest = rest
-behind (Split block x a first second) rest = lines_of_tree first ++ (lines_of_tree second ++ rest)
+behind (Split block d first second) rest = lines_of_tree first ++ (lines_of_tree second ++ rest)
 
 ends_block : (tree : Tree) → EndsBlock (end_of tree)
 ends_block (Open block) = tt
 ends_block (Closed block) = tt
-ends_block (Split block x a first second) = tt
+ends_block (Split block d first second) = tt
 
 parted : (tree : Tree) (rest : List Line) → lines_of_tree tree ++ rest ≡ block_lines (block_of tree) ++ Node (end_of tree) ∷ behind tree rest
 parted (Open block) rest = append_assoc (block_lines block) (Node LeavesOpen ∷ []) rest
 parted (Closed block) rest = append_assoc (block_lines block) (Node Closes ∷ []) rest
-parted (Split block x a first second) rest =
-    append_assoc (block_lines block) (Node (Splits x a) ∷ (lines_of_tree first ++ lines_of_tree second)) rest
-    ∙ ap (λ r. block_lines block ++ Node (Splits x a) ∷ r) (append_assoc (lines_of_tree first) (lines_of_tree second) rest)
+parted (Split block d first second) rest =
+    append_assoc (block_lines block) (Node (Splits d) ∷ (lines_of_tree first ++ lines_of_tree second)) rest
+    ∙ ap (λ r. block_lines block ++ Node (Splits d) ∷ r) (append_assoc (lines_of_tree first) (lines_of_tree second) rest)
 
-same_split : {x y a b : ℕ} → Splits x a ≡ Splits y b → (x ≡ y) × (a ≡ b)
-same_split e = (cc, cc)
+same_decision : {d e : Decision} → Splits d ≡ Splits e → d ≡ e
+same_decision same = cc
 
-split_of : {b c : List Step} {x y a d : ℕ} {t t' u u' : Tree} → b ≡ c → x ≡ y → a ≡ d → t ≡ t' → u ≡ u' → Split b x a t u ≡ Split c y d t' u'
-split_of e f g h i = cc
+split_of : {b c : List Step} {d e : Decision} {t t' u u' : Tree} → b ≡ c → d ≡ e → t ≡ t' → u ≡ u' → Split b d t u ≡ Split c e t' u'
+split_of f g h i = cc
 
 same_tree : (t u : Tree) (rest more : List Line) → lines_of_tree t ++ rest ≡ lines_of_tree u ++ more → (t ≡ u) × (rest ≡ more)
 same_tree (Open b) (Open c) rest more e =
     let same = same_block b c LeavesOpen LeavesOpen rest more tt tt (sym (parted (Open b) rest) ∙ e ∙ parted (Open c) more) in (ap Open same.0, same.2)
 same_tree (Closed b) (Closed c) rest more e =
     let same = same_block b c Closes Closes rest more tt tt (sym (parted (Closed b) rest) ∙ e ∙ parted (Closed c) more) in (ap Closed same.0, same.2)
-same_tree (Split b x a t t') (Split c y d u u') rest more e =
-    let same = same_block b c (Splits x a) (Splits y d) (lines_of_tree t ++ (lines_of_tree t' ++ rest)) (lines_of_tree u ++ (lines_of_tree u' ++ more)) tt tt (sym (parted (Split b x a t t') rest) ∙ e ∙ parted (Split c y d u u') more) in
+same_tree (Split b d t t') (Split c d' u u') rest more e =
+    let same = same_block b c (Splits d) (Splits d') (lines_of_tree t ++ (lines_of_tree t' ++ rest)) (lines_of_tree u ++ (lines_of_tree u' ++ more)) tt tt (sym (parted (Split b d t t') rest) ∙ e ∙ parted (Split c d' u u') more) in
     let first = same_tree t u (lines_of_tree t' ++ rest) (lines_of_tree u' ++ more) same.2 in
     let second = same_tree t' u' rest more first.1 in
-    let value = same_split same.1 in
-    (split_of same.0 value.0 value.1 first.0 second.0, second.1)
+    (split_of same.0 (same_decision same.1) first.0 second.0, second.1)
 same_tree (Open b) (Closed c) rest more e = absurd (let same = same_block b c LeavesOpen Closes rest more tt tt (sym (parted (Open b) rest) ∙ e ∙ parted (Closed c) more) in let k : LeavesOpen ≡ Closes = same.1 in cc)
 same_tree (Closed b) (Open c) rest more e = absurd (let same = same_block b c Closes LeavesOpen rest more tt tt (sym (parted (Closed b) rest) ∙ e ∙ parted (Open c) more) in let k : Closes ≡ LeavesOpen = same.1 in cc)
-same_tree (Open b) (Split c y d u u') rest more e = absurd (let same = same_block b c LeavesOpen (Splits y d) rest (behind (Split c y d u u') more) tt tt (sym (parted (Open b) rest) ∙ e ∙ parted (Split c y d u u') more) in let k : LeavesOpen ≡ Splits y d = same.1 in cc)
-same_tree (Closed b) (Split c y d u u') rest more e = absurd (let same = same_block b c Closes (Splits y d) rest (behind (Split c y d u u') more) tt tt (sym (parted (Closed b) rest) ∙ e ∙ parted (Split c y d u u') more) in let k : Closes ≡ Splits y d = same.1 in cc)
-same_tree (Split b x a t t') (Open c) rest more e = absurd (let same = same_block b c (Splits x a) LeavesOpen (behind (Split b x a t t') rest) more tt tt (sym (parted (Split b x a t t') rest) ∙ e ∙ parted (Open c) more) in let k : Splits x a ≡ LeavesOpen = same.1 in cc)
-same_tree (Split b x a t t') (Closed c) rest more e = absurd (let same = same_block b c (Splits x a) Closes (behind (Split b x a t t') rest) more tt tt (sym (parted (Split b x a t t') rest) ∙ e ∙ parted (Closed c) more) in let k : Splits x a ≡ Closes = same.1 in cc)
+same_tree (Open b) (Split c d' u u') rest more e = absurd (let same = same_block b c LeavesOpen (Splits d') rest (behind (Split c d' u u') more) tt tt (sym (parted (Open b) rest) ∙ e ∙ parted (Split c d' u u') more) in let k : LeavesOpen ≡ Splits d' = same.1 in cc)
+same_tree (Closed b) (Split c d' u u') rest more e = absurd (let same = same_block b c Closes (Splits d') rest (behind (Split c d' u u') more) tt tt (sym (parted (Closed b) rest) ∙ e ∙ parted (Split c d' u u') more) in let k : Closes ≡ Splits d' = same.1 in cc)
+same_tree (Split b d t t') (Open c) rest more e = absurd (let same = same_block b c (Splits d) LeavesOpen (behind (Split b d t t') rest) more tt tt (sym (parted (Split b d t t') rest) ∙ e ∙ parted (Open c) more) in let k : Splits d ≡ LeavesOpen = same.1 in cc)
+same_tree (Split b d t t') (Closed c) rest more e = absurd (let same = same_block b c (Splits d) Closes (behind (Split b d t t') rest) more tt tt (sym (parted (Split b d t t') rest) ∙ e ∙ parted (Closed c) more) in let k : Splits d ≡ Closes = same.1 in cc)
 
 -- the best, and the lines behind it
 same_best : (p q : Option Solution) (rest more : List Line) → lines_of_best p ++ Root ∷ rest ≡ lines_of_best q ++ Root ∷ more → (p ≡ q) × (rest ≡ more)
@@ -100,11 +101,11 @@ same_best (Some p) (Some q) rest more e =
 same_best None (Some q) rest more e = absurd (let k : NoBest ≡ Best q.cost = same_head e in cc)
 same_best (Some p) None rest more e = absurd (let k : Best p.cost ≡ NoBest = same_head e in cc)
 
-made_of : ℕ → ℕ → ℕ → Option Solution → ℕ → Tree → Certificate
-made_of variables functions upper best lower tree = record { variables = variables; functions = functions; upper = upper; best = best; lower = lower; tree = tree }
+made_of : versions.Version → ℕ → ℕ → ℕ → Option Solution → ℕ → Tree → Certificate
+made_of version variables functions upper best lower tree = record { version = version; variables = variables; functions = functions; upper = upper; best = best; lower = lower; tree = tree }
 
-same_made : {n n' e e' u u' l l' : ℕ} {p p' : Option Solution} {t t' : Tree} → n ≡ n' → e ≡ e' → u ≡ u' → p ≡ p' → l ≡ l' → t ≡ t' → made_of n e u p l t ≡ made_of n' e' u' p' l' t'
-same_made a b c d e f = cc
+same_made : {v v' : versions.Version} {n n' e e' u u' l l' : ℕ} {p p' : Option Solution} {t t' : Tree} → v ≡ v' → n ≡ n' → e ≡ e' → u ≡ u' → p ≡ p' → l ≡ l' → t ≡ t' → made_of v n e u p l t ≡ made_of v' n' e' u' p' l' t'
+same_made a b c d e f g = cc
 
 pub same_certificate : (c d : Certificate) → lines_of c ≡ lines_of d → c ≡ d
 unfolding made_of
@@ -113,8 +114,11 @@ same_certificate c d e =
     let lower = told_lower (same_head (same_tail (same_tail e))) in
     let best = same_best c.best d.best (lines_of_tree c.tree ++ End ∷ []) (lines_of_tree d.tree ++ End ∷ []) (same_tail (same_tail (same_tail e))) in
     let tree = same_tree c.tree d.tree (End ∷ []) (End ∷ []) best.1 in
-    same_made numbers.0 numbers.1 numbers.2 best.0 lower tree.0
+    same_made (told_version (same_head e)) numbers.0 numbers.1 numbers.2 best.0 lower tree.0
   where
+    told_version : {v w : versions.Version} → Version v ≡ Version w → v ≡ w
+    told_version e = cc
+
     told_numbers : {n n' e e' u u' : ℕ} → Numbers n e u ≡ Numbers n' e' u' → (n ≡ n') × (e ≡ e') × (u ≡ u')
     told_numbers e = (cc, cc, cc)
 

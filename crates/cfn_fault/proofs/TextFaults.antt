@@ -8,7 +8,8 @@ use Rattle.cfn_model.specs.Network.{Network}
 use Rattle.cfn_model.specs.Certificate.{Certificate, threshold}
 use Rattle.cfn_model.specs.Text.{Spells}
 use Rattle.cfn_fault.specs.declared.kind.FaultKind.TheVariants as kinds
-use Rattle.cfn_fault.specs.Fault.{line_at, Item, Makes, LeavesOpen, Closes, Splits, refusal_of, OutOfRange, NotAllowed, FailsPlace, FailsLine, OtherNetwork, NotBelow, NoSolution, AtPlace, TextFault, AsText, InCertificate, First, LowerAbove}
+use Rattle.cfn_fault.specs.Nodes.{Item, Makes, LeavesOpen, Closes, Splits}
+use Rattle.cfn_fault.specs.Fault.{line_at, refusal_of, OutOfRange, NotAllowed, FailsPlace, FailsLine, OtherNetwork, NotBelow, NoSolution, AtPlace, TextFault, AsText, InCertificate, First, LowerAbove}
 use Rattle.cfn_fault.specs.Lines.{Line, State, AtVersion, AtOver}
 use Rattle.cfn_fault.specs.Laws.{Fronts, SpellsOrTextFault, NoTextFaultWhereSpelled, OneTextFault, FaultOfText}
 use Rattle.cfn_fault.proofs.Beginning.{some_rest, none_begins, text_fails}
@@ -69,7 +70,7 @@ no_place P k history (Makes step) (OutOfRange is out) = cc
 no_place P k history (Makes step) (NotAllowed is within not) = no_step step is
 no_place P k history LeavesOpen fails = fails
 no_place P k history Closes fails = let e : kinds.Text ≡ kinds.Close = fails.0 in cc
-no_place P k history (Splits x a) fails = let e : kinds.Text ≡ kinds.Range = fails.0 in cc
+no_place P k history (Splits d) fails = let e : kinds.Text ≡ kinds.Range = fails.0 in cc
 
 no_line : (P : Network) (c : Certificate) (l : ℕ) → FailsLine P c l kinds.Text → ⊥
 no_line P c l (OtherNetwork number is other) = cc

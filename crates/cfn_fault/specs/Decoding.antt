@@ -3,8 +3,11 @@ use Rattle.std.specs.Prelude.{ℕ, Bool, true, false, not, ◌&&◌, List, [], �
 use Rattle.std.specs.List.{list_all}
 use Rattle.std.specs.Str.{bytes_eq}
 use Rattle.cfn_model.specs.declared.step.Step.TheVariants.{Project, Extend, Lift, CutValue, CutTuple}
+use Rattle.cfn_model.specs.declared.step.Decision.TheVariants.{Is, Most}
+use Rattle.cfn_model.specs.declared.version.Version as versions
+use Rattle.cfn_model.specs.declared.version.Version.TheVariants.{First, Second}
 use Rattle.cfn_model.specs.Words.{with_first, is_digit, digits_behind, greatest}
-use Rattle.cfn_fault.specs.Fault.{Makes, LeavesOpen, Closes, Splits}
+use Rattle.cfn_fault.specs.Nodes.{Makes, LeavesOpen, Closes, Splits}
 use Rattle.cfn_fault.specs.Lines.{Line, Version, Numbers, Lower, NoBest, Best, Values, Root, Node, End}
 
 -- A value, if there is one, and what is made of it.
@@ -83,10 +86,15 @@ abbrev pub are_values : List (List ℕ) → Option Line
 are_values [] = None
 are_values (word ∷ words) = numbers_in (word ∷ words) >>= λ values. Some (Values values)
 
+-- The version that a word names, if it names one.
+unfoldable pub version_of : List ℕ → Option versions.Version
+version_of word = if bytes_eq word (codes "1") then Some First else (if bytes_eq word (codes "2") then Some Second else None)
+
 unfoldable pub version_line : List (List ℕ) → Option Line
 version_line words = do
   word ← word_from words
-  if bytes_eq word.0 (codes "1") then at_end Version word.1 else None
+  version ← version_of word.0
+  at_end (Version version) word.1
 
 unfoldable pub project_line : List (List ℕ) → Option Line
 project_line words = do
@@ -126,7 +134,13 @@ unfoldable pub split_line : List (List ℕ) → Option Line
 split_line words = do
   x ← number_from words
   a ← number_from x.1
-  at_end (Node (Splits x.0 a.0)) a.1
+  at_end (Node (Splits (Is x.0 a.0))) a.1
+
+unfoldable pub part_line : List (List ℕ) → Option Line
+part_line words = do
+  x ← number_from words
+  v ← number_from x.1
+  at_end (Node (Splits (Most x.0 v.0))) v.1
 
 -- The line that words say, by the first of them.
 unfoldable pub node_line : List ℕ → List (List ℕ) → Option Line
@@ -139,6 +153,7 @@ node_line word words =
     else if bytes_eq word (codes "open") then at_end (Node LeavesOpen) words
     else if bytes_eq word (codes "closed") then at_end (Node Closes) words
     else if bytes_eq word (codes "split") then split_line words
+    else if bytes_eq word (codes "part") then part_line words
     else None
 
 unfoldable pub item_line : List ℕ → List (List ℕ) → Option Line

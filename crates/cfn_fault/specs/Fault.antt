@@ -3,15 +3,16 @@ use Rattle.std.specs.Prelude.{◌≡◌, ℕ, ◌+◌, ◌<◌, ◌≤◌, List,
 use Rattle.cfn_model.specs.declared.step.Step.{Step}
 use Rattle.cfn_model.specs.declared.step.Step.TheVariants.{Project, Extend, Lift, CutValue, CutTuple}
 use Rattle.cfn_model.specs.declared.step.Event.{Event}
-use Rattle.cfn_model.specs.declared.step.Event.TheVariants.{Did, Is, IsNot}
+use Rattle.cfn_model.specs.declared.step.Event.TheVariants.{Did, Took, Refused}
 use Rattle.cfn_model.specs.Network.{Network, Fits, cost}
 use Rattle.cfn_model.specs.Words.{with_first}
-use Rattle.cfn_model.specs.Steps.{IsValue, InRange, Allowed, after}
+use Rattle.cfn_model.specs.Steps.{IsDecision, InRange, Allowed, after}
 use Rattle.cfn_model.specs.Tree.{Tree, Open, Closed, Split, CanClose, bound}
 use Rattle.cfn_model.specs.Certificate.{Solution, Certificate, threshold}
 use Rattle.cfn_model.specs.Text.{IsSpelled, Spells, spelling, head_lines}
 use Rattle.cfn_fault.specs.declared.kind.FaultKind.{FaultKind}
 use Rattle.cfn_fault.specs.declared.kind.FaultKind.TheVariants as kinds
+use Rattle.cfn_fault.specs.Nodes.{Item, Makes, LeavesOpen, Closes, Splits}
 
 -- The lines of a text, each with its LF. Bytes behind the last LF are a line.
 abbrev pub lines : List ℕ → List (List ℕ)
@@ -36,13 +37,6 @@ pub record TextFault (bytes : List ℕ) (l : ℕ) : Type 0 where
   pub none : NoneBeginsWith bytes l
   pub some : (fewer : ℕ) → fewer < l → (c : Certificate) × IsSpelled c × Begins c bytes fewer
 
--- What a line of a tree says.
-pub data Item : Type 0 where
-  Makes : (step : Step) → Item
-  LeavesOpen : Item
-  Closes : Item
-  Splits : (x a : ℕ) → Item
-
 -- A line of a tree, and what happened on the path before it.
 pub record Place : Type 0 where
   pub history : List Event
@@ -59,10 +53,10 @@ block_places history (step ∷ steps) = place history (Makes step) ∷ block_pla
 abbrev pub places : List Event → Tree → List Place
 places history (Open block) = block_places history block ++ place (after block history) LeavesOpen ∷ []
 places history (Closed block) = block_places history block ++ place (after block history) Closes ∷ []
-places history (Split block x a first second) =
+places history (Split block d first second) =
     block_places history block
-    ++ place (after block history) (Splits x a)
-    ∷ (places (Is x a ∷ after block history) first ++ places (IsNot x a ∷ after block history) second)
+    ++ place (after block history) (Splits d)
+    ∷ (places (Took d ∷ after block history) first ++ places (Refused d ∷ after block history) second)
 
 -- How a step fails that is in range and not allowed.
 abbrev pub refusal_of : Step → FaultKind
@@ -77,13 +71,13 @@ pub data FailsStep (P : Network) (k : ℕ) (history : List Event) (step : Step) 
   OutOfRange : kind ≡ kinds.Range → (InRange P step → ⊥) → FailsStep P k history step kind
   NotAllowed : kind ≡ refusal_of step → InRange P step → (Allowed P history k step → ⊥) → FailsStep P k history step kind
 
--- What a place's line says is wrong at the threshold k: its step fails, its leaf may not be closed, or its split is of no
--- value of a variable.
+-- What a place's line says is wrong at the threshold k: its step fails, its leaf may not be closed, or its split's
+-- decision names no value of a variable.
 abbrev pub FailsPlace : Network → ℕ → List Event → Item → FaultKind → Type 0
 FailsPlace P k history (Makes step) kind = FailsStep P k history step kind
 FailsPlace P k history LeavesOpen kind = ⊥
 FailsPlace P k history Closes kind = (kind ≡ kinds.Close) × (CanClose P history k → ⊥)
-FailsPlace P k history (Splits x a) kind = (kind ≡ kinds.Range) × (IsValue P x a → ⊥)
+FailsPlace P k history (Splits d) kind = (kind ≡ kinds.Range) × (IsDecision P d → ⊥)
 
 -- A certificate's numbers are the network's.
 pub record HasNumbers (P : Network) (c : Certificate) : Type 0 where

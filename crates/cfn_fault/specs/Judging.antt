@@ -3,39 +3,40 @@ use Rattle.std.specs.Prelude.{◌≡◌, ℕ, ◌<◌, ◌≤◌, min, List, [],
 use Rattle.cfn_model.specs.declared.step.Event.{Event}
 use Rattle.cfn_model.specs.Network.{Network, Fits, cost}
 use Rattle.cfn_model.specs.Sums.{floor}
-use Rattle.cfn_model.specs.Steps.{IsValue, Allowed}
+use Rattle.cfn_model.specs.Steps.{IsDecision, Allowed}
 use Rattle.cfn_model.specs.Tree.{CanClose}
 use Rattle.cfn_fault.specs.declared.kind.FaultKind.{FaultKind}
 use Rattle.cfn_fault.specs.declared.kind.FaultKind.TheVariants as kinds
-use Rattle.cfn_fault.specs.Fault.{Item, Makes, LeavesOpen, Closes, Splits, FailsPlace}
-use Rattle.cfn_fault.specs.Lines.{Line, Version, Numbers, Lower, NoBest, Best, Values, Root, Node, End, State, AtVersion, AtNumbers, AtLower, AtBest, AtValues, AtRoot, AtNodes, AtOver, paths_after, Runs}
+use Rattle.cfn_fault.specs.Nodes.{Item, Makes, LeavesOpen, Closes, Splits, paths_after}
+use Rattle.cfn_fault.specs.Fault.{FailsPlace}
+use Rattle.cfn_fault.specs.Lines.{Line, Version, Numbers, Lower, NoBest, Best, Values, Root, Node, End, State, AtVersion, AtNumbers, AtLower, AtBest, AtValues, AtRoot, AtNodes, AtOver, Runs}
 
 -- The threshold that lines say, once they have said it.
 abbrev pub threshold_in : List Line → ℕ
-threshold_in (Version ∷ Numbers n e upper ∷ Lower lower ∷ NoBest ∷ ls) = upper
-threshold_in (Version ∷ Numbers n e upper ∷ Lower lower ∷ Best cost ∷ ls) = cost
+threshold_in (Version version ∷ Numbers n e upper ∷ Lower lower ∷ NoBest ∷ ls) = upper
+threshold_in (Version version ∷ Numbers n e upper ∷ Lower lower ∷ Best cost ∷ ls) = cost
 threshold_in ls = 0
 
 -- The lower bound that lines say, once they have said it.
 abbrev pub lower_in : List Line → ℕ
-lower_in (Version ∷ Numbers n e upper ∷ Lower lower ∷ ls) = lower
+lower_in (Version version ∷ Numbers n e upper ∷ Lower lower ∷ ls) = lower
 lower_in ls = 0
 
 -- A line of a node fails at the path that is due.
 abbrev pub NodeFails : Network → ℕ → State → Item → FaultKind → Type 0
-NodeFails P k (AtNodes (history ∷ paths)) item kind = FailsPlace P k history item kind
-NodeFails P k (AtNodes []) item kind = ⊥
+NodeFails P k (AtNodes version (history ∷ paths)) item kind = FailsPlace P k history item kind
+NodeFails P k (AtNodes version []) item kind = ⊥
 NodeFails P k AtVersion item kind = ⊥
-NodeFails P k AtNumbers item kind = ⊥
-NodeFails P k AtLower item kind = ⊥
-NodeFails P k AtBest item kind = ⊥
-NodeFails P k AtValues item kind = ⊥
-NodeFails P k AtRoot item kind = ⊥
+NodeFails P k (AtNumbers version) item kind = ⊥
+NodeFails P k (AtLower version) item kind = ⊥
+NodeFails P k (AtBest version) item kind = ⊥
+NodeFails P k (AtValues version) item kind = ⊥
+NodeFails P k (AtRoot version) item kind = ⊥
 NodeFails P k AtOver item kind = ⊥
 
 -- A line fails behind these lines, which lead to that state.
 abbrev pub LineFails : Network → List Line → State → Line → FaultKind → Type 0
-LineFails P front s Version kind = ⊥
+LineFails P front s (Version version) kind = ⊥
 LineFails P front s (Numbers n e upper) kind = (kind ≡ kinds.Network) × ((n ≡ length P.sizes) × (e ≡ length P.functions) × (upper ≡ P.upper) → ⊥)
 LineFails P front s (Lower lower) kind = ⊥
 LineFails P front s NoBest kind = ⊥
@@ -54,22 +55,22 @@ abbrev pub PassesPlace : Network → ℕ → List Event → Item → Type 0
 PassesPlace P k history (Makes step) = Allowed P history k step
 PassesPlace P k history LeavesOpen = Unit {0}
 PassesPlace P k history Closes = CanClose P history k
-PassesPlace P k history (Splits x a) = IsValue P x a
+PassesPlace P k history (Splits d) = IsDecision P d
 
 abbrev pub NodePasses : Network → ℕ → State → Item → Type 0
-NodePasses P k (AtNodes (history ∷ paths)) item = PassesPlace P k history item
-NodePasses P k (AtNodes []) item = Unit {0}
+NodePasses P k (AtNodes version (history ∷ paths)) item = PassesPlace P k history item
+NodePasses P k (AtNodes version []) item = Unit {0}
 NodePasses P k AtVersion item = Unit {0}
-NodePasses P k AtNumbers item = Unit {0}
-NodePasses P k AtLower item = Unit {0}
-NodePasses P k AtBest item = Unit {0}
-NodePasses P k AtValues item = Unit {0}
-NodePasses P k AtRoot item = Unit {0}
+NodePasses P k (AtNumbers version) item = Unit {0}
+NodePasses P k (AtLower version) item = Unit {0}
+NodePasses P k (AtBest version) item = Unit {0}
+NodePasses P k (AtValues version) item = Unit {0}
+NodePasses P k (AtRoot version) item = Unit {0}
 NodePasses P k AtOver item = Unit {0}
 
 -- A line is right behind these lines, which lead to that state.
 abbrev pub LinePasses : Network → List Line → State → Line → Type 0
-LinePasses P front s Version = Unit {0}
+LinePasses P front s (Version version) = Unit {0}
 LinePasses P front s (Numbers n e upper) = (n ≡ length P.sizes) × (e ≡ length P.functions) × (upper ≡ P.upper)
 LinePasses P front s (Lower lower) = Unit {0}
 LinePasses P front s NoBest = Unit {0}
@@ -88,7 +89,7 @@ abbrev pub floor_at : Network → List Event → Item → List ℕ
 floor_at P history (Makes step) = []
 floor_at P history LeavesOpen = floor P history ∷ []
 floor_at P history Closes = []
-floor_at P history (Splits x a) = []
+floor_at P history (Splits d) = []
 
 abbrev pub open_floors : Network → List (List Event) → List Line → List ℕ
 open_floors P paths [] = []

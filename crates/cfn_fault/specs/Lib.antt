@@ -1,3 +1,4 @@
+pub mod Nodes
 pub mod Fault
 pub mod Lines
 pub mod Decoding

@@ -8,7 +8,8 @@ use Rattle.cfn_model.specs.declared.version.Version.TheVariants.{Second}
 use Rattle.cfn_model.specs.Network.{Network}
 use Rattle.cfn_model.specs.Sums.{floor}
 use Rattle.cfn_model.specs.Steps.{after}
-use Rattle.cfn_model.specs.Text.{IsSpelledTree, HasDecision, HasTree}
+use Rattle.cfn_model.specs.Text.{IsSpelledTree}
+use Rattle.cfn_model.proofs.CallerLemmas.{has_every_tree}
 use Rattle.cfn_model.specs.Tree as trees
 use Rattle.cfn_model.specs.Tree.{Valid, Strict, OpenBelow, bound, open_leaves}
 use Rattle.cfn_proof.specs.declared.tree.NodeId.{NodeId}
@@ -110,18 +111,8 @@ pub spelled_law : SpelledLaw
 spelled_law nodes tree =
     from_last (length nodes) (λ i. IsSpelledTree (tree_at nodes i)) (λ i there later. subst (λ t. IsSpelledTree t) (sym (tree_at_is nodes i tree.linked there)) (spelled_at nodes tree i (node_at nodes i).end there refl later)) 0 tree.linked.some
 
--- the second version has a line for every decision
-has_decision : (d : Decision) → HasDecision Second d
-has_decision (Is x a) = tt
-has_decision (Most x v) = tt
-
-has_tree : (tree : trees.Tree) → HasTree Second tree
-has_tree (trees.Open block) = tt
-has_tree (trees.Closed block) = tt
-has_tree (trees.Split block d first second) = (has_decision d, has_tree first, has_tree second)
-
 pub lines_law : LinesLaw
-lines_law nodes = has_tree (tree_of nodes)
+lines_law nodes = has_every_tree (tree_of nodes)
 
 pub none_open_law : NoneOpenLaw
 none_open_law nodes linked none =

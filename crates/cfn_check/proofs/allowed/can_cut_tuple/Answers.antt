@@ -1,7 +1,7 @@
 use Rattle.std.proofs.Common.{arith}
 use Rattle.std.proofs.lemmas.Int.{ints}
 use Rattle.cfn_model.specs.Network.{dims_at}
-use Rattle.cfn_net.proofs.Digits.{tuple_of, tuple_of-numbered}
+use Rattle.cfn_net.proofs.CallerLemmas.{tuple_of, tuple_of-numbered}
 use Rattle.cfn_check.proofs.allowed.can_cut_tuple.Goals as goal
 
 pub returns : goal.returns

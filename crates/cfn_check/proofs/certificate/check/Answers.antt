@@ -1,5 +1,5 @@
 use Rattle.std.proofs.Common.{ap}
-use Rattle.cfn_fault.proofs.Judging.{none_pass_yet}
+use Rattle.cfn_fault.proofs.CallerLemmas.{none_pass_yet}
 use Rattle.cfn_check.specs.declared.answer.Check.TheVariants.{Refused}
 use Rattle.cfn_check.proofs.Verifying.{exact}
 use Rattle.cfn_check.proofs.certificate.check.Goals as goal

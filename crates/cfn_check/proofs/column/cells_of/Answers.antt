@@ -1,6 +1,6 @@
 use Rattle.std.proofs.Common.{◌+◌, ◌<◌, length, ap, arith, ◌*◌}
 use Rattle.cfn_model.specs.Network.{dims}
-use Rattle.cfn_net.proofs.Cells.{Inhabited-dims, cells-drop-pos, product_more, product_below}
+use Rattle.cfn_net.proofs.CallerLemmas.{Inhabited-dims, cells-drop-pos, product_more, product_below}
 use Rattle.cfn_check.proofs.column.cells_of.Goals as goal
 
 pub overflow_mul-cells : goal.overflow_mul-cells

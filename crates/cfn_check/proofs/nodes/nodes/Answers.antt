@@ -3,7 +3,7 @@ use Rattle.std.specs.Prelude.{Option}
 use Rattle.std.proofs.lemmas.Bool.{iff_false}
 use Rattle.std.proofs.lemmas.Result.{err_from_is_err_and}
 use Rattle.cfn_fault.specs.declared.kind.FaultKind.{FaultKind}
-use Rattle.cfn_fault.specs.Fault.{Item}
+use Rattle.cfn_fault.specs.Nodes.{Item}
 use Rattle.cfn_fault.specs.Lines.{Node}
 use Rattle.cfn_certtext.specs.Reading.{item_of}
 use Rattle.cfn_check.specs.Taking.{Takes}

@@ -1,7 +1,7 @@
 use Rattle.std.proofs.Common.{◌≡◌, ℕ, length}
 use Rattle.std.specs.Prelude.{Option}
 use Rattle.cfn_fault.specs.Lines.{AtNodes}
-use Rattle.cfn_check.specs.Checking.{InTree, IsDue}
+use Rattle.cfn_check.specs.Checking.{InTree, IsDueIn}
 use Rattle.cfn_check.proofs.nodes.nodes.Given as goal
 
 -- the lines so far are right, where those before the nodes are
@@ -9,7 +9,7 @@ abbrev pub invariant-loop-reader : goal.invariant-loop-reader
 invariant-loop-reader l = record {
   text : l.reader.text ≡ l.fn.reader.text;
   network : l.walk.network ≡ l.fn.walk.network;
-  due : IsDue l.reader (AtNodes l.walk.paths);
+  due : IsDueIn l.reader (λ version. AtNodes version l.walk.paths);
   tree : (lower : ℕ) (best : Option ℕ) → InTree l.network l.fn.reader l.fn.walk lower best → InTree l.network l.reader l.walk lower best;
 }
 

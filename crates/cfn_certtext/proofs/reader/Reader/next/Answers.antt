@@ -1,5 +1,7 @@
-use Rattle.std.proofs.Common.{sym, ◌∙◌, inl, inr}
+use Rattle.std.proofs.Common.{◌≡◌, ◌-◌, length, take, drop, sym, ap, ◌∙◌, inl, inr, arith}
+use Rattle.std.proofs.lemmas.List.{length-drop, take_rest}
 use Rattle.cfn_certtext.specs.Stages.{values_of}
+use Rattle.cfn_certtext.proofs.Stages.{owed_next}
 use Rattle.cfn_certtext.proofs.Telling.{value_told, line_told, fault_told, not_empty}
 use Rattle.cfn_certtext.proofs.reader.Reader.next.Goals as goal
 use Rattle.cfn_certtext.proofs.reader.Reader.next.Goals.{else-is_empty-via-then-is_empty+else-is_over, else-is_empty-via-else-is_empty}
@@ -8,6 +10,13 @@ pub returns-in-Some-clause-event : goal.returns-in-Some-clause-event
 returns-in-Some-clause-event c =
     let r = c.self.inside in
     rw (← c.self.view_is) (λ ls s read. value_told r.text.now r.at r.count r.stage r.values c.in-Some.word.now c.word.new.self c.value.result ls s c.in-Some.ensures.gives c.value.ensures)
+
+pub invariant_of-self-in-Some-next_line : goal.invariant_of-self-in-Some-next_line
+invariant_of-self-in-Some-next_line c =
+    let r = c.self.inside in
+    let line = c.in-Some-next_line.ensures.some in
+    let bytes : length (take (length r.text.now - r.at) (drop r.at r.text.now)) ≡ length r.text.now - r.at = ap length (take_rest r.text.now r.at) ∙ length-drop r.at r.text.now in
+    (omega (arith, line.some, c.self.invariant.0), omega (arith, line.within, bytes, c.self.invariant.1), omega (arith, owed_next r.stage line.line c.in-Some-next_line.next.stage line.follows, c.self.invariant.2))
 
 pub returns-in-Some-next_line-clause-event : goal.returns-in-Some-next_line-clause-event
 returns-in-Some-next_line-clause-event c =

@@ -1,7 +1,7 @@
 use Rattle.std.proofs.Common.{◌≡◌, ℕ, List, refl, ◌/◌, get_or, ◌*◌, ◌<◌, length, ap, sym, ◌∙◌, arith}
 use Rattle.cfn_model.specs.Network.{cells, dims, dims_at, scope_at}
-use Rattle.cfn_net.proofs.Cells.{Inhabited-dims, length-dims, get_or-dims}
-use Rattle.cfn_net.proofs.Digits.{cells-behind, cells-behind-le}
+use Rattle.cfn_net.proofs.CallerLemmas.{Inhabited-dims, length-dims, get_or-dims}
+use Rattle.cfn_net.proofs.CallerLemmas.{cells-behind, cells-behind-le}
 use Rattle.cfn_check.proofs.Cells.{Strides, strides, exact}
 use Rattle.cfn_check.proofs.column.Column.of.Goals as goal
 

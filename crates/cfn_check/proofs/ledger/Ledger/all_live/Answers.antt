@@ -2,7 +2,7 @@ use Rattle.std.proofs.Common.{◌≡◌, ℕ, suc, ◌-◌, ◌<◌, List, lengt
 use Rattle.std.specs.Prelude.{false}
 use Rattle.cfn_model.specs.Network.{Fits, cell, dims}
 use Rattle.cfn_model.specs.Sums.{all_live}
-use Rattle.cfn_net.proofs.Cells.{get_or-dims}
+use Rattle.cfn_net.proofs.CallerLemmas.{get_or-dims}
 use Rattle.cfn_check.proofs.Walks.{LiveBehind, behind_start, behind_more, dead}
 use Rattle.cfn_check.proofs.ledger.Ledger.all_live.Goals as goal
 

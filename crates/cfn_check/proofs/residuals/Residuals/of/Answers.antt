@@ -1,6 +1,6 @@
 use Rattle.std.proofs.Common.{replicate, false, ap, ◌∙◌, arith}
 use Rattle.cfn_model.specs.Network.{cell, dims_at}
-use Rattle.cfn_net.proofs.Digits.{cell-below}
+use Rattle.cfn_net.proofs.CallerLemmas.{cell-below}
 use Rattle.cfn_check.proofs.residuals.Residuals.of.Goals as goal
 
 pub returns : goal.returns

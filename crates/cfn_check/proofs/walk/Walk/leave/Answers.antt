@@ -1,6 +1,6 @@
 use Rattle.std.proofs.Common.{◌≡◌, ◌-◌, List, [], ◌∷◌, length, reverse, ap, subst, ◌∙◌}
 use Rattle.std.proofs.lemmas.List.{reverse-append}
-use Rattle.cfn_model.specs.declared.step.Event.TheVariants.{IsNot}
+use Rattle.cfn_model.specs.declared.step.Event.TheVariants.{Refused}
 use Rattle.cfn_check.specs.declared.owed.Owed.{Owed}
 use Rattle.cfn_check.specs.Standing.{with_event, without}
 use Rattle.cfn_check.specs.Walking.{AreOwed}
@@ -10,8 +10,8 @@ use Rattle.cfn_check.proofs.walk.Walk.leave.Goals as goal
 trail : (c : goal.In_ok-record) → reverse c.self.inside.owed.items ≡ c.in-Some.owed ∷ reverse c.pop.new.self.items
 trail c = ap (λ (xs : List Owed). reverse xs) c.in-Some.ensures.items ∙ reverse-append c.pop.new.self.items (c.in-Some.owed ∷ [])
 
-made : (c : goal.In_ok-record) → c.record.new.self ≡ with_event (IsNot c.in-Some.owed.variable c.in-Some.owed.value) (without (length c.self.inside.ledger.history - c.in-Some.owed.mark.events) c.self.inside.ledger)
-made c = c.in_ok-record.ensures.ok ∙ ap (with_event (IsNot c.in-Some.owed.variable c.in-Some.owed.value)) c.undo.ensures
+made : (c : goal.In_ok-record) → c.record.new.self ≡ with_event (Refused c.in-Some.owed.decision) (without (length c.self.inside.ledger.history - c.in-Some.owed.mark.events) c.self.inside.ledger)
+made c = c.in_ok-record.ensures.ok ∙ ap (with_event (Refused c.in-Some.owed.decision)) c.undo.ensures
 
 pub invariant_of-self-2 : goal.invariant_of-self-2
 invariant_of-self-2 c =
