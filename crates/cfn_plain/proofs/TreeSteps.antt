@@ -3,6 +3,7 @@ use Rattle.std.proofs.Common.{◌≡◌, ℕ, ◌<◌, List, ◌∷◌, length, 
 use Rattle.std.specs.Prelude.{◌↔◌, Bool, true, false, IsTrue}
 use Rattle.std.proofs.lemmas.Bool.{false≢true}
 use Rattle.cfn_model.specs.declared.step.Step.{Step}
+use Rattle.cfn_model.specs.declared.step.Decision.{Decision}
 use Rattle.cfn_model.specs.declared.step.Event.{Event}
 use Rattle.cfn_model.specs.Network.{Network}
 use Rattle.cfn_model.specs.Steps.{Run, after}
@@ -22,15 +23,15 @@ tree_is nodes i node e linked there same is =
     ∙ ap (λ e. with_children node.block e (tree_at nodes)) is
 
 -- the children of a node that is a split
-pub family : (nodes : List Node) (i : ℕ) (node : Node) (x a : ℕ) (first second : NodeId) → IsLinked nodes → i < length nodes → node ≡ node_at nodes i → node.end ≡ Split x a first second → IsFamily nodes i first.number second.number
-family nodes i node x a first second linked there same is =
-    linked.children i x a first second there (ap (λ (n : Node). n.end) (sym same) ∙ is)
+pub family : (nodes : List Node) (i : ℕ) (node : Node) (d : Decision) (first second : NodeId) → IsLinked nodes → i < length nodes → node ≡ node_at nodes i → node.end ≡ Split d first second → IsFamily nodes i first.number second.number
+family nodes i node d first second linked there same is =
+    linked.children i d first second there (ap (λ (n : Node). n.end) (sym same) ∙ is)
 
 -- the first block of a valid tree runs
 runs_first : (P : Network) (history : List Event) (k : ℕ) (block : List Step) (e : End) (child : ℕ → Tree) → Valid P history (with_children block e child) k → Run P history block k
 runs_first P history k block Free child valid = valid
 runs_first P history k block Shut child valid = valid.0
-runs_first P history k block (Split x a first second) child valid = valid.0
+runs_first P history k block (Split d first second) child valid = valid.0
 
 pub valid_runs : (P : Network) (history : List Event) (k : ℕ) (nodes : List Node) (i : ℕ) (node : Node) → IsLinked nodes → i < length nodes → node ≡ node_at nodes i → Valid P history (tree_at nodes i) k → Run P history node.block k
 valid_runs P history k nodes i node linked there same valid =
@@ -49,12 +50,12 @@ strict_at P history nodes i node e linked there same is =
     (λ v. subst (λ t. Strict P history t) (sym whole) v, λ v. subst (λ t. Strict P history t) whole v)
 
 -- what is no split is strict
-strict_leaf : (P : Network) (history : List Event) (block : List Step) (e : End) (child : ℕ → Tree) → ((x a : ℕ) (first second : NodeId) → e ≡ Split x a first second → ⊥) → Strict P history (with_children block e child)
+strict_leaf : (P : Network) (history : List Event) (block : List Step) (e : End) (child : ℕ → Tree) → ((d : Decision) (first second : NodeId) → e ≡ Split d first second → ⊥) → Strict P history (with_children block e child)
 strict_leaf P history block Free child other = tt
 strict_leaf P history block Shut child other = tt
-strict_leaf P history block (Split x a first second) child other = absurd (other x a first second refl)
+strict_leaf P history block (Split d first second) child other = absurd (other d first second refl)
 
-pub strict_at_leaf : (P : Network) (history : List Event) (nodes : List Node) (i : ℕ) (node : Node) → IsLinked nodes → i < length nodes → node ≡ node_at nodes i → ((x a : ℕ) (first second : NodeId) → node.end ≡ Split x a first second → ⊥) → Strict P history (tree_at nodes i)
+pub strict_at_leaf : (P : Network) (history : List Event) (nodes : List Node) (i : ℕ) (node : Node) → IsLinked nodes → i < length nodes → node ≡ node_at nodes i → ((d : Decision) (first second : NodeId) → node.end ≡ Split d first second → ⊥) → Strict P history (tree_at nodes i)
 strict_at_leaf P history nodes i node linked there same other =
     (strict_at P history nodes i node node.end linked there same refl).0 (strict_leaf P history node.block node.end (tree_at nodes) other)
 

@@ -7,6 +7,7 @@
 //!
 //! - `costs`: the total and the cost of an assignment, and the least cost.
 //! - `sums`: the floor, unary costs and residual costs after a history.
+//! - `decisions`: which values are on the first side of a split.
 //! - `live`: which values and tuples are live.
 //! - `steps`: which steps are allowed, and whether a list of steps runs; `tuples` has what a step asks of every tuple.
 //! - `trees`: whether a tree is valid or strict, and its bound; `closing` has when a leaf may be closed.
@@ -17,6 +18,7 @@
 mod certificates;
 mod closing;
 mod costs;
+mod decisions;
 mod functions;
 mod live;
 mod steps;
@@ -26,6 +28,7 @@ mod tuples;
 
 pub use certificates::good;
 pub use costs::{cost, least, total};
+pub use decisions::keeps;
 pub use live::{is_live, is_live_tuple};
 pub use steps::{allowed, runs};
 pub use sums::{floor, residual, unary};

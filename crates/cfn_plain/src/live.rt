@@ -4,6 +4,7 @@ ghost use Rattle.std.specs.Prelude.{◌≡◌, ◌<◌, length};
 ghost use Rattle.cfn_model.specs.Network.{Fits, dims_at};
 ghost use Rattle.cfn_model.specs.Sums.{removes, is_live, cuts, is_cut, all_live, is_live_tuple};
 
+use crate::decisions::{keeps, variable_of};
 use crate::functions::{entry, number, scope};
 use cfn_model::{Event, Step};
 use cfn_net::Network;
@@ -62,8 +63,8 @@ fn removes(event: Event, x: u32, value: u32) -> bool
 {
     match event {
         Event::Did(Step::CutValue { variable, value: b }) => variable == x && b == value,
-        Event::Is { variable, value: b } => variable == x && b != value,
-        Event::IsNot { variable, value: b } => variable == x && b == value,
+        Event::Took(decision) => variable_of(decision) == x && !keeps(decision, value),
+        Event::Refused(decision) => variable_of(decision) == x && keeps(decision, value),
         _ => false,
     }
 }

@@ -1,13 +1,14 @@
 //! Which steps are allowed after a history, and whether a list of steps runs.
 
 ghost use Rattle.std.specs.Prelude.{◌≡◌, ◌↔◌, ◌<◌, length, IsTrue, IfOk};
-ghost use Rattle.cfn_model.specs.Steps.{IsValue, IsPlace, InRange, CanExtend, CanLift, Allowed, Run, after};
+ghost use Rattle.cfn_model.specs.Steps.{IsValue, IsDecision, IsPlace, InRange, CanExtend, CanLift, Allowed, Run, after};
 
+use crate::decisions::{value_of, variable_of};
 use crate::functions::variable;
 use crate::live::is_live;
 use crate::sums::{floor, unary};
 use crate::tuples::{all_tuples_allow, reaches};
-use cfn_model::{Event, Step};
+use cfn_model::{Decision, Event, Step};
 use cfn_net::Network;
 use std::alloc::{AllocError, Global};
 
@@ -86,10 +87,17 @@ pub(crate) fn after(
 }
 
 /// Whether `x` is a variable, and `value` one of its values.
-pub(crate) fn is_value(network: &Network, x: u32, value: u32) -> bool
+fn is_value(network: &Network, x: u32, value: u32) -> bool
     ensures { IsTrue result ↔ IsValue network.now x value }
 {
     x < network.variables() && value < network.size(x)
+}
+
+/// Whether a decision's variable is one, and the value that it names is one of its values.
+pub(crate) fn is_decision(network: &Network, decision: Decision) -> bool
+    ensures { IsTrue result ↔ IsDecision network.now decision }
+{
+    is_value(network, variable_of(decision), value_of(decision))
 }
 
 /// Whether a step's numbers are in range.

@@ -2,10 +2,10 @@ ghost use Rattle.std.specs.Prelude.{◌≡◌, [], ◌∷◌, IfOk};
 ghost use Rattle.cfn_model.specs.Network.{dims_at};
 
 use crate::{
-    allowed, bound, cost, floor, good, is_live, is_live_tuple, least, residual, runs, strict,
-    total, unary, valid,
+    allowed, bound, cost, floor, good, is_live, is_live_tuple, keeps, least, residual, runs,
+    strict, total, unary, valid,
 };
-use cfn_model::{Event, Step};
+use cfn_model::{Decision, Event, Step};
 use cfn_net::{Builder, Network, Scored};
 use cfn_proof::{Block, Certificate, Tree};
 use std::test::Fail;
@@ -99,9 +99,40 @@ fn a_closed_tree_is_good(rt: HostRuntime) -> Result<(), Fail> {
 fn a_split_is_strict(rt: HostRuntime) -> Result<(), Fail> {
     let network = tiny(&rt)?;
     let mut tree = Tree::new(rt.alloc())?;
-    let _ = tree.split(Tree::ROOT, 0, 1)?;
+    let decision = Decision::Is {
+        variable: 0,
+        value: 1,
+    };
+    let _ = tree.split(Tree::ROOT, decision)?;
     assert!(rt; valid(rt.alloc(), &network, &tree, 10)?);
     assert!(rt; strict(rt.alloc(), &network, &tree)?);
     assert_eq!(rt; bound(rt.alloc(), &network, &tree, 10)?, 0);
+    Ok(())
+}
+
+#[test]
+fn bounds_keep_what_is_at_most(rt: HostRuntime) -> Result<(), Fail> {
+    let low = Decision::Most {
+        variable: 0,
+        value: 0,
+    };
+    assert!(rt; keeps(low, 0));
+    assert!(rt; !keeps(low, 1));
+    assert!(rt; !is_live(&[Event::Took(low)], 0, 1));
+    assert!(rt; !is_live(&[Event::Refused(low)], 0, 0));
+    Ok(())
+}
+
+#[test]
+fn a_split_by_the_greatest_value_is_not_strict(rt: HostRuntime) -> Result<(), Fail> {
+    let network = tiny(&rt)?;
+    let mut tree = Tree::new(rt.alloc())?;
+    let decision = Decision::Most {
+        variable: 0,
+        value: 1,
+    };
+    let _ = tree.split(Tree::ROOT, decision)?;
+    assert!(rt; valid(rt.alloc(), &network, &tree, 10)?);
+    assert!(rt; !strict(rt.alloc(), &network, &tree)?);
     Ok(())
 }

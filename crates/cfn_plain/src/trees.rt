@@ -1,13 +1,14 @@
 //! Whether a tree is valid or strict, and its bound, by recursion over its nodes.
 
 ghost use Rattle.std.specs.Prelude.{◌≡◌, ◌↔◌, ◌<◌, [], ◌∷◌, length, IsTrue, IfOk};
+ghost use Rattle.cfn_model.specs.declared.step.Event.TheVariants.{Took, Refused};
 ghost use Rattle.cfn_model.specs.Tree.{Valid, Strict, bound};
 ghost use Rattle.cfn_proof.specs.Nodes.{tree_at, tree_of};
 
 use crate::closing::{can_close, is_strict_split};
-use crate::steps::{after, is_value, runs};
+use crate::steps::{after, is_decision, runs};
 use crate::sums::floor;
-use cfn_model::Event;
+use cfn_model::{Decision, Event};
 use cfn_net::Network;
 use cfn_proof::{End, NodeId, Tree};
 use std::alloc::{AllocError, Global};
@@ -60,19 +61,17 @@ fn valid_from(
         End::Free => Ok(true),
         End::Shut => Ok(can_close(network, behind.as_slice(), k)),
         End::Split {
-            variable,
-            value,
+            decision,
             first,
             second,
         } => {
-            if !is_value(network, variable, value) {
+            if !is_decision(network, decision) {
                 return Ok(false);
             }
-            let is = extended(alloc, Event::Is { variable, value }, behind.as_slice())?;
-            let is_not = extended(alloc, Event::IsNot { variable, value }, behind.as_slice())?;
+            let (took, refused) = sides(alloc, decision, behind.as_slice())?;
             Ok(
-                valid_from(alloc, network, is.as_slice(), tree, first, k)?
-                    && valid_from(alloc, network, is_not.as_slice(), tree, second, k)?,
+                valid_from(alloc, network, took.as_slice(), tree, first, k)?
+                    && valid_from(alloc, network, refused.as_slice(), tree, second, k)?,
             )
         }
     }
@@ -93,8 +92,7 @@ fn strict_from(
     tree.linked();
     let node = tree.node(id);
     let End::Split {
-        variable,
-        value,
+        decision,
         first,
         second,
     } = node.end
@@ -102,14 +100,13 @@ fn strict_from(
         return Ok(true);
     };
     let behind = after(alloc, node.block.steps(), history)?;
-    if !is_strict_split(network, behind.as_slice(), variable, value) {
+    if !is_strict_split(network, behind.as_slice(), decision) {
         return Ok(false);
     }
-    let is = extended(alloc, Event::Is { variable, value }, behind.as_slice())?;
-    let is_not = extended(alloc, Event::IsNot { variable, value }, behind.as_slice())?;
+    let (took, refused) = sides(alloc, decision, behind.as_slice())?;
     Ok(
-        strict_from(alloc, network, is.as_slice(), tree, first)?
-            && strict_from(alloc, network, is_not.as_slice(), tree, second)?,
+        strict_from(alloc, network, took.as_slice(), tree, first)?
+            && strict_from(alloc, network, refused.as_slice(), tree, second)?,
     )
 }
 
@@ -133,17 +130,28 @@ fn bound_from(
         End::Free => Ok(floor(network, behind.as_slice()).min(k as u128) as u64),
         End::Shut => Ok(k),
         End::Split {
-            variable,
-            value,
+            decision,
             first,
             second,
         } => {
-            let is = extended(alloc, Event::Is { variable, value }, behind.as_slice())?;
-            let is_not = extended(alloc, Event::IsNot { variable, value }, behind.as_slice())?;
-            let least = bound_from(alloc, network, is.as_slice(), tree, first, k)?;
-            Ok(least.min(bound_from(alloc, network, is_not.as_slice(), tree, second, k)?))
+            let (took, refused) = sides(alloc, decision, behind.as_slice())?;
+            let least = bound_from(alloc, network, took.as_slice(), tree, first, k)?;
+            Ok(least.min(bound_from(alloc, network, refused.as_slice(), tree, second, k)?))
         }
     }
+}
+
+/// The histories on the two sides of a split: in the first the decision was taken, in the second refused.
+fn sides(
+    alloc: Global,
+    decision: Decision,
+    history: &[Event],
+) -> Result<(Vec<Event>, Vec<Event>), AllocError>
+    ensures { IfOk result (λ sides. (sides.0.items ≡ Took decision ∷ history.now) × (sides.1.items ≡ Refused decision ∷ history.now)) }
+{
+    let took = extended(alloc, Event::Took(decision), history)?;
+    let refused = extended(alloc, Event::Refused(decision), history)?;
+    Ok((took, refused))
 }
 
 /// The history with one more event, which is the newest.

@@ -3,7 +3,7 @@ use Rattle.cfn_model.specs.Steps.{after}
 use Rattle.cfn_model.specs.Sums.{floor}
 use Rattle.cfn_model.specs.Tree.{bound}
 use Rattle.cfn_proof.specs.declared.tree.End.TheVariants.{Free, Shut, Split}
-use Rattle.cfn_model.specs.declared.step.Event.TheVariants.{Is, IsNot}
+use Rattle.cfn_model.specs.declared.step.Event.TheVariants.{Took, Refused}
 use Rattle.cfn_proof.specs.Nodes.{tree_at}
 use Rattle.cfn_plain.proofs.TreeSteps.{tree_is, family, side_is}
 use Rattle.cfn_plain.proofs.trees.+bound_from.Goals as goal
@@ -25,12 +25,12 @@ returns-in-Shut t c =
 
 pub bound_from-requires : goal.bound_from-requires
 bound_from-requires t c =
-    let kids = family c.args.tree.now c.args.id.number c.node-node.result.now c.in-Split.variable c.in-Split.value c.in-Split.first c.in-Split.second c.linked.ensures.linked c.requires c.node-node.ensures c.in-Split.is in
+    let kids = family c.args.tree.now c.args.id.number c.node-node.result.now c.in-Split.decision c.in-Split.first c.in-Split.second c.linked.ensures.linked c.requires c.node-node.ensures c.in-Split.is in
     (omega (arith, kids.first_behind, kids.first_there), kids.first_there)
 
 pub bound_from-requires-in-Split : goal.bound_from-requires-in-Split
 bound_from-requires-in-Split t c =
-    let kids = family c.args.tree.now c.args.id.number c.node-node.result.now c.in-Split.variable c.in-Split.value c.in-Split.first c.in-Split.second c.linked.ensures.linked c.requires c.node-node.ensures c.in-Split.is in
+    let kids = family c.args.tree.now c.args.id.number c.node-node.result.now c.in-Split.decision c.in-Split.first c.in-Split.second c.linked.ensures.linked c.requires c.node-node.ensures c.in-Split.is in
     (omega (arith, kids.second_behind, kids.second_there), kids.second_there)
 
 pub returns : goal.returns
@@ -41,11 +41,10 @@ returns t c =
     let node = c.node-node.result.now in
     let first = c.in-Split.first in
     let second = c.in-Split.second in
-    let x = c.in-Split.variable in
-    let a = c.in-Split.value in
-    let is = ap (λ t. bound P h t c.args.k) (tree_is nodes c.args.id.number node (Split x a first second) c.linked.ensures.linked c.requires c.node-node.ensures c.in-Split.is) in
-    let yes = side_is (Is x a) node.block _ h _ _ _ _ c.as_slice-in-Split-3.ensures.value c.in_ok-is-in-Split.ensures c.as_slice-in-Split.ensures.value c.in_ok-behind.ensures c.steps.ensures.steps in
-    let no = side_is (IsNot x a) node.block _ h _ _ _ _ c.as_slice-in-Split-4.ensures.value c.in_ok-is_not-in-Split.ensures c.as_slice-in-Split-2.ensures.value c.in_ok-behind.ensures c.steps.ensures.steps in
+    let d = c.in-Split.decision in
+    let is = ap (λ t. bound P h t c.args.k) (tree_is nodes c.args.id.number node (Split d first second) c.linked.ensures.linked c.requires c.node-node.ensures c.in-Split.is) in
+    let yes = side_is (Took d) node.block _ h _ _ _ _ c.as_slice-in-Split-2.ensures.value c.in_ok-took-in-Split.ensures.0 c.as_slice-in-Split.ensures.value c.in_ok-behind.ensures c.steps.ensures.steps in
+    let no = side_is (Refused d) node.block _ h _ _ _ _ c.as_slice-in-Split-3.ensures.value c.in_ok-took-in-Split.ensures.1 c.as_slice-in-Split.ensures.value c.in_ok-behind.ensures c.steps.ensures.steps in
     let one = c.in_ok-least-in-Split.ensures ∙ ap (λ h. bound P h (tree_at nodes first.number) c.args.k) yes in
     let other = c.in_ok-bound_from-in-Split.ensures ∙ ap (λ h. bound P h (tree_at nodes second.number) c.args.k) no in
     omega (arith, is, one, other, c.min-in-Split.ensures)

@@ -1,7 +1,7 @@
 use Rattle.std.proofs.Common.{◌∷◌, refl, ap, sym, subst, ◌∙◌, arith}
 use Rattle.std.specs.Prelude.{IsTrue, ◌↔◌}
 use Rattle.std.proofs.lemmas.Bool.{false≢true}
-use Rattle.cfn_model.specs.declared.step.Event.TheVariants.{Is, IsNot}
+use Rattle.cfn_model.specs.declared.step.Event.TheVariants.{Took, Refused}
 use Rattle.cfn_model.specs.Steps.{after}
 use Rattle.cfn_model.specs.Tree.{Strict, IsStrictSplit}
 use Rattle.cfn_proof.specs.declared.tree.End.TheVariants.{Split}
@@ -19,22 +19,21 @@ returns-then-not-is_strict_split t c =
     let P = c.args.network.now in
     let h = c.args.history.now in
     let node = c.node-node.result.now in
-    let x = c.in-Split.variable in
-    let a = c.in-Split.value in
-    let at = strict_at P h c.args.tree.now c.args.id.number node (Split x a c.in-Split.first c.in-Split.second) c.linked.ensures.linked c.requires c.node-node.ensures c.in-Split.is in
+    let d = c.in-Split.decision in
+    let at = strict_at P h c.args.tree.now c.args.id.number node (Split d c.in-Split.first c.in-Split.second) c.linked.ensures.linked c.requires c.node-node.ensures c.in-Split.is in
     let behind = c.as_slice.ensures.value ∙ c.in_ok-behind.ensures ∙ ap (λ s. after s h) c.steps.ensures.steps in (
       λ no. absurd (false≢true no),
-      λ strict. sym c.if-not-is_strict_split.true ∙ c.is_strict_split.ensures.1 (subst (λ h. IsStrictSplit P h x a) (sym behind) (at.1 strict).0),
+      λ strict. sym c.if-not-is_strict_split.true ∙ c.is_strict_split.ensures.1 (subst (λ h. IsStrictSplit P h d) (sym behind) (at.1 strict).0),
     )
 
 pub strict_from-requires : goal.strict_from-requires
 strict_from-requires t c =
-    let kids = family c.args.tree.now c.args.id.number c.node-node.result.now c.in-Split.variable c.in-Split.value c.in-Split.first c.in-Split.second c.linked.ensures.linked c.requires c.node-node.ensures c.in-Split.is in
+    let kids = family c.args.tree.now c.args.id.number c.node-node.result.now c.in-Split.decision c.in-Split.first c.in-Split.second c.linked.ensures.linked c.requires c.node-node.ensures c.in-Split.is in
     (omega (arith, kids.first_behind, kids.first_there), kids.first_there)
 
 pub strict_from-requires-then-branch : goal.strict_from-requires-then-branch
 strict_from-requires-then-branch t c =
-    let kids = family c.args.tree.now c.args.id.number c.node-node.result.now c.in-Split.variable c.in-Split.value c.in-Split.first c.in-Split.second c.linked.ensures.linked c.requires c.node-node.ensures c.in-Split.is in
+    let kids = family c.args.tree.now c.args.id.number c.node-node.result.now c.in-Split.decision c.in-Split.first c.in-Split.second c.linked.ensures.linked c.requires c.node-node.ensures c.in-Split.is in
     (omega (arith, kids.second_behind, kids.second_there), kids.second_there)
 
 pub returns : goal.returns
@@ -45,15 +44,14 @@ returns t c =
     let node = c.node-node.result.now in
     let first = c.in-Split.first in
     let second = c.in-Split.second in
-    let x = c.in-Split.variable in
-    let a = c.in-Split.value in
-    let at = strict_at P h nodes c.args.id.number node (Split x a first second) c.linked.ensures.linked c.requires c.node-node.ensures c.in-Split.is in
+    let d = c.in-Split.decision in
+    let at = strict_at P h nodes c.args.id.number node (Split d first second) c.linked.ensures.linked c.requires c.node-node.ensures c.in-Split.is in
     let behind = c.as_slice.ensures.value ∙ c.in_ok-behind.ensures ∙ ap (λ s. after s h) c.steps.ensures.steps in
-    let here = subst (λ h. IsStrictSplit P h x a) behind (c.is_strict_split.ensures.0 c.if-not-is_strict_split.false) in
-    let yes = side_is (Is x a) node.block _ h _ _ _ _ c.as_slice-4.ensures.value c.in_ok-is.ensures c.as_slice-2.ensures.value c.in_ok-behind.ensures c.steps.ensures.steps in
-    let no = side_is (IsNot x a) node.block _ h _ _ c.in_ok-is_not.is_not.items _ refl c.in_ok-is_not.ensures c.as_slice-3.ensures.value c.in_ok-behind.ensures c.steps.ensures.steps in
-    let First = Strict P (Is x a ∷ after node.block h) (tree_at nodes first.number) in
-    let Second = Strict P (IsNot x a ∷ after node.block h) (tree_at nodes second.number) in
+    let here = subst (λ h. IsStrictSplit P h d) behind (c.is_strict_split.ensures.0 c.if-not-is_strict_split.false) in
+    let yes = side_is (Took d) node.block _ h _ _ _ _ c.as_slice-3.ensures.value c.in_ok-took.ensures.0 c.as_slice-2.ensures.value c.in_ok-behind.ensures c.steps.ensures.steps in
+    let no = side_is (Refused d) node.block _ h _ _ c.in_ok-took.refused.items _ refl c.in_ok-took.ensures.1 c.as_slice-2.ensures.value c.in_ok-behind.ensures c.steps.ensures.steps in
+    let First = Strict P (Took d ∷ after node.block h) (tree_at nodes first.number) in
+    let Second = Strict P (Refused d ∷ after node.block h) (tree_at nodes second.number) in
     let one : IsTrue c.in_ok-strict_from.field-0 ↔ First = subst (λ h. IsTrue c.in_ok-strict_from.field-0 ↔ Strict P h (tree_at nodes first.number)) yes c.in_ok-strict_from.ensures in
     let both : IsTrue c.if-branch.result ↔ (First × Second) =
     elim c.if-branch.branch [

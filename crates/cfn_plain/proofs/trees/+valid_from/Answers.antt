@@ -1,7 +1,7 @@
 use Rattle.std.proofs.Common.{◌∷◌, refl, ap, sym, subst, ◌∙◌, arith}
 use Rattle.std.specs.Prelude.{IsTrue, ◌↔◌}
 use Rattle.std.proofs.lemmas.Bool.{false≢true}
-use Rattle.cfn_model.specs.declared.step.Event.TheVariants.{Is, IsNot}
+use Rattle.cfn_model.specs.declared.step.Event.TheVariants.{Took, Refused}
 use Rattle.cfn_model.specs.Steps.{Run, after}
 use Rattle.cfn_model.specs.Tree.{Valid, CanClose}
 use Rattle.cfn_proof.specs.declared.tree.End.TheVariants.{Free, Shut, Split}
@@ -38,21 +38,21 @@ returns-in-Shut t c =
       λ valid. c.can_close.ensures.1 (subst (λ h. CanClose P h k) (sym behind) (at.1 valid).1),
     )
 
-pub returns-then-not-is_value : goal.returns-then-not-is_value
-returns-then-not-is_value t c =
-    let at = valid_at c.args.network.now c.args.history.now c.args.k c.args.tree.now c.args.id.number c.node-node.result.now (Split c.in-Split.variable c.in-Split.value c.in-Split.first c.in-Split.second) c.linked.ensures.linked c.requires c.node-node.ensures c.in-Split.is in (
+pub returns-then-not-is_decision : goal.returns-then-not-is_decision
+returns-then-not-is_decision t c =
+    let at = valid_at c.args.network.now c.args.history.now c.args.k c.args.tree.now c.args.id.number c.node-node.result.now (Split c.in-Split.decision c.in-Split.first c.in-Split.second) c.linked.ensures.linked c.requires c.node-node.ensures c.in-Split.is in (
       λ no. absurd (false≢true no),
-      λ valid. sym c.if-not-is_value.true ∙ c.is_value.ensures.1 (at.1 valid).1,
+      λ valid. sym c.if-not-is_decision.true ∙ c.is_decision.ensures.1 (at.1 valid).1,
     )
 
 pub valid_from-requires : goal.valid_from-requires
 valid_from-requires t c =
-    let kids = family c.args.tree.now c.args.id.number c.node-node.result.now c.in-Split.variable c.in-Split.value c.in-Split.first c.in-Split.second c.linked.ensures.linked c.requires c.node-node.ensures c.in-Split.is in
+    let kids = family c.args.tree.now c.args.id.number c.node-node.result.now c.in-Split.decision c.in-Split.first c.in-Split.second c.linked.ensures.linked c.requires c.node-node.ensures c.in-Split.is in
     (omega (arith, kids.first_behind, kids.first_there), kids.first_there)
 
 pub valid_from-requires-then-branch : goal.valid_from-requires-then-branch
 valid_from-requires-then-branch t c =
-    let kids = family c.args.tree.now c.args.id.number c.node-node.result.now c.in-Split.variable c.in-Split.value c.in-Split.first c.in-Split.second c.linked.ensures.linked c.requires c.node-node.ensures c.in-Split.is in
+    let kids = family c.args.tree.now c.args.id.number c.node-node.result.now c.in-Split.decision c.in-Split.first c.in-Split.second c.linked.ensures.linked c.requires c.node-node.ensures c.in-Split.is in
     (omega (arith, kids.second_behind, kids.second_there), kids.second_there)
 
 pub returns : goal.returns
@@ -64,15 +64,14 @@ returns t c =
     let node = c.node-node.result.now in
     let first = c.in-Split.first in
     let second = c.in-Split.second in
-    let x = c.in-Split.variable in
-    let a = c.in-Split.value in
-    let at = valid_at P h k nodes c.args.id.number node (Split x a first second) c.linked.ensures.linked c.requires c.node-node.ensures c.in-Split.is in
+    let d = c.in-Split.decision in
+    let at = valid_at P h k nodes c.args.id.number node (Split d first second) c.linked.ensures.linked c.requires c.node-node.ensures c.in-Split.is in
     let run = subst (λ s. Run P h s k) c.steps-steps.ensures.steps (c.in_ok-runs.ensures.0 c.if-not-branch.false) in
-    let value = c.is_value.ensures.0 c.if-not-is_value.false in
-    let yes = side_is (Is x a) node.block _ h _ _ _ _ c.as_slice-in-Split-3.ensures.value c.in_ok-is-in-Split.ensures c.as_slice-in-Split.ensures.value c.in_ok-behind.ensures c.steps-steps.ensures.steps in
-    let no = side_is (IsNot x a) node.block _ h _ _ c.in_ok-is_not-in-Split.is_not.items _ refl c.in_ok-is_not-in-Split.ensures c.as_slice-in-Split-2.ensures.value c.in_ok-behind.ensures c.steps-steps.ensures.steps in
-    let First = Valid P (Is x a ∷ after node.block h) (tree_at nodes first.number) k in
-    let Second = Valid P (IsNot x a ∷ after node.block h) (tree_at nodes second.number) k in
+    let value = c.is_decision.ensures.0 c.if-not-is_decision.false in
+    let yes = side_is (Took d) node.block _ h _ _ _ _ c.as_slice-in-Split-2.ensures.value c.in_ok-took-in-Split.ensures.0 c.as_slice-in-Split.ensures.value c.in_ok-behind.ensures c.steps-steps.ensures.steps in
+    let no = side_is (Refused d) node.block _ h _ _ c.in_ok-took-in-Split.refused.items _ refl c.in_ok-took-in-Split.ensures.1 c.as_slice-in-Split.ensures.value c.in_ok-behind.ensures c.steps-steps.ensures.steps in
+    let First = Valid P (Took d ∷ after node.block h) (tree_at nodes first.number) k in
+    let Second = Valid P (Refused d ∷ after node.block h) (tree_at nodes second.number) k in
     let one : IsTrue c.in_ok-valid_from-in-Split.field-0 ↔ First = subst (λ h. IsTrue c.in_ok-valid_from-in-Split.field-0 ↔ Valid P h (tree_at nodes first.number) k) yes c.in_ok-valid_from-in-Split.ensures in
     let both : IsTrue c.if-branch.result ↔ (First × Second) =
     elim c.if-branch.branch [
