@@ -11,7 +11,7 @@ use Rattle.cfn_model.specs.Text.{spelling, report, write_fault_text}
 use Rattle.cfn_desk.specs.Outside.{Outside, Call, Load, Open, Bytes, Discard, HasFile, after, says}
 use Rattle.cfn_line.specs.Appending.{Appends, IsCut}
 use Rattle.cfn_line.specs.declared.channel.Channel.TheVariants.{File, Screen}
-use Rattle.cfn_cli.specs.Request.{SolveRequest, CheckRequest, CostRequest}
+use Rattle.cfn_cli.specs.Request.{SolveRequest, CostRequest}
 use Rattle.cfn_app.specs.declared.format.Format.TheVariants.{Wcsp}
 use Rattle.cfn_wcsp.specs.Giving.{Fails}
 use Rattle.cfn_wcsp.specs.declared.fault.ReadFault.{ReadFault}
@@ -25,8 +25,6 @@ use Rattle.cfn_app.specs.Loading.{ReadsAs, RefusesAs, SaysUnread, Unloaded, Unre
 use Rattle.cfn_app.specs.Loading as loading
 use Rattle.cfn_app.specs.Costing.{Costs, Prices}
 use Rattle.cfn_app.specs.Costing as costing
-use Rattle.cfn_app.specs.Checking.{Checks, Judges}
-use Rattle.cfn_app.specs.Checking as checking
 use Rattle.cfn_app.specs.Solving.{Solves, Searches, Outputs, Wrote, NotWritten, status_of}
 use Rattle.cfn_app.specs.Solving as solving
 
@@ -68,12 +66,9 @@ searched_behind P ask old middle new (Ok x) status nodes c rows word fine at pro
 searched_behind P ask old middle new (Err e) status nodes c rows word fine at promise out = absurd (let no : true ≡ false = fine in cc)
 
 module _ (old : Outside) (now : List Call) (status : Status) where
-  -- the calls after one load, and after two
+  -- the calls after one load
   once : (middle last : Outside) (file bytes : List ℕ) → middle ≡ after (Load file (Bytes bytes)) old → last ≡ middle → last.calls ≡ loaded file bytes old.calls
   once middle last file bytes at same = ap (λ o. o.calls) same ∙ ap (λ o. o.calls) at
-
-  twice : (first second last : Outside) (file certificate bytes text : List ℕ) → first ≡ after (Load file (Bytes bytes)) old → second ≡ after (Load certificate (Bytes text)) first → last ≡ second → last.calls ≡ loaded certificate text (loaded file bytes old.calls)
-  twice first second last file certificate bytes text at also same = ap (λ o. o.calls) same ∙ ap (λ o. o.calls) also ∙ ap (λ o. Load certificate (Bytes text) ∷ o.calls) at
 
   -- the cost of an assignment was asked for
   pub costs_priced : (middle last : Outside) (ask : CostRequest) (bytes : List ℕ) (P : Network) → HasFile old ask.file bytes → middle ≡ after (Load ask.file (Bytes bytes)) old → ReadsAs Wcsp bytes P → last ≡ middle → Prices P ask.values last.calls now status → Costs ask old now status
@@ -83,21 +78,6 @@ module _ (old : Outside) (now : List Call) (status : Status) where
   pub costs_unread : (middle : Outside) (ask : CostRequest) (bytes : List ℕ) → HasFile old ask.file bytes → middle ≡ after (Load ask.file (Bytes bytes)) old → Unread Wcsp bytes middle.calls now status → Costs ask old now status
   costs_unread middle ask bytes has at unread =
       costing.unread bytes has (subst (λ (cs : List Call). Unread Wcsp bytes cs now status) (ap (λ o. o.calls) at) unread)
-
-  -- a certificate was to be judged
-  pub checks_uncertified : (first : Outside) (ask : CheckRequest) (bytes : List ℕ) → HasFile old ask.file bytes → first ≡ after (Load ask.file (Bytes bytes)) old → Unloaded ask.certificate first.calls now status → Checks ask old now status
-  checks_uncertified first ask bytes has at unloaded =
-      checking.uncertified bytes has (subst (λ (cs : List Call). Unloaded ask.certificate cs now status) (ap (λ o. o.calls) at) unloaded)
-
-  pub checks_unread : (first second : Outside) (ask : CheckRequest) (bytes text : List ℕ) → HasFile old ask.file bytes → first ≡ after (Load ask.file (Bytes bytes)) old → HasFile first ask.certificate text → second ≡ after (Load ask.certificate (Bytes text)) first → Unread Wcsp bytes second.calls now status → Checks ask old now status
-  checks_unread first second ask bytes text has at certificate also unread =
-      checking.unread bytes text has (subst (λ o. HasFile o ask.certificate text) at certificate)
-      (subst (λ (cs : List Call). Unread Wcsp bytes cs now status) (twice first second second ask.file ask.certificate bytes text at also refl) unread)
-
-  pub checks_judged : (first second last : Outside) (ask : CheckRequest) (bytes text : List ℕ) (P : Network) → HasFile old ask.file bytes → first ≡ after (Load ask.file (Bytes bytes)) old → HasFile first ask.certificate text → second ≡ after (Load ask.certificate (Bytes text)) first → ReadsAs Wcsp bytes P → last ≡ second → Judges P text last.calls now status → Checks ask old now status
-  checks_judged first second last ask bytes text P has at certificate also reads same judges =
-      checking.judged bytes text P has (subst (λ o. HasFile o ask.certificate text) at certificate) reads
-      (subst (λ (cs : List Call). Judges P text cs now status) (twice first second last ask.file ask.certificate bytes text at also same) judges)
 
 module _ (old new : Outside) (status : Status) where
   -- a network was to be searched

@@ -4,5 +4,8 @@ mod CostStating
 mod Counting
 mod Ends
 mod Files
+mod Pairing
+mod MigrateStating
 mod SolveStating
 mod Stating
+mod Writing

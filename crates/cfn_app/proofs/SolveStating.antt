@@ -7,8 +7,7 @@ use Rattle.cfn_model.specs.declared.reading.Refusal.{Refusal}
 use Rattle.cfn_model.specs.Network.{Network}
 use Rattle.cfn_model.specs.Certificate.{Certificate}
 use Rattle.cfn_model.specs.Text.{spelling, report}
-use Rattle.cfn_desk.specs.Outside.{Outside, Call, Load, Open, Bytes, Writing, HasFile, IsIdle, Stored, after, faults, puts, says, written}
-use Rattle.cfn_desk.proofs.CallerLemmas.{written-puts, faults-puts}
+use Rattle.cfn_desk.specs.Outside.{Outside, Call, Load, Open, Bytes, HasFile, IsIdle, after, faults, says}
 use Rattle.cfn_cli.specs.Request.{SolveRequest}
 use Rattle.cfn_app.specs.declared.format.Format.TheVariants.{Wcsp}
 use Rattle.cfn_app.specs.declared.status.Status.{Status}
@@ -17,10 +16,11 @@ use Rattle.cfn_app.specs.Endings.{Ending, Ends, IsHindered}
 use Rattle.cfn_app.specs.Headline.{Promise}
 use Rattle.cfn_app.specs.Loading.{ReadsAs, RefusesAs, Tells, loaded}
 use Rattle.cfn_app.specs.Loading as loading
-use Rattle.cfn_app.specs.Solving.{Wrote, NotWritten, Outputs, Searches, Solves, status_of}
+use Rattle.cfn_app.specs.Solving.{Outputs, Searches, Solves, status_of}
 use Rattle.cfn_app.specs.Solving as solving
 use Rattle.cfn_app.specs.Statuses.{Counts, SolveSays, Solved, IsReported, SolveStatus}
-use Rattle.cfn_app.proofs.Counting.{by, counted, ends_idle, put_count}
+use Rattle.cfn_app.proofs.Counting.{by, counted, ends_idle}
+use Rattle.cfn_app.proofs.Writing.{stored_at, output_counts, output_idle}
 use Rattle.cfn_app.proofs.Files.{same_bytes, read_refused}
 
 module _ (ask : SolveRequest) (old new : Outside) where
@@ -29,11 +29,6 @@ module _ (ask : SolveRequest) (old new : Outside) where
   reported words.Nothing solved = solved
   reported words.Budget solved = solved
   reported words.Memory solved = inr solved
-
-  stored_at : (name text : List ℕ) (calls : List Call) (middle : Outside) → new.files ≡ middle.files → Stored old.files (written (puts text (Open name true ∷ calls))) middle.files → Stored old.files (Writing name text) new.files
-  stored_at name text calls middle same stored =
-      subst (λ now. Stored old.files (Writing name text) now) (sym same)
-      (subst (λ file. Stored old.files file middle.files) (written-puts text (Open name true ∷ calls) name [] refl) stored)
 
   module _ (status : Status) where
     says_output : (bytes : List ℕ) (P : Network) (nodes : ℕ) (c : Certificate) (rows : List Row) (word : ResultWord) → HasFile old ask.file bytes → ReadsAs Wcsp bytes P → Promise P ask.budget nodes c rows word →
@@ -48,7 +43,7 @@ module _ (ask : SolveRequest) (old new : Outside) where
       file = has;
       reads = reads;
       promise = promise;
-      stored = stored_at ask.certificate (spelling c) (loaded ask.file bytes old.calls) middle same wrote.stored;
+      stored = stored_at old new ask.certificate (spelling c) (loaded ask.file bytes old.calls) middle same wrote.stored;
       calls = calls ∙ ap (says (report ask.workers c rows nodes word)) wrote.calls;
     })) tt
 
@@ -117,43 +112,15 @@ module _ (ask : SolveRequest) (old new : Outside) where
     one_more : (before : List Call) → faults before < suc (faults before)
     one_more before = omega arith
 
-    not_written_counts : (before middle : Outside) (text : List ℕ) → NotWritten text before middle → faults before.calls < faults middle.calls
-    not_written_counts before middle text (solving.dropped cut part is) =
-        let more : faults cut ≡ suc (faults before.calls) = put_count before.calls text cut part in
-        let at : faults middle.calls ≡ faults cut = ap (λ o. faults o.calls) is in
-        omega (arith, more, at)
-    not_written_counts before middle text (solving.unclosed calls stored) =
-        let at : faults middle.calls ≡ suc (faults (puts text before.calls)) = ap faults calls in
-        let same = faults-puts text before.calls in
-        omega (arith, at, same)
-
-    not_written_idle : (before middle : Outside) (text : List ℕ) → NotWritten text before middle → IsIdle middle.calls
-    not_written_idle before middle text (solving.dropped cut part is) = ap (λ o. written o.calls) is
-    not_written_idle before middle text (solving.unclosed calls stored) = ap written calls
-
-    wrote_counts : (before middle : Outside) (text : List ℕ) → Wrote text before middle → faults middle.calls ≡ faults before.calls
-    wrote_counts before middle text wrote = ap faults wrote.calls ∙ faults-puts text before.calls
-
-    output_counts : (start : List Call) (before : Outside) (text report : List ℕ) (word : ResultWord) → faults before.calls ≡ faults start → Outputs text report (status_of word) before new status → Counts start new.calls status
-    output_counts start before text report word same (solving.unwritten middle not also ends) =
-        let more = not_written_counts before middle text not in
-        counted start _ new.calls status ends (omega (arith, more, same))
-    output_counts start before text report word same (solving.wrote middle wrote also ends) =
-        counted start _ new.calls status ends (word_counts start middle.calls word (wrote_counts before middle text wrote ∙ same))
-
-    output_idle : (before : Outside) (text report : List ℕ) (word : ResultWord) → Outputs text report (status_of word) before new status → IsIdle new.calls
-    output_idle before text report word (solving.unwritten middle not also ends) = ends_idle _ new.calls status ends (not_written_idle before middle text not)
-    output_idle before text report word (solving.wrote middle wrote also ends) = ends_idle _ new.calls status ends (ap written wrote.calls)
-
     search_counts : (P : Network) (start : List Call) (before : Outside) → faults before.calls ≡ faults start → Searches P ask before new status → Counts start new.calls status
     search_counts P start before same (solving.unopened also ends) = counted start _ new.calls status ends (let more : faults start < suc (faults before.calls) = omega (arith, same) in more)
     search_counts P start before same (solving.no_memory also ends) = counted start _ new.calls status ends same
-    search_counts P start before same (solving.searched nodes c rows word promise out) = output_counts start _ (spelling c) _ word same out
+    search_counts P start before same (solving.searched nodes c rows word promise out) = output_counts _ new (spelling c) _ (status_of word) status start same (λ now. word_counts start now word) out
 
     search_idle : (P : Network) (before : Outside) → Searches P ask before new status → IsIdle new.calls
     search_idle P before (solving.unopened also ends) = ends_idle _ new.calls status ends refl
     search_idle P before (solving.no_memory also ends) = ends_idle _ new.calls status ends refl
-    search_idle P before (solving.searched nodes c rows word promise out) = output_idle _ (spelling c) _ word out
+    search_idle P before (solving.searched nodes c rows word promise out) = output_idle _ new (spelling c) _ (status_of word) status out
 
     pub solve_counts : Solves ask old new status → Counts old.calls new.calls status
     solve_counts (solving.unloaded same (loading.unread ends)) = counted old.calls _ new.calls status ends (one_more old.calls)

@@ -2,16 +2,17 @@
 use Rattle.std.proofs.Common.{◌≡◌, inl, inr, refl, subst}
 use Rattle.std.specs.Prelude.{Option, Some, None}
 use Rattle.cfn_desk.specs.Outside.{Outside, IsIdle}
-use Rattle.cfn_cli.specs.Request.{Request, solve, check, cost, SolveRequest, CheckRequest, CostRequest}
+use Rattle.cfn_cli.specs.Request.{Request, solve, check, cost, migrate, SolveRequest, CheckRequest, CostRequest, MigrateRequest}
 use Rattle.cfn_app.specs.declared.status.Status.{Status}
 use Rattle.cfn_app.specs.Endings.{Ending, Ends, IsHindered}
 use Rattle.cfn_app.specs.Runs.{Runs}
 use Rattle.cfn_app.specs.Runs as runs
-use Rattle.cfn_app.specs.Statuses.{Counts, UsageSays, SolveStatus, CheckStatus, CostStatus, SolveSays, CheckSays, CostSays, Statuses}
+use Rattle.cfn_app.specs.Statuses.{Counts, UsageSays, SolveStatus, CheckStatus, CostStatus, MigrateStatus, SolveSays, CheckSays, CostSays, MigrateSays, Statuses}
 use Rattle.cfn_app.proofs.Counting.{by, counted, ends_idle}
 use Rattle.cfn_app.proofs.SolveStating.{solve_status, solve_counts, solve_idle}
 use Rattle.cfn_app.proofs.CheckStating.{check_status, check_counts, check_idle}
 use Rattle.cfn_app.proofs.CostStating.{cost_status, cost_counts, cost_idle}
+use Rattle.cfn_app.proofs.MigrateStating.{migrate_status, migrate_counts, migrate_idle}
 
 none_some : {A : Type 0} (request : Option A) (ask : A) → request ≡ None → request ≡ Some ask → ⊥
 none_some request ask none some = cc
@@ -24,6 +25,18 @@ solve_check request ask other e o = cc
 
 check_cost : (request : Option Request) (ask : CheckRequest) (other : CostRequest) → request ≡ Some (check ask) → request ≡ Some (cost other) → ⊥
 check_cost request ask other e o = cc
+
+solve_migrate : (request : Option Request) (ask : SolveRequest) (other : MigrateRequest) → request ≡ Some (solve ask) → request ≡ Some (migrate other) → ⊥
+solve_migrate request ask other e o = cc
+
+check_migrate : (request : Option Request) (ask : CheckRequest) (other : MigrateRequest) → request ≡ Some (check ask) → request ≡ Some (migrate other) → ⊥
+check_migrate request ask other e o = cc
+
+cost_migrate : (request : Option Request) (ask : CostRequest) (other : MigrateRequest) → request ≡ Some (cost ask) → request ≡ Some (migrate other) → ⊥
+cost_migrate request ask other e o = cc
+
+same_migrate : (request : Option Request) (ask other : MigrateRequest) → request ≡ Some (migrate ask) → request ≡ Some (migrate other) → ask ≡ other
+same_migrate request ask other e o = cc
 
 same_solve : (request : Option Request) (ask other : SolveRequest) → request ≡ Some (solve ask) → request ≡ Some (solve other) → ask ≡ other
 same_solve request ask other e o = cc
@@ -41,6 +54,7 @@ module _ (request : Option Request) (old new : Outside) (status : Status) where
   no_command none (runs.solves ask is solves) = absurd (none_some request (solve ask) none is)
   no_command none (runs.checks ask is same checks) = absurd (none_some request (check ask) none is)
   no_command none (runs.costs ask is same costs) = absurd (none_some request (cost ask) none is)
+  no_command none (runs.migrates ask is migrates) = absurd (none_some request (migrate ask) none is)
 
   -- memory was refused before the words were understood
   hindered : (due : Ending) → Ends due new.calls status → IsHindered due.status → IsHindered status
@@ -56,6 +70,7 @@ module _ (request : Option Request) (old new : Outside) (status : Status) where
   solves ask is (runs.solves other also run) = subst (λ a. SolveStatus a old new status) (same_solve request other ask also is) (solve_status other old new status run)
   solves ask is (runs.checks other also same run) = absurd (solve_check request ask other is also)
   solves ask is (runs.costs other also same run) = absurd (solve_cost request ask other is also)
+  solves ask is (runs.migrates other also run) = absurd (solve_migrate request ask other is also)
 
   checks : (ask : CheckRequest) → request ≡ Some (check ask) → Runs request old new status → CheckStatus ask old new status
   checks ask is (runs.no_memory same ends) = let late = hindered _ ends (inr refl) in record {
@@ -68,6 +83,7 @@ module _ (request : Option Request) (old new : Outside) (status : Status) where
   checks ask is (runs.solves other also run) = absurd (solve_check request other ask also is)
   checks ask is (runs.checks other also same run) = subst (λ a. CheckStatus a old new status) (same_check request other ask also is) (check_status other old new status same run)
   checks ask is (runs.costs other also same run) = absurd (check_cost request ask other is also)
+  checks ask is (runs.migrates other also run) = absurd (check_migrate request ask other is also)
 
   costs : (ask : CostRequest) → request ≡ Some (cost ask) → Runs request old new status → CostStatus ask old new status
   costs ask is (runs.no_memory same ends) = let late = hindered _ ends (inr refl) in record {
@@ -80,6 +96,20 @@ module _ (request : Option Request) (old new : Outside) (status : Status) where
   costs ask is (runs.solves other also run) = absurd (solve_cost request other ask also is)
   costs ask is (runs.checks other also same run) = absurd (check_cost request other ask also is)
   costs ask is (runs.costs other also same run) = subst (λ a. CostStatus a old new status) (same_cost request other ask also is) (cost_status other old new status same run)
+  costs ask is (runs.migrates other also run) = absurd (cost_migrate request ask other is also)
+
+  migrates : (ask : MigrateRequest) → request ≡ Some (migrate ask) → Runs request old new status → MigrateStatus ask old new status
+  migrates ask is (runs.no_memory same ends) = let late = hindered _ ends (inr refl) in record {
+    says = by (MigrateSays ask old new) _ new.calls status ends (λ calls. (_, (calls, same))) tt;
+    refused = (λ bytes refusal told refuses. inr late);
+    migrated = (λ bytes text P c told written reads spells good. inr late);
+    refuted = (λ bytes text P l kind told written reads fault. inr late);
+  }
+  migrates ask is (runs.usage none same ends) = absurd (none_some request (migrate ask) none is)
+  migrates ask is (runs.solves other also run) = absurd (solve_migrate request other ask also is)
+  migrates ask is (runs.checks other also same run) = absurd (check_migrate request other ask also is)
+  migrates ask is (runs.costs other also same run) = absurd (cost_migrate request other ask also is)
+  migrates ask is (runs.migrates other also run) = subst (λ a. MigrateStatus a old new status) (same_migrate request other ask also is) (migrate_status other old new status run)
 
   counts : Runs request old new status → Counts old.calls new.calls status
   counts (runs.no_memory same ends) = counted old.calls _ new.calls status ends refl
@@ -87,6 +117,7 @@ module _ (request : Option Request) (old new : Outside) (status : Status) where
   counts (runs.solves ask is run) = solve_counts ask old new status run
   counts (runs.checks ask is same run) = check_counts ask old new status same run
   counts (runs.costs ask is same run) = cost_counts ask old new status same run
+  counts (runs.migrates ask is run) = migrate_counts ask old new status run
 
   idle : Runs request old new status → IsIdle old.calls → IsIdle new.calls
   idle (runs.no_memory same ends) before = ends_idle _ new.calls status ends before
@@ -94,6 +125,7 @@ module _ (request : Option Request) (old new : Outside) (status : Status) where
   idle (runs.solves ask is run) before = solve_idle ask old new status run before
   idle (runs.checks ask is same run) before = check_idle ask old new status same run before
   idle (runs.costs ask is same run) before = cost_idle ask old new status same run before
+  idle (runs.migrates ask is run) before = migrate_idle ask old new status run before
 
   pub statuses : Runs request old new status → Statuses request old new status
   statuses run = record {
@@ -101,6 +133,7 @@ module _ (request : Option Request) (old new : Outside) (status : Status) where
     solves = (λ ask is. solves ask is run);
     checks = (λ ask is. checks ask is run);
     costs = (λ ask is. costs ask is run);
+    migrates = (λ ask is. migrates ask is run);
     counts = counts run;
     idle = idle run;
   }

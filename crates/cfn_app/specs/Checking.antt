@@ -7,13 +7,12 @@ use Rattle.cfn_fault.specs.declared.kind.FaultKind.{FaultKind}
 use Rattle.cfn_fault.specs.Fault as faults
 use Rattle.cfn_check.specs.Checking.{cost_of}
 use Rattle.cfn_report.specs.Texts.{verified_text, refused_text}
-use Rattle.cfn_desk.specs.Outside.{Outside, Call, HasFile}
+use Rattle.cfn_desk.specs.Outside.{Outside, Call}
 use Rattle.cfn_cli.specs.Request.{CheckRequest}
-use Rattle.cfn_app.specs.declared.format.Format.TheVariants.{Wcsp}
 use Rattle.cfn_app.specs.declared.status.Status.{Status}
 use Rattle.cfn_app.specs.declared.status.Status.TheVariants.{Done, NoMemory, Disproved}
 use Rattle.cfn_app.specs.Endings.{Ends}
-use Rattle.cfn_app.specs.Loading.{ReadsAs, Unloaded, Unread, loaded}
+use Rattle.cfn_app.specs.Loading.{Paired, Unpaired}
 
 -- A text was judged good: it spells a certificate that is good, which alone implies its bounds.
 pub record Verifies (P : Network) (bytes : List ℕ) (c : Certificate) : Type 0 where
@@ -28,10 +27,7 @@ pub data Judges (P : Network) (text : List ℕ) (calls now : List Call) (status 
   disproved : (l : ℕ) (kind : FaultKind) → faults.Fault P text l kind → Ends (record { calls = calls; text = refused_text kind l; status = Disproved }) now status → Judges P text calls now status
   no_memory : Ends (record { calls = calls; text = memory_fault_text; status = NoMemory }) now status → Judges P text calls now status
 
--- How a run of `check` ends: the file is not loaded, or the certificate is not, or the file is not read, or the
--- certificate is judged.
+-- How a run of `check` ends: both files were not loaded and read, or the certificate is judged.
 pub data Checks (ask : CheckRequest) (old : Outside) (now : List Call) (status : Status) : Type 0 where
-  unloaded : Unloaded ask.file old.calls now status → Checks ask old now status
-  uncertified : (bytes : List ℕ) → HasFile old ask.file bytes → Unloaded ask.certificate (loaded ask.file bytes old.calls) now status → Checks ask old now status
-  unread : (bytes text : List ℕ) → HasFile old ask.file bytes → HasFile old ask.certificate text → Unread Wcsp bytes (loaded ask.certificate text (loaded ask.file bytes old.calls)) now status → Checks ask old now status
-  judged : (bytes text : List ℕ) (P : Network) → HasFile old ask.file bytes → HasFile old ask.certificate text → ReadsAs Wcsp bytes P → Judges P text (loaded ask.certificate text (loaded ask.file bytes old.calls)) now status → Checks ask old now status
+  unpaired : Unpaired ask.file ask.certificate old now status → Checks ask old now status
+  judged : (P : Network) (text : List ℕ) (middle : Outside) → Paired ask.file ask.certificate old P text middle → Judges P text middle.calls now status → Checks ask old now status

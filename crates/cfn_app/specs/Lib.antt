@@ -3,6 +3,7 @@ pub mod Costing
 pub mod Endings
 pub mod Headline
 pub mod Loading
+pub mod Migrating
 pub mod Runs
 pub mod Solving
 pub mod Statuses

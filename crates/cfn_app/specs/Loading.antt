@@ -4,7 +4,7 @@ use Rattle.cfn_model.specs.declared.reading.Refusal.{Refusal}
 use Rattle.cfn_model.specs.Network.{Network}
 use Rattle.cfn_model.specs.Reading.{Reads, Refuses}
 use Rattle.cfn_model.specs.Text.{refusal_text, read_fault_text, memory_fault_text}
-use Rattle.cfn_desk.specs.Outside.{Outside, Call, Load, Bytes, Unreadable, NoMemory}
+use Rattle.cfn_desk.specs.Outside.{Outside, Call, Load, Bytes, Unreadable, NoMemory, HasFile}
 use Rattle.cfn_wcsp.specs.declared.fault.ReadFault.{ReadFault}
 use Rattle.cfn_wcsp.specs.declared.fault.ReadFault.TheVariants as faults
 use Rattle.cfn_app.specs.declared.format.Format.{Format}
@@ -33,6 +33,21 @@ pub data Unloaded (name : List ℕ) (calls now : List Call) (status : Status) : 
 pub data Unread (format : Format) (bytes : List ℕ) (calls now : List Call) (status : Status) : Type 0 where
   refused : (refusal : Refusal) → RefusesAs format bytes refusal → Ends (record { calls = calls; text = refusal_text refusal; status = statuses.Refused }) now status → Unread format bytes calls now status
   no_memory : Ends (record { calls = calls; text = memory_fault_text; status = statuses.NoMemory }) now status → Unread format bytes calls now status
+
+-- A file and a certificate were loaded, and the file read as a network.
+pub record Paired (file certificate : List ℕ) (old : Outside) (P : Network) (text : List ℕ) (new : Outside) : Type 0 where
+  pub bytes : List ℕ
+  pub has : HasFile old file bytes
+  pub certified : HasFile old certificate text
+  pub reads : ReadsAs Wcsp bytes P
+  pub calls : new.calls ≡ loaded certificate text (loaded file bytes old.calls)
+  pub files : new.files ≡ old.files
+
+-- How a run ends where they were not: the file is not loaded, or the certificate is not, or the file is not read.
+pub data Unpaired (file certificate : List ℕ) (old : Outside) (now : List Call) (status : Status) : Type 0 where
+  unloaded : Unloaded file old.calls now status → Unpaired file certificate old now status
+  uncertified : (bytes : List ℕ) → HasFile old file bytes → Unloaded certificate (loaded file bytes old.calls) now status → Unpaired file certificate old now status
+  illegible : (bytes text : List ℕ) → HasFile old file bytes → HasFile old certificate text → Unread Wcsp bytes (loaded certificate text (loaded file bytes old.calls)) now status → Unpaired file certificate old now status
 
 -- What is said of bytes that the reader does not take.
 abbrev pub SaysUnread : ReadFault → List Call → List Call → Status → Type 0

@@ -3,13 +3,14 @@ use Rattle.std.specs.Prelude.{◌≡◌, Option, Some, None}
 use Rattle.cfn_model.specs.Text.{memory_fault_text}
 use Rattle.cfn_report.specs.Texts.{usage_text}
 use Rattle.cfn_desk.specs.Outside.{Outside}
-use Rattle.cfn_cli.specs.Request.{Request, solve, check, cost, SolveRequest, CheckRequest, CostRequest}
+use Rattle.cfn_cli.specs.Request.{Request, solve, check, cost, migrate, SolveRequest, CheckRequest, CostRequest, MigrateRequest}
 use Rattle.cfn_app.specs.declared.status.Status.{Status}
 use Rattle.cfn_app.specs.declared.status.Status.TheVariants.{Usage, NoMemory}
 use Rattle.cfn_app.specs.Endings.{Ends}
 use Rattle.cfn_app.specs.Solving.{Solves}
 use Rattle.cfn_app.specs.Checking.{Checks}
 use Rattle.cfn_app.specs.Costing.{Costs}
+use Rattle.cfn_app.specs.Migrating.{Migrates}
 
 -- How a run may end, by what its words ask for.
 pub data Runs (request : Option Request) (old new : Outside) (status : Status) : Type 0 where
@@ -21,3 +22,4 @@ pub data Runs (request : Option Request) (old new : Outside) (status : Status) :
   solves : (ask : SolveRequest) → request ≡ Some (solve ask) → Solves ask old new status → Runs request old new status
   checks : (ask : CheckRequest) → request ≡ Some (check ask) → new.files ≡ old.files → Checks ask old new.calls status → Runs request old new status
   costs : (ask : CostRequest) → request ≡ Some (cost ask) → new.files ≡ old.files → Costs ask old new.calls status → Runs request old new status
+  migrates : (ask : MigrateRequest) → request ≡ Some (migrate ask) → Migrates ask old new status → Runs request old new status

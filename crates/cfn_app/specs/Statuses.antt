@@ -6,21 +6,21 @@ use Rattle.cfn_model.specs.declared.report.ResultWord.TheVariants.{Optimum, Budg
 use Rattle.cfn_model.specs.declared.report.ResultWord.TheVariants as words
 use Rattle.cfn_model.specs.declared.reading.Refusal.{Refusal}
 use Rattle.cfn_model.specs.Network.{Network, Fits, cost as cost_at}
-use Rattle.cfn_model.specs.Certificate.{Certificate, Good}
+use Rattle.cfn_model.specs.Certificate.{Certificate, Good, in_second}
 use Rattle.cfn_model.specs.Text.{Spells, spelling, report, refusal_text, memory_fault_text, cost_text, values_fault_text, value_fault_text}
 use Rattle.cfn_net.specs.Fitting.{IsFirstMisfit}
 use Rattle.cfn_fault.specs.declared.kind.FaultKind.{FaultKind}
 use Rattle.cfn_fault.specs.Fault as faulty
 use Rattle.cfn_check.specs.Checking.{cost_of}
-use Rattle.cfn_report.specs.Texts.{usage_text, verified_text, refused_text}
+use Rattle.cfn_report.specs.Texts.{usage_text, verified_text, refused_text, migrated_text}
 use Rattle.cfn_desk.specs.Outside.{Outside, Call, Open, Close, Writing, HasFile, IsIdle, Stored, faults, puts, says}
-use Rattle.cfn_cli.specs.Request.{Request, solve, check, cost, SolveRequest, CheckRequest, CostRequest}
+use Rattle.cfn_cli.specs.Request.{Request, solve, check, cost, migrate, SolveRequest, CheckRequest, CostRequest, MigrateRequest}
 use Rattle.cfn_app.specs.declared.format.Format.TheVariants.{Wcsp}
 use Rattle.cfn_app.specs.declared.status.Status.{Status}
 use Rattle.cfn_app.specs.declared.status.Status.TheVariants.{Done, Nothing, BudgetSpent, Usage, Refused, Fault, NoMemory, Disproved}
 use Rattle.cfn_app.specs.Endings.{IsHindered}
 use Rattle.cfn_app.specs.Headline.{Promise}
-use Rattle.cfn_app.specs.Loading.{ReadsAs, RefusesAs, Tells, loaded}
+use Rattle.cfn_app.specs.Loading.{ReadsAs, RefusesAs, Paired, Tells, loaded}
 use Rattle.cfn_app.specs.Checking.{Verifies}
 
 -- The count of failed calls: it rose with the status of a fault, and with no other.
@@ -83,34 +83,32 @@ pub record SolveStatus (ask : SolveRequest) (old new : Outside) (status : Status
 
 -- ---- check
 
-abbrev pub both : CheckRequest → Outside → List ℕ → List ℕ → List Call
-both ask old bytes text = loaded ask.certificate text (loaded ask.file bytes old.calls)
-
 -- The certificate is good, and its bounds were said.
 abbrev pub Verified : CheckRequest → Outside → Outside → Type 0
 Verified ask old new =
-    (bytes : List ℕ) × (text : List ℕ) × (P : Network) × (c : Certificate) × HasFile old ask.file bytes × HasFile old ask.certificate text × ReadsAs Wcsp bytes P × Verifies P text c
-    × Says old (both ask old bytes text) (verified_text c.lower (cost_of c.best)) new
+    (P : Network) × (text : List ℕ) × (c : Certificate) × (middle : Outside) × Paired ask.file ask.certificate old P text middle × Verifies P text c
+    × Says old middle.calls (verified_text c.lower (cost_of c.best)) new
 
--- A line of the certificate fails, no earlier one does, and how it fails was said.
-abbrev pub Refuted : CheckRequest → Outside → Outside → Type 0
-Refuted ask old new =
-    (bytes : List ℕ) × (text : List ℕ) × (P : Network) × (l : ℕ) × (kind : FaultKind) × HasFile old ask.file bytes × HasFile old ask.certificate text × ReadsAs Wcsp bytes P × faulty.Fault P text l kind
-    × Says old (both ask old bytes text) (refused_text kind l) new
+-- A line of a certificate fails, no earlier one does, and how it fails was said.
+abbrev pub Refuted : List ℕ → List ℕ → Outside → Outside → Type 0
+Refuted file certificate old new =
+    (P : Network) × (text : List ℕ) × (l : ℕ) × (kind : FaultKind) × (middle : Outside) × Paired file certificate old P text middle × faulty.Fault P text l kind
+    × Says old middle.calls (refused_text kind l) new
 
 -- The file was refused, after the certificate was loaded too.
-abbrev pub CheckRefused : CheckRequest → Outside → Outside → Type 0
-CheckRefused ask old new = (text : List ℕ) × HasFile old ask.certificate text × FileRefused (λ bytes. both ask old bytes text) ask.file old new
+abbrev pub PairRefused : List ℕ → List ℕ → Outside → Outside → Type 0
+PairRefused file certificate old new =
+    (text : List ℕ) × HasFile old certificate text × FileRefused (λ bytes. loaded certificate text (loaded file bytes old.calls)) file old new
 
 abbrev pub CheckSays : CheckRequest → Outside → Outside → Status → Type 0
 CheckSays ask old new Done = Verified ask old new
 CheckSays ask old new Nothing = ⊥
 CheckSays ask old new BudgetSpent = ⊥
 CheckSays ask old new Usage = ⊥
-CheckSays ask old new Refused = CheckRefused ask old new
+CheckSays ask old new Refused = PairRefused ask.file ask.certificate old new
 CheckSays ask old new Fault = Unit {0}
 CheckSays ask old new NoMemory = SaysNoMemory old new
-CheckSays ask old new Disproved = Refuted ask old new
+CheckSays ask old new Disproved = Refuted ask.file ask.certificate old new
 
 -- What a status of `check` says; a file that is refused ends with that, a good certificate is verified, and any other
 -- text is refused.
@@ -154,6 +152,40 @@ pub record CostStatus (ask : CostRequest) (old new : Outside) (status : Status) 
   pub costed : (bytes : List ℕ) (P : Network) → Tells old ask.file bytes → ReadsAs Wcsp bytes P → Fits P.sizes ask.values → (status ≡ Done) ⊎ IsHindered status
   pub misfits : (bytes : List ℕ) (P : Network) → Tells old ask.file bytes → ReadsAs Wcsp bytes P → (Fits P.sizes ask.values → ⊥) → (status ≡ Refused) ⊎ IsHindered status
 
+-- ---- migrate
+
+-- The certificate is good, and it was written in the second version, which is as good: under the name that was asked for
+-- stands its text, and that was said.
+pub record Migrated (ask : MigrateRequest) (old new : Outside) : Type 0 where
+  pub network : Network
+  pub text : List ℕ
+  pub certificate : Certificate
+  pub middle : Outside
+  pub paired : Paired ask.file ask.certificate old network text middle
+  pub verifies : Verifies network text certificate
+  pub spells : Spells (in_second certificate) (spelling (in_second certificate))
+  pub good : Good network (in_second certificate)
+  pub stored : Stored old.files (Writing ask.out (spelling (in_second certificate))) new.files
+  pub calls : new.calls ≡ says migrated_text (Close true ∷ puts (spelling (in_second certificate)) (Open ask.out true ∷ middle.calls))
+
+abbrev pub MigrateSays : MigrateRequest → Outside → Outside → Status → Type 0
+MigrateSays ask old new Done = Migrated ask old new
+MigrateSays ask old new Nothing = ⊥
+MigrateSays ask old new BudgetSpent = ⊥
+MigrateSays ask old new Usage = ⊥
+MigrateSays ask old new Refused = PairRefused ask.file ask.certificate old new
+MigrateSays ask old new Fault = Unit {0}
+MigrateSays ask old new NoMemory = SaysNoMemory old new
+MigrateSays ask old new Disproved = Refuted ask.file ask.certificate old new
+
+-- What a status of `migrate` says; a file that is refused ends with that, a good certificate is written, and any other
+-- text is refused.
+pub record MigrateStatus (ask : MigrateRequest) (old new : Outside) (status : Status) : Type 0 where
+  pub says : MigrateSays ask old new status
+  pub refused : (bytes : List ℕ) (refusal : Refusal) → Tells old ask.file bytes → RefusesAs Wcsp bytes refusal → (status ≡ Refused) ⊎ IsHindered status
+  pub migrated : (bytes text : List ℕ) (P : Network) (c : Certificate) → Tells old ask.file bytes → Tells old ask.certificate text → ReadsAs Wcsp bytes P → Spells c text → Good P c → (status ≡ Done) ⊎ IsHindered status
+  pub refuted : (bytes text : List ℕ) (P : Network) (l : ℕ) (kind : FaultKind) → Tells old ask.file bytes → Tells old ask.certificate text → ReadsAs Wcsp bytes P → faulty.Fault P text l kind → (status ≡ Disproved) ⊎ IsHindered status
+
 -- ---- all commands
 
 -- Words that are no command end with the usage.
@@ -174,5 +206,6 @@ pub record Statuses (request : Option Request) (old new : Outside) (status : Sta
   pub solves : (ask : SolveRequest) → request ≡ Some (solve ask) → SolveStatus ask old new status
   pub checks : (ask : CheckRequest) → request ≡ Some (check ask) → CheckStatus ask old new status
   pub costs : (ask : CostRequest) → request ≡ Some (cost ask) → CostStatus ask old new status
+  pub migrates : (ask : MigrateRequest) → request ≡ Some (migrate ask) → MigrateStatus ask old new status
   pub counts : Counts old.calls new.calls status
   pub idle : IsIdle old.calls → IsIdle new.calls

@@ -4,8 +4,7 @@ ghost use Rattle.std.specs.Prelude.{◌≡◌};
 ghost use Rattle.cfn_cli.specs.Request.{spoken_check};
 ghost use Rattle.cfn_app.specs.Checking.{Checks, Judges};
 
-use crate::format::Format;
-use crate::loading::{load_bytes, read_bytes};
+use crate::loading::load_pair;
 use crate::status::{Status, ending};
 use cfn_check::{Check, check};
 use cfn_cli::CheckArguments;
@@ -19,16 +18,8 @@ pub fn check_file<D: Desk>(alloc: Global, ask: &CheckArguments, desk: &mut D) ->
     ensures ends { Checks (spoken_check ask.now) (D.outside desk.old) (D.outside desk.new).calls result }
     ensures files { (D.outside desk.new).files ≡ (D.outside desk.old).files }
 {
-    let bytes = match load_bytes(alloc, ask.file.as_str(), desk) {
-        Ok(bytes) => bytes,
-        Err(status) => return status,
-    };
-    let text = match load_bytes(alloc, ask.certificate.as_str(), desk) {
-        Ok(text) => text,
-        Err(status) => return status,
-    };
-    match read_bytes(alloc, Format::Wcsp, &bytes, desk) {
-        Ok(network) => judge(alloc, &network, &text, desk),
+    match load_pair(alloc, ask.file.as_str(), ask.certificate.as_str(), desk) {
+        Ok(pair) => judge(alloc, &pair.network, &pair.text, desk),
         Err(status) => status,
     }
 }

@@ -2,7 +2,7 @@
 
 ghost use Rattle.std.specs.Prelude.{◌≡◌, IfErr, IfOk};
 ghost use Rattle.cfn_desk.specs.Outside.{HasFile, Load, Bytes, after};
-ghost use Rattle.cfn_app.specs.Loading.{ReadsAs, SaysUnread, Unloaded, Unread};
+ghost use Rattle.cfn_app.specs.Loading.{Paired, ReadsAs, SaysUnread, Unloaded, Unpaired, Unread};
 
 use crate::format::Format;
 use crate::status::{Status, ending};
@@ -51,6 +51,33 @@ pub fn read_bytes<D: Desk>(
         Ok(network) => Ok(network),
         Err(fault) => Err(say_unread(fault, desk)),
     }
+}
+
+/// A network, and the text of a certificate for it.
+#[derive(Drop)]
+pub struct Pair {
+    pub network: Network,
+    pub text: Vec<u8>,
+}
+
+/// Loads a file and a certificate, and reads the network of the file. An `Err` has said what failed first, and is the
+/// status that the run ends with.
+pub fn load_pair<D: Desk>(
+    alloc: Global,
+    file: &str,
+    certificate: &str,
+    desk: &mut D,
+) -> Result<Pair, Status>
+    ensures paired { IfOk result (λ pair. Paired file.now certificate.now (D.outside desk.old)
+        pair.network pair.text.items (D.outside desk.new)) }
+    ensures unpaired { IfErr result (λ status. Unpaired file.now certificate.now (D.outside desk.old)
+        (D.outside desk.new).calls status) }
+    ensures files { (D.outside desk.new).files ≡ (D.outside desk.old).files }
+{
+    let bytes = load_bytes(alloc, file, desk)?;
+    let text = load_bytes(alloc, certificate, desk)?;
+    let network = read_bytes(alloc, Format::Wcsp, &bytes, desk)?;
+    Ok(Pair { network, text })
 }
 
 /// Says why bytes are not read as a network.

@@ -1,9 +1,12 @@
 //! Writing a certificate and saying its report.
 
 ghost use Rattle.std.specs.Prelude.{◌≡◌, OnOk, OnErr};
-ghost use Rattle.cfn_model.specs.Text.{report, spelling};
+ghost use Rattle.cfn_model.specs.Certificate.{Certificate, in_second};
+ghost use Rattle.cfn_model.specs.Text.{Spells, report, spelling};
 ghost use Rattle.cfn_desk.specs.Outside.{IsWriting};
 ghost use Rattle.cfn_proof.specs.Certificates.{certificate_of, solution_of};
+ghost use Rattle.cfn_report.specs.Texts.{migrated_text};
+ghost use Rattle.cfn_app.specs.declared.status.Status.TheVariants.{Done};
 ghost use Rattle.cfn_app.specs.Solving.{Outputs, Wrote, NotWritten, status_of, word_of};
 
 use crate::status::{Status, ending};
@@ -34,6 +37,34 @@ pub fn put_out<D: Desk>(outcome: &Outcome, workers: u32, desk: &mut D) -> Status
         word,
     };
     ending(cfn_report::write(&report, desk), status(word))
+}
+
+/// Writes a certificate in the second version, by its text, into the file that was opened, and then says so. It takes no
+/// memory.
+pub fn put_upgraded<D: Desk>(text: &[u8], desk: &mut D) -> Status
+    requires { IsWriting (D.outside desk.old).calls }
+    ensures { (c : Certificate) → Spells c text.now → Outputs (spelling (in_second c)) migrated_text Done
+        (D.outside desk.old) (D.outside desk.new) result }
+{
+    if save_upgraded(text, desk).is_err() {
+        return ending(cfn_report::write_write_fault(desk), Status::Fault);
+    }
+    ending(cfn_report::write_migrated(desk), Status::Done)
+}
+
+/// Writes a certificate in the second version, by its text, as `save` does.
+fn save_upgraded<D: Desk>(text: &[u8], desk: &mut D) -> Result<(), Failed>
+    requires { IsWriting (D.outside desk.old).calls }
+    ensures wrote { (c : Certificate) → Spells c text.now → OnOk result (Wrote (spelling (in_second c))
+        (D.outside desk.old) (D.outside desk.new)) }
+    ensures not_written { (c : Certificate) → Spells c text.now → OnErr result (NotWritten (spelling (in_second c))
+        (D.outside desk.old) (D.outside desk.new)) }
+{
+    if cfn_certwrite::upgrade(text, desk).is_err() {
+        desk.discard_out();
+        return Err(Failed);
+    }
+    desk.close_out()
 }
 
 /// Writes a certificate into the file that was opened, and closes it. It takes no memory. After an `Err` no file is being

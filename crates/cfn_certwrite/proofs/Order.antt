@@ -3,6 +3,7 @@ use Rattle.std.proofs.Common.{◌≡◌, ℕ, zero, suc, ◌<◌, ◌≤◌, Boo
 use Rattle.std.proofs.lemmas.List.{append-nil}
 use Rattle.std.proofs.lemmas.Bool.{ne_eqb, false≢true}
 use Rattle.std.specs.Prelude.{IfSome, is_some}
+use Rattle.cfn_model.specs.declared.step.Decision.{Decision}
 use Rattle.cfn_model.specs.Text.{step_words, text, tree_lines}
 use Rattle.cfn_proof.specs.declared.tree.NodeId.{NodeId}
 use Rattle.cfn_proof.specs.declared.tree.End.{End}
@@ -57,8 +58,8 @@ some_if false x y h = cc
 second_of : (nodes : List Node) (i p : ℕ) (s : NodeId) (e : End) → IsLinked nodes → p < length nodes → (node_at nodes p).end ≡ e → second_after e i ≡ Some s → (s.number < length nodes) × (lines_behind nodes s.number ≡ lines_behind nodes p)
 second_of nodes i p s Free linked there is found = cc
 second_of nodes i p s Shut linked there is found = cc
-second_of nodes i p s (Split x a first second) linked there is found =
-    let family = linked.children p x a first second there is in
+second_of nodes i p s (Split d first second) linked there is found =
+    let family = linked.children p d first second there is in
     let same : second ≡ s = some_if (eqb first.number i) second s found in
     let other : eqb first.number second.number ≡ false = ne_eqb first.number second.number family.different in
     let behind = behind_child nodes second.number (record { number = p }) linked family.second_there family.second_knows in
@@ -103,15 +104,15 @@ from_leaf nodes i node linked there is leaf =
 grouped : {T : Type 0} (block : List T) (own : T) (first second rest : List T) → (block ++ own ∷ (first ++ second)) ++ rest ≡ (block ++ own ∷ []) ++ (first ++ (second ++ rest))
 grouped block own first second rest = append_assoc block (own ∷ (first ++ second)) rest ∙ ap (λ t. block ++ own ∷ t) (append_assoc first second rest) ∙ sym (append_assoc block (own ∷ []) (first ++ (second ++ rest)))
 
-pub from_split : (nodes : List Node) (i x a : ℕ) (first second : NodeId) → IsLinked nodes → i < length nodes → (node_at nodes i).end ≡ Split x a first second → lines_from nodes i ≡ node_lines (node_at nodes i) ++ lines_from nodes first.number
-from_split nodes i x a first second linked there is =
-    let family = linked.children i x a first second there is in
+pub from_split : (nodes : List Node) (i : ℕ) (d : Decision) (first second : NodeId) → IsLinked nodes → i < length nodes → (node_at nodes i).end ≡ Split d first second → lines_from nodes i ≡ node_lines (node_at nodes i) ++ lines_from nodes first.number
+from_split nodes i d first second linked there is =
+    let family = linked.children i d first second there is in
     let found : second_after (node_at nodes i).end first.number ≡ Some second = ap (λ end. second_after end first.number) is ∙ ap (λ b. cond b (Some second) None) (eq-eqb first.number first.number refl) in
     let behind = behind_first nodes first.number (record { number = i }) second linked family.first_there family.first_knows found in
     let second_lines : lines_behind nodes first.number ≡ tree_lines (tree_at nodes second.number) ++ lines_behind nodes i = behind_child nodes first.number (record { number = i }) linked family.first_there family.first_knows ∙ ap (λ o. sibling_lines nodes o (lines_behind nodes i)) found in
-    ap (λ t. t ++ lines_behind nodes i) (tree_lines_at nodes i (Split x a first second) linked there is)
-    ∙ grouped (map step_words (node_at nodes i).block) (end_words (Split x a first second)) (tree_lines (tree_at nodes first.number)) (tree_lines (tree_at nodes second.number)) (lines_behind nodes i)
-    ∙ ap (λ t. (map step_words (node_at nodes i).block ++ end_words (Split x a first second) ∷ []) ++ (tree_lines (tree_at nodes first.number) ++ t)) (sym second_lines)
+    ap (λ t. t ++ lines_behind nodes i) (tree_lines_at nodes i (Split d first second) linked there is)
+    ∙ grouped (map step_words (node_at nodes i).block) (end_words (Split d first second)) (tree_lines (tree_at nodes first.number)) (tree_lines (tree_at nodes second.number)) (lines_behind nodes i)
+    ∙ ap (λ t. (map step_words (node_at nodes i).block ++ end_words (Split d first second) ∷ []) ++ (tree_lines (tree_at nodes first.number) ++ t)) (sym second_lines)
     ∙ ap (λ end. (map step_words (node_at nodes i).block ++ end_words end ∷ []) ++ lines_from nodes first.number) (sym is)
 
 -- the whole tree from its root
@@ -122,7 +123,7 @@ from_root nodes linked = ap (λ t. tree_lines (tree_at nodes 0) ++ t) (behind_ro
 ends_first : (nodes : List Node) (i : ℕ) (e : End) → IsLinked nodes → i < length nodes → (node_at nodes i).end ≡ e → (rest : List (List (List ℕ))) × (lines_from nodes i ≡ node_lines (node_at nodes i) ++ rest)
 ends_first nodes i Free linked there is = (lines_behind nodes i, from_leaf nodes i (node_at nodes i) linked there refl (inl is))
 ends_first nodes i Shut linked there is = (lines_behind nodes i, from_leaf nodes i (node_at nodes i) linked there refl (inr is))
-ends_first nodes i (Split x a first second) linked there is = (lines_from nodes first.number, from_split nodes i x a first second linked there is)
+ends_first nodes i (Split d first second) linked there is = (lines_from nodes first.number, from_split nodes i d first second linked there is)
 
 pub own_first : (nodes : List Node) (i : ℕ) → IsLinked nodes → i < length nodes → (rest : List (List (List ℕ))) × (lines_from nodes i ≡ node_lines (node_at nodes i) ++ rest)
 own_first nodes i linked there = ends_first nodes i (node_at nodes i).end linked there refl

@@ -1,6 +1,6 @@
 -- The lines of a tree, in the order of its nodes.
 use Rattle.std.specs.Prelude.{ℕ, zero, suc, List, [], ◌∷◌, ◌++◌, map, Option, Some, None, ◌==◌, if◌then◌else◌, codes}
-use Rattle.cfn_model.specs.Text.{step_words, split_words, tree_lines}
+use Rattle.cfn_model.specs.Text.{step_words, decision_words, tree_lines}
 use Rattle.cfn_proof.specs.declared.tree.NodeId.{NodeId}
 use Rattle.cfn_proof.specs.declared.tree.End.{End}
 use Rattle.cfn_proof.specs.declared.tree.End.TheVariants.{Free, Shut, Split}
@@ -11,7 +11,7 @@ use Rattle.cfn_proof.specs.Nodes.{node_at, tree_at}
 abbrev pub end_words : End → List (List ℕ)
 end_words Free = codes "open" ∷ []
 end_words Shut = codes "closed" ∷ []
-end_words (Split x a first second) = split_words x a
+end_words (Split d first second) = decision_words d
 
 abbrev pub node_lines : Node → List (List (List ℕ))
 node_lines node = map step_words node.block ++ end_words node.end ∷ []
@@ -20,7 +20,7 @@ node_lines node = map step_words node.block ++ end_words node.end ∷ []
 abbrev pub second_after : End → ℕ → Option NodeId
 second_after Free i = None
 second_after Shut i = None
-second_after (Split x a first second) i = if first.number == i then Some second else None
+second_after (Split d first second) i = if first.number == i then Some second else None
 
 -- The lines of a second child's tree, if there is one, before others.
 abbrev pub sibling_lines : List Node → Option NodeId → List (List (List ℕ)) → List (List (List ℕ))

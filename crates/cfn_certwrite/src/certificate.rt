@@ -13,7 +13,7 @@ use cfn_line::{Channel, Word, write_line, write_list};
 use cfn_net::Scored;
 use cfn_proof::Certificate;
 
-/// Puts the text of a certificate, version 1, behind the bytes of the file that the desk is writing. Each word is
+/// Puts the text of a certificate, version 2, behind the bytes of the file that the desk is writing. Each word is
 /// one put, together with the space or LF behind it. It takes no memory.
 ///
 /// An `Err` is a put that failed: some front of the text came behind the bytes, and the rest was not tried.
@@ -36,7 +36,7 @@ fn put_head<D: Desk>(certificate: &Certificate, desk: &mut D) -> Result<(), Fail
 {
     write_line(
         Channel::File,
-        &[Word::Name("wcspcert"), Word::Name("1")],
+        &[Word::Name("wcspcert"), Word::Name("2")],
         desk,
     )?;
     put_network(certificate, desk)?;

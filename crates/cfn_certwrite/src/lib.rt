@@ -10,9 +10,11 @@
 
 mod certificate;
 mod nodes;
+mod second;
 mod walk;
 
 pub use certificate::write;
+pub use second::upgrade;
 
 #[cfg(test)]
 mod tests;

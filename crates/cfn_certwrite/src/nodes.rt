@@ -1,7 +1,7 @@
 //! The lines of one node: its block of steps, and how it ends.
 
 ghost use Rattle.std.specs.Prelude.{◌≡◌, [], ◌∷◌, ◌++◌, decimal, map};
-ghost use Rattle.cfn_model.specs.Text.{line, step_words, text};
+ghost use Rattle.cfn_model.specs.Text.{decision_words, line, step_words, text};
 ghost use Rattle.cfn_certwrite.specs.Walk.{end_words, node_lines};
 ghost use Rattle.cfn_desk.specs.Outside.{IsWriting};
 ghost use Rattle.cfn_line.specs.Appending.{Appends};
@@ -9,7 +9,7 @@ ghost use Rattle.cfn_line.specs.declared.channel.Channel.TheVariants.{File};
 
 use cfn_desk::{Desk, Failed};
 use cfn_line::{Channel, Word, write_line};
-use cfn_proof::{End, Node, Step};
+use cfn_proof::{Decision, End, Node, Step};
 
 /// Puts the lines of a node: a line for each step of its block, and the line of its end.
 pub fn put_node<D: Desk>(node: &Node, desk: &mut D) -> Result<(), Failed>
@@ -80,19 +80,19 @@ fn put_shift<D: Desk>(
     write_line(Channel::File, &words, desk)
 }
 
-/// Puts a line of a letter and two numbers.
+/// Puts a line of a name and two numbers.
 fn put_pair<D: Desk>(
-    letter: &'static str,
+    name: &'static str,
     first: u32,
     second: u64,
     desk: &mut D,
 ) -> Result<(), Failed>
     requires { IsWriting (D.outside desk.old).calls }
     ensures { Appends File (D.outside desk.old)
-        (line (letter.now ∷ decimal first ∷ decimal second ∷ [])) result (D.outside desk.new) }
+        (line (name.now ∷ decimal first ∷ decimal second ∷ [])) result (D.outside desk.new) }
 {
     let words = [
-        Word::Name(letter),
+        Word::Name(name),
         Word::Number(u64::from(first)),
         Word::Number(second),
     ];
@@ -108,10 +108,18 @@ fn put_end<D: Desk>(end: End, desk: &mut D) -> Result<(), Failed>
     match end {
         End::Free => write_line(Channel::File, &[Word::Name("open")], desk),
         End::Shut => write_line(Channel::File, &[Word::Name("closed")], desk),
-        End::Split {
-            variable,
-            value,
-            ..
-        } => put_pair("split", variable, u64::from(value), desk),
+        End::Split { decision, .. } => put_decision(decision, desk),
+    }
+}
+
+/// Puts the line of a split: `split` by a value, and `part` by a bound.
+fn put_decision<D: Desk>(decision: Decision, desk: &mut D) -> Result<(), Failed>
+    requires { IsWriting (D.outside desk.old).calls }
+    ensures { Appends File (D.outside desk.old)
+        (line (decision_words decision)) result (D.outside desk.new) }
+{
+    match decision {
+        Decision::Is { variable, value } => put_pair("split", variable, u64::from(value), desk),
+        Decision::Most { variable, value } => put_pair("part", variable, u64::from(value), desk),
     }
 }

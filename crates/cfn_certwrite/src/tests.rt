@@ -4,7 +4,7 @@ ghost use Rattle.cfn_desk.specs.Outside.{IsWriting};
 use crate::write;
 use cfn_desk::{Desk, Failed, MemoryDesk};
 use cfn_net::{Builder, Network, Scored};
-use cfn_proof::{Block, Certificate, Step, Tree};
+use cfn_proof::{Block, Certificate, Decision, Step, Tree};
 use std::alloc::AllocError;
 use std::test::Fail;
 
@@ -31,7 +31,7 @@ fn bare_certificate(rt: &HostRuntime) -> Result<Certificate, AllocError> {
     })
 }
 
-const BARE: &[u8] = b"wcspcert 1\nnetwork 1 1 10\nlower 4\nbest none\ntree\nopen\nend\n";
+const BARE: &[u8] = b"wcspcert 2\nnetwork 1 1 10\nlower 4\nbest none\ntree\nopen\nend\n";
 
 /// The words of that text.
 const BARE_WORDS: u64 = 13;
@@ -79,7 +79,8 @@ fn best(rt: &HostRuntime, network: &Network) -> Result<Scored, AllocError>
     Ok(scored)
 }
 
-/// A split whose first side is closed behind steps of all five kinds.
+/// A split by a value, whose first side is closed behind steps of all five kinds, and whose second is a split by a
+/// bound.
 fn split_tree(rt: &HostRuntime) -> Result<Tree, AllocError> {
     let steps = [
         Step::Project {
@@ -109,16 +110,25 @@ fn split_tree(rt: &HostRuntime) -> Result<Tree, AllocError> {
     ];
     let block = Block::of(rt.alloc(), &steps)?;
     let mut tree = Tree::new(rt.alloc())?;
-    let (first, _) = tree.split(Tree::ROOT, 0, 1)?;
+    let by_value = Decision::Is {
+        variable: 0,
+        value: 1,
+    };
+    let by_bound = Decision::Most {
+        variable: 1,
+        value: 0,
+    };
+    let (first, second) = tree.split(Tree::ROOT, by_value)?;
     tree.close(first, block);
+    tree.split(second, by_bound)?;
     Ok(tree)
 }
 
-const FULL: &[u8] = b"wcspcert 1\nnetwork 2 1 10\nlower 0\nbest 5\nvalues 1 0\ntree\nsplit 0 1\n\
-    p 0 1 0 5\ne 1 0 1 2\nu 1 3\nv 0 1\nt 0 3\nclosed\nopen\nend\n";
+const FULL: &[u8] = b"wcspcert 2\nnetwork 2 1 10\nlower 0\nbest 5\nvalues 1 0\ntree\nsplit 0 1\n\
+    p 0 1 0 5\ne 1 0 1 2\nu 1 3\nv 0 1\nt 0 3\nclosed\npart 1 0\nopen\nopen\nend\n";
 
 #[test]
-fn writes_a_best_and_a_split(rt: HostRuntime) -> Result<(), Fail> {
+fn writes_a_best_and_splits(rt: HostRuntime) -> Result<(), Fail> {
     let network = network(&rt)?;
     let certificate = Certificate {
         variables: network.variables(),

@@ -59,11 +59,12 @@ fn changed(
 
 /// One line or some of a good certificate changed: the line from which on, how many lines are left out there, the lines
 /// in their place, and what is said.
-const CHANGES: [(usize, usize, &[&str], &[u8]); 36] = [
+const CHANGES: [(usize, usize, &[&str], &[u8]); 37] = [
     (1, 0, &[], b"verified lower 1 best 1\n"),
     (3, 1, &["lower 0"], b"verified lower 0 best 1\n"),
     // a text is at fault where its first line that follows no certificate is
-    (1, 1, &["wcspcert 2"], b"refused text at 1\n"),
+    (1, 1, &["wcspcert 2"], b"verified lower 1 best 1\n"),
+    (1, 1, &["wcspcert 3"], b"refused text at 1\n"),
     (2, 1, &["network 1 1  10"], b"refused text at 2\n"),
     (3, 1, &["lower 01"], b"refused text at 3\n"),
     (3, 1, &["lower 1\r"], b"refused text at 3\n"),
@@ -171,6 +172,60 @@ const SUBTREES: [(&[&str], &[u8]); 4] = [
 fn open_leaves_and_subtrees(rt: HostRuntime) -> Result<(), Fail> {
     for (lines, said) in SUBTREES {
         assert!(rt; changed_answers(&rt, 7, 4, lines, said)?);
+    }
+    Ok(())
+}
+
+/// A certificate of `TINY` with one split by a bound.
+const PART: [&str; 13] = [
+    "wcspcert 2",
+    "network 1 1 10",
+    "lower 1",
+    "best 1",
+    "values 1",
+    "tree",
+    "part 0 0",
+    "p 0 0 0 3",
+    "u 0 3",
+    "closed",
+    "p 0 0 1 1",
+    "u 0 1",
+    "closed",
+];
+
+/// Whether that certificate with another line in the place of one is answered so.
+fn part_answers(
+    rt: &HostRuntime,
+    place: usize,
+    line: &str,
+    said: &[u8],
+) -> Result<bool, AllocError> {
+    let mut lines = Vec::from_slice(rt.alloc(), &PART)?;
+    if let Some(other) = lines.get_mut(place.saturating_sub(1)) {
+        *other = line;
+    }
+    let certificate = text_of(rt.alloc(), lines.as_slice())?;
+    let status = if said.starts_with(b"verified") { 0 } else { 7 };
+    check_answers(rt, TINY, certificate.as_slice(), status, said)
+}
+
+#[test]
+fn splits_by_a_bound(rt: HostRuntime) -> Result<(), Fail> {
+    let changes: [(usize, &str, &[u8]); 9] = [
+        (1, "wcspcert 2", b"verified lower 1 best 1\n"),
+        // the first version has none
+        (1, "wcspcert 1", b"refused text at 7\n"),
+        (7, "part 0", b"refused text at 7\n"),
+        (7, "part 0 0 0", b"refused text at 7\n"),
+        (7, "part 0 2", b"refused range at 7\n"),
+        (7, "part 1 0", b"refused range at 7\n"),
+        // the bound itself is on the first side, and so is each lesser value
+        (7, "part 0 1", b"refused lift at 9\n"),
+        (7, "split 0 0", b"verified lower 1 best 1\n"),
+        (7, "split 0 1", b"refused lift at 9\n"),
+    ];
+    for (place, line, said) in changes {
+        assert!(rt; part_answers(&rt, place, line, said)?, "{line}");
     }
     Ok(())
 }

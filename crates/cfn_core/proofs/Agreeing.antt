@@ -60,9 +60,9 @@ only_one values (Shut block) history leaf path other another at agrees there too
 only_one values (Fork block d first second) history leaf path other another (inl at) agrees (inl there) too =
     only_one values first (Took d ∷ after block history) leaf path other another at agrees there too
 only_one values (Fork block d first second) history leaf path other another (inl at) agrees (inr there) too =
-    absurd ((agrees_above values second (Refused d ∷ after block history) other another there too).0 (agrees_above values first (Took d ∷ after block history) leaf path at agrees).0)
+    holds_once (agrees_above values first (Took d ∷ after block history) leaf path at agrees).0 (agrees_above values second (Refused d ∷ after block history) other another there too).0
 only_one values (Fork block d first second) history leaf path other another (inr at) agrees (inl there) too =
-    absurd ((agrees_above values second (Refused d ∷ after block history) leaf path at agrees).0 (agrees_above values first (Took d ∷ after block history) other another there too).0)
+    holds_once (agrees_above values first (Took d ∷ after block history) other another there too).0 (agrees_above values second (Refused d ∷ after block history) leaf path at agrees).0
 only_one values (Fork block d first second) history leaf path other another (inr at) agrees (inr there) too =
     only_one values second (Refused d ∷ after block history) leaf path other another at agrees there too
 

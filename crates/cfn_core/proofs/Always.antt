@@ -1,11 +1,12 @@
 -- What holds of the world after any list of actions, and what it says where no leaf is open.
 use Rattle.std.proofs.Common.{◌≡◌, ℕ, suc, ◌<◌, ◌≤◌, inl, inr, List, [], ◌∷◌, refl, ap, arith, Option, Some, None}
 use Rattle.std.proofs.lemmas.Bool.{cases_lt}
-use Rattle.std.specs.Prelude.{Bool, true, false, slice_index, if◌then◌else◌, ◌==◌}
+use Rattle.std.specs.Prelude.{Bool, true, false, if◌then◌else◌}
 use Rattle.cfn_model.specs.declared.step.Step.{Step}
 use Rattle.cfn_model.specs.declared.step.Event.{Event}
 use Rattle.cfn_model.specs.declared.step.Event.TheVariants.{Did, Took, Refused}
 use Rattle.cfn_model.specs.Network.{Network, IsNetwork, Fits, cost}
+use Rattle.cfn_model.specs.Decisions.{holds}
 use Rattle.cfn_model.specs.Sums.{floor}
 use Rattle.cfn_model.specs.Steps.{after}
 use Rattle.cfn_model.specs.Tree.{Tree, Open, Closed, Split, IsClosed, leaf, bound, open_leaves}
@@ -49,7 +50,7 @@ leaf_cases : (values : List ℕ) (Q : PoolTree → Type 0) (tree : PoolTree) (hi
 leaf_cases values Q (Leaf number m) history open_leaf closed = open_leaf number m history (refl, refl, refl)
 leaf_cases values Q (Shut block) history open_leaf closed = closed tt block
 leaf_cases values Q (Fork block d first second) history open_leaf closed =
-    chosen (slice_index values x == a) Q (leaf_of values first) (leaf_of values second) (leaf values (tree_of first)) (leaf values (tree_of second)) closed
+    chosen (holds d values) Q (leaf_of values first) (leaf_of values second) (leaf values (tree_of first)) (leaf values (tree_of second)) closed
     (λ c. leaf_cases values Q first (Took d ∷ after block history) (λ n mark path at. open_leaf n mark path (inl at)) c)
     (λ c. leaf_cases values Q second (Refused d ∷ after block history) (λ n mark path at. open_leaf n mark path (inr at)) c)
 
@@ -79,8 +80,8 @@ always P w network world numbers handed = record {
   handed = handed;
 }
 
-pub holds : Holds
-holds P workers budget actions replies w network few are runs =
+pub always_holds : Holds
+always_holds P workers budget actions replies w network few are runs =
     always P w network (keeping.runs_keep P actions replies (opening P workers budget) w are (opens P workers budget network few) runs)
     (handing.runs_numbered P actions replies (opening P workers budget) w (opens_numbered P workers budget) runs)
     (handing.runs_keep P actions replies (opening P workers budget) w (opens_numbered P workers budget) (opens_handed P workers budget) runs)

@@ -1,7 +1,7 @@
 //! A plain judge of a certificate's lines, which stands on the plain definitions alone: it shares no code with the
 //! checker, knows a place in the tree by its whole history, and asks the plain program of each step.
 
-use cfn_model::{Event, Step};
+use cfn_model::{Decision, Event, Step, Version};
 use cfn_net::{Fit, Network};
 use cfn_testing::drawing::MOST;
 use std::alloc::{AllocError, Global};
@@ -103,11 +103,12 @@ enum Next {
     Nothing,
 }
 
-/// What the lines so far leave: the line that comes next, the numbers of the front, the least floor of an open leaf,
-/// and the histories of the nodes that are due, the next one last.
+/// What the lines so far leave: the line that comes next, the version and the numbers of the front, the least floor of an
+/// open leaf, and the histories of the nodes that are due, the next one last.
 #[derive(Drop)]
 struct Judge {
     next: Next,
+    version: Version,
     lower: u64,
     best: Option<u64>,
     least: u128,
@@ -137,6 +138,7 @@ impl Judge {
         due.push(Vec::new(alloc))?;
         Ok(Judge {
             next: Next::Version,
+            version: Version::First,
             lower: 0,
             best: None,
             least: MOST as u128,
@@ -191,6 +193,10 @@ impl Judge {
     fn front(&mut self, network: &Network, words: &[&str]) -> Option<Kind> {
         match (self.next, words) {
             (Next::Version, ["wcspcert", "1"]) => self.follow(Next::Network),
+            (Next::Version, ["wcspcert", "2"]) => {
+                self.version = Version::Second;
+                self.follow(Next::Network)
+            }
             (Next::Network, ["network", n, e, ub]) => self.network(network, n, e, ub),
             (Next::Lower, ["lower", lower]) => match number(lower) {
                 Some(lower) => {
@@ -289,14 +295,14 @@ impl Judge {
                     return Ok(Some(Kind::Close));
                 }
             }
-            ["split", x, value] => {
-                let (variable, value) = match value_of(network, x, value) {
-                    Ok(value) => value,
+            ["split" | "part", ..] => {
+                let decision = match decided(network, self.version, words) {
+                    Ok(decision) => decision,
                     Err(kind) => return Ok(Some(kind)),
                 };
                 let mut second = Vec::from_slice(alloc, history.as_slice())?;
-                second.insert(0, Event::IsNot { variable, value })?;
-                history.insert(0, Event::Is { variable, value })?;
+                second.insert(0, Event::Refused(decision))?;
+                history.insert(0, Event::Took(decision))?;
                 self.due.push(second)?;
                 self.due.push(history)?;
             }
@@ -352,6 +358,21 @@ fn refusal_of(step: Step) -> Kind {
         Step::Extend { .. } => Kind::Extend,
         Step::Lift { .. } => Kind::Lift,
         Step::CutValue { .. } | Step::CutTuple { .. } => Kind::Cut,
+    }
+}
+
+/// The decision that the words of a split spell in a version, with numbers in range, or how they fail.
+fn decided(network: &Network, version: Version, words: &[&str]) -> Result<Decision, Kind> {
+    match (version, words) {
+        (_, ["split", x, value]) => {
+            let (variable, value) = value_of(network, x, value)?;
+            Ok(Decision::Is { variable, value })
+        }
+        (Version::Second, ["part", x, value]) => {
+            let (variable, value) = value_of(network, x, value)?;
+            Ok(Decision::Most { variable, value })
+        }
+        _ => Err(Kind::Text),
     }
 }
 

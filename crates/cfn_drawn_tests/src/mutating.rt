@@ -15,7 +15,7 @@ const CHANGES: u64 = 60;
 
 /// Words in the place of others.
 const WORDS: [&str; 12] = [
-    "", "none", "best", "tree", "open", "closed", "split", "p", "e", "u", "v", "t",
+    "", "none", "part", "tree", "open", "closed", "split", "p", "e", "u", "v", "t",
 ];
 
 /// A certificate with one word or one line changed, drawn by the dice.
@@ -46,10 +46,11 @@ fn changed(alloc: Global, dice: &mut Dice, lines: &[&str]) -> Result<String, All
 fn draw_line(dice: &mut Dice, text: &mut String) -> Result<(), AllocError> {
     let (first, second, third) = (dice.below(4), dice.below(3), dice.below(3));
     let amount = dice.up_to(4);
-    match dice.below(8) {
+    match dice.below(9) {
         0 => write!(text, "open\n"),
         1 => write!(text, "closed\n"),
         2 => write!(text, "split {first} {second}\n"),
+        7 => write!(text, "part {first} {second}\n"),
         3 => write!(text, "p {first} {second} {third} {amount}\n"),
         4 => write!(text, "e {first} {second} {third} {amount}\n"),
         5 => write!(text, "u {first} {amount}\n"),

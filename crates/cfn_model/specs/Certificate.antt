@@ -1,6 +1,7 @@
 -- Certificates, and what makes one good.
 use Rattle.std.specs.Prelude.{◌≡◌, ℕ, ◌<◌, ◌≤◌, List, [], length, Option, Some, None}
 use Rattle.cfn_model.specs.declared.version.Version.{Version}
+use Rattle.cfn_model.specs.declared.version.Version.TheVariants.{Second}
 use Rattle.cfn_model.specs.Network.{Network, Fits, cost}
 use Rattle.cfn_model.specs.Tree.{Tree, Valid, bound}
 
@@ -19,6 +20,10 @@ pub record Certificate : Type 0 where
   pub best : Option Solution
   pub lower : ℕ
   pub tree : Tree
+
+-- The same certificate in the second version.
+abbrev pub in_second : Certificate → Certificate
+in_second c = record c { version = Second }
 
 -- The threshold: the cost of the best assignment, or the upper bound where there is none.
 abbrev pub threshold_of : ℕ → Option Solution → ℕ

@@ -6,7 +6,8 @@ use Rattle.cfn_model.specs.Network.{Network, IsNetwork, Fits, Least, restrict, s
 use Rattle.cfn_model.specs.Sums.{floor, unary, residual}
 use Rattle.cfn_model.specs.Steps.{AllInRange, Run}
 use Rattle.cfn_model.specs.Tree.{Tree, IsOpen, IsClosed, leaf, leaf_history, Valid, bound}
-use Rattle.cfn_model.specs.Certificate.{Solution, Certificate, Good}
+use Rattle.cfn_model.specs.Certificate.{Solution, Certificate, Good, in_second}
+use Rattle.cfn_model.specs.Text.{IsSpelled}
 use Rattle.cfn_model.specs.Reading.{Reads}
 
 -- What reads is a network: reading keeps every limit.
@@ -62,3 +63,10 @@ RunLowering = (P : Network) (history : List Event) (steps : List Step) (k low : 
 
 abbrev pub ValidLowering : Type 0
 ValidLowering = (P : Network) (history : List Event) (tree : Tree) (k low : ℕ) → low ≤ k → Valid P history tree k → Valid P history tree low
+
+-- In the second version a good certificate is as good, with the same bounds, and a certificate that has a spelling has one.
+abbrev pub GoodInSecond : Type 0
+GoodInSecond = (P : Network) (c : Certificate) → Good P c → Good P (in_second c)
+
+abbrev pub SpelledInSecond : Type 0
+SpelledInSecond = (c : Certificate) → IsSpelled c → IsSpelled (in_second c)

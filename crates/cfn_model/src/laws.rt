@@ -1,6 +1,6 @@
 //! The laws that the definitions have, each the contract of a function with nothing to do.
 
-ghost use Rattle.cfn_model.specs.Laws.{ReadNetworks, Equivalence, Bounds, ClosedLeaves, EachLeaf, LowerBounds, Optimum, NoneBelow, RunLowering, ValidLowering};
+ghost use Rattle.cfn_model.specs.Laws.{ReadNetworks, Equivalence, Bounds, ClosedLeaves, EachLeaf, LowerBounds, Optimum, NoneBelow, RunLowering, ValidLowering, GoodInSecond, SpelledInSecond};
 
 /// What reads is a network: whatever the bytes of a file are, what they read as keeps every limit of networks.
 pub fn networks()
@@ -33,4 +33,10 @@ pub fn good_certificates()
 pub fn lowering()
     ensures runs { RunLowering }
     ensures trees { ValidLowering }
+{}
+
+/// Written in the second version, a good certificate is as good, and has a spelling where it had one.
+pub fn second_version()
+    ensures good { GoodInSecond }
+    ensures spelled { SpelledInSecond }
 {}

@@ -3,8 +3,9 @@ use Rattle.std.proofs.Common.{◌≡◌, ◌≢◌, ℕ, zero, suc, ◌+◌, ◌
 use Rattle.std.proofs.lemmas.Bool.{cases_eq}
 use Rattle.std.specs.Prelude.{true, false, ◌||◌, ◌==◌, IsTrue}
 use Rattle.cfn_model.specs.declared.step.Step.{Step}
+use Rattle.cfn_model.specs.declared.step.Decision.{Decision}
 use Rattle.cfn_model.specs.declared.step.Event.{Event}
-use Rattle.cfn_model.specs.declared.step.Event.TheVariants.{Did, Is, IsNot}
+use Rattle.cfn_model.specs.declared.step.Event.TheVariants.{Did, Took, Refused}
 use Rattle.cfn_model.specs.Steps.{after}
 use Rattle.cfn_model.specs.Tree as trees
 use Rattle.cfn_model.specs.Tree.{count, splits}
@@ -20,29 +21,28 @@ use Rattle.cfn_proof.proofs.Growth.{Changed, before_old, before_new, changed_by_
 -- the kinds of what stands before a node, by the node's parent
 pub record Side (nodes : List Node) (i : ℕ) (history : List Event) : Type 0 where
   pub parent : ℕ
-  pub x : ℕ
-  pub a : ℕ
+  pub d : Decision
   pub first : NodeId
   pub second : NodeId
   pub above : List Event
   pub there : parent < length nodes
-  pub is : (node_at nodes parent).end ≡ Split x a first second
+  pub is : (node_at nodes parent).end ≡ Split d first second
   pub before : Before nodes parent above
   pub knows : (node_at nodes i).parent ≡ Some (record { number = parent })
-  pub side : ((i ≡ first.number) × (history ≡ Is x a ∷ after (node_at nodes parent).block above)) ⊎ ((i ≡ second.number) × (history ≡ IsNot x a ∷ after (node_at nodes parent).block above))
+  pub side : ((i ≡ first.number) × (history ≡ Took d ∷ after (node_at nodes parent).block above)) ⊎ ((i ≡ second.number) × (history ≡ Refused d ∷ after (node_at nodes parent).block above))
 
 pub side_of : (nodes : List Node) (i : ℕ) (history : List Event) → IsLinked nodes → Before nodes i history → ((i ≡ 0) × (history ≡ [])) ⊎ Side nodes i history
 side_of nodes i history linked (at_root is_root is_empty) = inl (is_root, is_empty)
-side_of nodes i history linked (at_first parent x a first second above there is before is_child is_history) =
-    inr (record { parent = parent; x = x; a = a; first = first; second = second; above = above; there = there; is = is; before = before; knows = ap (λ m. (node_at nodes m).parent) is_child ∙ (linked.children parent x a first second there is).first_knows; side = inl (is_child, is_history) })
-side_of nodes i history linked (at_second parent x a first second above there is before is_child is_history) =
-    inr (record { parent = parent; x = x; a = a; first = first; second = second; above = above; there = there; is = is; before = before; knows = ap (λ m. (node_at nodes m).parent) is_child ∙ (linked.children parent x a first second there is).second_knows; side = inr (is_child, is_history) })
+side_of nodes i history linked (at_first parent d first second above there is before is_child is_history) =
+    inr (record { parent = parent; d = d; first = first; second = second; above = above; there = there; is = is; before = before; knows = ap (λ m. (node_at nodes m).parent) is_child ∙ (linked.children parent d first second there is).first_knows; side = inl (is_child, is_history) })
+side_of nodes i history linked (at_second parent d first second above there is before is_child is_history) =
+    inr (record { parent = parent; d = d; first = first; second = second; above = above; there = there; is = is; before = before; knows = ap (λ m. (node_at nodes m).parent) is_child ∙ (linked.children parent d first second there is).second_knows; side = inr (is_child, is_history) })
 
 same_parent : {p q : ℕ} {o : Option NodeId} → o ≡ Some (record { number = p }) → o ≡ Some (record { number = q }) → p ≡ q
 same_parent {p = p} {q = q} e f = let N : ℕ → NodeId = λ n. record { number = n } in let g : N p ≡ N q = cc in ap (λ (n : NodeId). n.number) g
 
-split_parts : {e : End} {x a y b : ℕ} {first second third fourth : NodeId} → e ≡ Split x a first second → e ≡ Split y b third fourth → (x ≡ y) × (a ≡ b) × (first ≡ third) × (second ≡ fourth)
-split_parts e f = ((cc), (cc), (cc), (cc))
+split_parts : {e : End} {d c : Decision} {first second third fourth : NodeId} → e ≡ Split d first second → e ≡ Split c third fourth → (d ≡ c) × (first ≡ third) × (second ≡ fourth)
+split_parts e f = ((cc), (cc), (cc))
 
 no_parent : {p : ℕ} {o : Option NodeId} → o ≡ None → o ≡ Some (record { number = p }) → ⊥
 no_parent e f = cc
@@ -53,64 +53,64 @@ before_once nodes i history other linked (at_root is_root is_empty) second_way =
       | inl same ↦ is_empty ∙ sym same.1
       | inr s ↦ absurd (no_parent (ap (λ m. (node_at nodes m).parent) is_root ∙ linked.root) s.knows)
     ]
-before_once nodes i history other linked (at_first parent x a first second above there is before is_child is_history) second_way =
-    let family = linked.children parent x a first second there is in
+before_once nodes i history other linked (at_first parent d first second above there is before is_child is_history) second_way =
+    let family = linked.children parent d first second there is in
     elim (side_of nodes i other linked second_way) [
       | inl same ↦ absurd (omega (arith, family.first_behind, same.0))
       | inr s ↦
           (let same : s.parent ≡ parent = same_parent s.knows (ap (λ m. (node_at nodes m).parent) is_child ∙ family.first_knows) in
           let before' : Before nodes parent s.above = subst (λ p. Before nodes p s.above) same s.before in
           let rest : above ≡ s.above = before_once nodes parent above s.above linked before before' in
-          let parts = split_parts is (subst (λ p. (node_at nodes p).end ≡ Split s.x s.a s.first s.second) same s.is) in
+          let parts = split_parts is (subst (λ p. (node_at nodes p).end ≡ Split s.d s.first s.second) same s.is) in
           elim s.side [
-            | inl left ↦ is_history ∙ ap (λ p. Is x a ∷ after (node_at nodes p).block above) (sym same) ∙ ap (λ h. Is x a ∷ after (node_at nodes s.parent).block h) rest ∙ ap (λ y. Is y a ∷ after (node_at nodes s.parent).block s.above) parts.0 ∙ ap (λ b. Is s.x b ∷ after (node_at nodes s.parent).block s.above) parts.1 ∙ sym left.1
-            | inr right ↦ absurd (family.different (sym is_child ∙ right.0 ∙ ap (λ (n : NodeId). n.number) (sym parts.3)))
+            | inl left ↦ is_history ∙ ap (λ p. Took d ∷ after (node_at nodes p).block above) (sym same) ∙ ap (λ h. Took d ∷ after (node_at nodes s.parent).block h) rest ∙ ap (λ c. Took c ∷ after (node_at nodes s.parent).block s.above) parts.0 ∙ sym left.1
+            | inr right ↦ absurd (family.different (sym is_child ∙ right.0 ∙ ap (λ (n : NodeId). n.number) (sym parts.2)))
           ])
     ]
-before_once nodes i history other linked (at_second parent x a first second above there is before is_child is_history) second_way =
-    let family = linked.children parent x a first second there is in
+before_once nodes i history other linked (at_second parent d first second above there is before is_child is_history) second_way =
+    let family = linked.children parent d first second there is in
     elim (side_of nodes i other linked second_way) [
       | inl same ↦ absurd (omega (arith, family.second_behind, same.0))
       | inr s ↦
           (let same : s.parent ≡ parent = same_parent s.knows (ap (λ m. (node_at nodes m).parent) is_child ∙ family.second_knows) in
           let before' : Before nodes parent s.above = subst (λ p. Before nodes p s.above) same s.before in
           let rest : above ≡ s.above = before_once nodes parent above s.above linked before before' in
-          let parts = split_parts is (subst (λ p. (node_at nodes p).end ≡ Split s.x s.a s.first s.second) same s.is) in
+          let parts = split_parts is (subst (λ p. (node_at nodes p).end ≡ Split s.d s.first s.second) same s.is) in
           elim s.side [
-            | inl left ↦ absurd (family.different (ap (λ (n : NodeId). n.number) parts.2 ∙ sym left.0 ∙ is_child))
-            | inr right ↦ is_history ∙ ap (λ p. IsNot x a ∷ after (node_at nodes p).block above) (sym same) ∙ ap (λ h. IsNot x a ∷ after (node_at nodes s.parent).block h) rest ∙ ap (λ y. IsNot y a ∷ after (node_at nodes s.parent).block s.above) parts.0 ∙ ap (λ b. IsNot s.x b ∷ after (node_at nodes s.parent).block s.above) parts.1 ∙ sym right.1
+            | inl left ↦ absurd (family.different (ap (λ (n : NodeId). n.number) parts.1 ∙ sym left.0 ∙ is_child))
+            | inr right ↦ is_history ∙ ap (λ p. Refused d ∷ after (node_at nodes p).block above) (sym same) ∙ ap (λ h. Refused d ∷ after (node_at nodes s.parent).block h) rest ∙ ap (λ c. Refused c ∷ after (node_at nodes s.parent).block s.above) parts.0 ∙ sym right.1
           ])
     ]
 
 -- the leaf that was split keeps its block
-kept_block : (nodes : List Node) (i x a : ℕ) → i < length nodes → (node_at (split_at nodes i x a) i).block ≡ (node_at nodes i).block
-kept_block nodes i x a there = ap (λ (n : Node). n.block) (split_at-same nodes i x a there)
+kept_block : (nodes : List Node) (i : ℕ) (d : Decision) → i < length nodes → (node_at (split_at nodes i d) i).block ≡ (node_at nodes i).block
+kept_block nodes i d there = ap (λ (n : Node). n.block) (split_at-same nodes i d there)
 
 pub before_split : BeforeSplitLaw
-before_split nodes i x a j history linked there free before =
-    let changed = changed_by_split nodes i x a there free in (
-      λ old. before_old nodes (split_at nodes i x a) i j history linked changed before old,
+before_split nodes i d j history linked there free before =
+    let changed = changed_by_split nodes i d there free in (
+      λ old. before_old nodes (split_at nodes i d) i j history linked changed before old,
       λ first.
-          let new = before_new nodes (split_at nodes i x a) i j history linked changed before (omega (arith, first)) in
-          let n = split_numbers (ap (λ (n : Node). n.end) (sym (split_at-same nodes i x a there)) ∙ new.is) in
+          let new = before_new nodes (split_at nodes i d) i j history linked changed before (omega (arith, first)) in
+          let n = split_numbers (ap (λ (n : Node). n.end) (sym (split_at-same nodes i d there)) ∙ new.is) in
           elim new.side [
-            | inl left ↦ record { above = new.above; before = new.before; is = left.1 ∙ ap (λ y. Is y new.a ∷ after (node_at (split_at nodes i x a) i).block new.above) n.0 ∙ ap (λ b. Is x b ∷ after (node_at (split_at nodes i x a) i).block new.above) n.1 ∙ ap (λ b. Is x a ∷ after b new.above) (kept_block nodes i x a there) }
-            | inr right ↦ absurd (omega (arith, right.0, n.3, first))
+            | inl left ↦ record { above = new.above; before = new.before; is = left.1 ∙ ap (λ c. Took c ∷ after (node_at (split_at nodes i d) i).block new.above) n.0 ∙ ap (λ b. Took d ∷ after b new.above) (kept_block nodes i d there) }
+            | inr right ↦ absurd (omega (arith, right.0, n.2, first))
           ],
       λ second.
-          let new = before_new nodes (split_at nodes i x a) i j history linked changed before (omega (arith, second)) in
-          let n = split_numbers (ap (λ (n : Node). n.end) (sym (split_at-same nodes i x a there)) ∙ new.is) in
+          let new = before_new nodes (split_at nodes i d) i j history linked changed before (omega (arith, second)) in
+          let n = split_numbers (ap (λ (n : Node). n.end) (sym (split_at-same nodes i d there)) ∙ new.is) in
           elim new.side [
-            | inl left ↦ absurd (omega (arith, left.0, n.2, second))
-            | inr right ↦ record { above = new.above; before = new.before; is = right.1 ∙ ap (λ y. IsNot y new.a ∷ after (node_at (split_at nodes i x a) i).block new.above) n.0 ∙ ap (λ b. IsNot x b ∷ after (node_at (split_at nodes i x a) i).block new.above) n.1 ∙ ap (λ b. IsNot x a ∷ after b new.above) (kept_block nodes i x a there) }
+            | inl left ↦ absurd (omega (arith, left.0, n.1, second))
+            | inr right ↦ record { above = new.above; before = new.before; is = right.1 ∙ ap (λ c. Refused c ∷ after (node_at (split_at nodes i d) i).block new.above) n.0 ∙ ap (λ b. Refused d ∷ after b new.above) (kept_block nodes i d there) }
           ],
     )
 
 -- a node that something stands before is there
 pub before_there : (nodes : List Node) (i : ℕ) (history : List Event) → IsLinked nodes → Before nodes i history → i < length nodes
 before_there nodes i history linked (at_root is_root is_empty) = omega (arith, linked.some, is_root)
-before_there nodes i history linked (at_first parent x a first second above there is before is_child is_history) = omega (arith, is_child, (linked.children parent x a first second there is).first_there)
-before_there nodes i history linked (at_second parent x a first second above there is before is_child is_history) = omega (arith, is_child, (linked.children parent x a first second there is).second_there)
+before_there nodes i history linked (at_first parent d first second above there is before is_child is_history) = omega (arith, is_child, (linked.children parent d first second there is).first_there)
+before_there nodes i history linked (at_second parent d first second above there is before is_child is_history) = omega (arith, is_child, (linked.children parent d first second there is).second_there)
 
 pub before_close : BeforeCloseLaw
 before_close nodes i block j history linked there free before =
@@ -118,11 +118,11 @@ before_close nodes i block j history linked there free before =
     (omega (arith, before_there (close_at nodes i block) j history (linked_by_close nodes i block linked there free) before, length-close_at nodes i block there))
 
 -- what a child's end names
-pub named : (e : End) (i : ℕ) → IsTrue (names_child e i) → (x : ℕ) × (a : ℕ) × (first : NodeId) × (second : NodeId) × (e ≡ Split x a first second) × ((first.number ≡ i) ⊎ (second.number ≡ i))
+pub named : (e : End) (i : ℕ) → IsTrue (names_child e i) → (d : Decision) × (first : NodeId) × (second : NodeId) × (e ≡ Split d first second) × ((first.number ≡ i) ⊎ (second.number ≡ i))
 named Free i h = absurd (let k : false ≡ true = h in cc)
 named Shut i h = absurd (let k : false ≡ true = h in cc)
-named (Split x a first second) i h =
-    (x, a, first, second, refl, elim (cases_eq first.number i) [ inl left ↦ inl left | inr other ↦ elim (cases_eq second.number i) [ inl right ↦ inr right | inr neither ↦ absurd (none_named first.number second.number i other neither h) ] ])
+named (Split d first second) i h =
+    (d, first, second, refl, elim (cases_eq first.number i) [ inl left ↦ inl left | inr other ↦ elim (cases_eq second.number i) [ inl right ↦ inr right | inr neither ↦ absurd (none_named first.number second.number i other neither h) ] ])
   where
     none_named : (f s i : ℕ) → f ≢ i → s ≢ i → IsTrue ((f == i) || (s == i)) → ⊥
     none_named f s i p q h = grind arith
@@ -134,9 +134,9 @@ from_parent nodes linked i there above_of (Some parent) is =
     let up = linked.parents i parent there is in
     let child = named (node_at nodes parent.number).end i up.1 in
     let above = above_of parent.number up.0 in
-    elim child.5 [
-      | inl left ↦ (Is child.0 child.1 ∷ after (node_at nodes parent.number).block above.0, at_first parent.number child.0 child.1 child.2 child.3 above.0 (omega (arith, up.0)) child.4 above.1 (sym left) refl)
-      | inr right ↦ (IsNot child.0 child.1 ∷ after (node_at nodes parent.number).block above.0, at_second parent.number child.0 child.1 child.2 child.3 above.0 (omega (arith, up.0)) child.4 above.1 (sym right) refl)
+    elim child.4 [
+      | inl left ↦ (Took child.0 ∷ after (node_at nodes parent.number).block above.0, at_first parent.number child.0 child.1 child.2 above.0 (omega (arith, up.0)) child.3 above.1 (sym left) refl)
+      | inr right ↦ (Refused child.0 ∷ after (node_at nodes parent.number).block above.0, at_second parent.number child.0 child.1 child.2 above.0 (omega (arith, up.0)) child.3 above.1 (sym right) refl)
     ]
 
 some_from : (nodes : List Node) → IsLinked nodes → (m i : ℕ) → i < m → i < length nodes → (history : List Event) × Before nodes i history
@@ -166,24 +166,24 @@ same_ends x y xs [] (b ∷ back) e = absurd (let l = ap length e in omega (arith
 same_ends x y xs (f ∷ front) [] e = absurd (let l = ap length e in omega (arith, l, length-append front (x ∷ xs)))
 same_ends x y xs (f ∷ front) (b ∷ back) e = same_ends x y xs front back (cc)
 
-one_side : (x a : ℕ) (early late : List Event) → IsEnd (Is x a ∷ early) late → IsEnd (IsNot x a ∷ early) late → ⊥
+one_side : (d : Decision) (early late : List Event) → IsEnd (Took d ∷ early) late → IsEnd (Refused d ∷ early) late → ⊥
 unfolding IsEnd
-one_side x a early late h k = let e : Is x a ≡ IsNot x a = same_ends (Is x a) (IsNot x a) early h.0 k.0 (sym h.1 ∙ k.1) in cc
+one_side d early late h k = let e : Took d ≡ Refused d = same_ends (Took d) (Refused d) early h.0 k.0 (sym h.1 ∙ k.1) in cc
 
 -- a measure of trees that at a split is one more than on both its sides
 abbrev AddsOverSplits : (trees.Tree → ℕ) → Type 0
-AddsOverSplits measure = (block : List Step) (x a : ℕ) (first second : trees.Tree) → measure (trees.Split block x a first second) ≡ 1 + (measure first + measure second)
+AddsOverSplits measure = (block : List Step) (d : Decision) (first second : trees.Tree) → measure (trees.Split block d first second) ≡ 1 + (measure first + measure second)
 
 -- a subtree that the changed leaf is not in stays
 module _ (nodes new : List Node) (i : ℕ) (here : List Event) (linked : IsLinked nodes) (linked_new : IsLinked new) (changed : Changed nodes new i) (before_here : Before nodes i here) where
   children_same : (j : ℕ) (history : List Event) (e : End) → j < length nodes → Before nodes j history → (node_at nodes j).end ≡ e → (IsEnd history here → ⊥) → ((c : ℕ) → j < c → c < length nodes → (h : List Event) → Before nodes c h → (IsEnd h here → ⊥) → tree_at new c ≡ tree_at nodes c) → with_children (node_at nodes j).block e (tree_at new) ≡ with_children (node_at nodes j).block e (tree_at nodes)
   children_same j history Free there before is apart later = refl
   children_same j history Shut there before is apart later = refl
-  children_same j history (Split x a first second) there before is apart later =
-      let family = linked.children j x a first second there is in
-      let left = later first.number family.first_behind family.first_there (Is x a ∷ after (node_at nodes j).block history) (at_first j x a first second history there is before refl refl) (λ h. apart (end_of_after (node_at nodes j).block history here (end_of_cons (Is x a) (after (node_at nodes j).block history) here h))) in
-      let right = later second.number family.second_behind family.second_there (IsNot x a ∷ after (node_at nodes j).block history) (at_second j x a first second history there is before refl refl) (λ h. apart (end_of_after (node_at nodes j).block history here (end_of_cons (IsNot x a) (after (node_at nodes j).block history) here h))) in
-      ap (λ t. trees.Split (node_at nodes j).block x a t (tree_at new second.number)) left ∙ ap (λ t. trees.Split (node_at nodes j).block x a (tree_at nodes first.number) t) right
+  children_same j history (Split d first second) there before is apart later =
+      let family = linked.children j d first second there is in
+      let left = later first.number family.first_behind family.first_there (Took d ∷ after (node_at nodes j).block history) (at_first j d first second history there is before refl refl) (λ h. apart (end_of_after (node_at nodes j).block history here (end_of_cons (Took d) (after (node_at nodes j).block history) here h))) in
+      let right = later second.number family.second_behind family.second_there (Refused d ∷ after (node_at nodes j).block history) (at_second j d first second history there is before refl refl) (λ h. apart (end_of_after (node_at nodes j).block history here (end_of_cons (Refused d) (after (node_at nodes j).block history) here h))) in
+      ap (λ t. trees.Split (node_at nodes j).block d t (tree_at new second.number)) left ∙ ap (λ t. trees.Split (node_at nodes j).block d (tree_at nodes first.number) t) right
 
   at_leaf : (history : List Event) → Before nodes i history → IsEnd history here
   unfolding IsEnd
@@ -199,38 +199,38 @@ module _ (nodes new : List Node) (i : ℕ) (here : List Event) (linked : IsLinke
       ∙ children_same j history (node_at nodes j).end there before refl apart later
       ∙ sym (tree_at_is nodes j linked there))
 
-  node_same : (j x a : ℕ) (first second : NodeId) → j < length nodes → (node_at nodes j).end ≡ Split x a first second → node_at new j ≡ node_at nodes j
-  node_same j x a first second there is = changed.others j there (λ same. split_not_free changed.free (subst (λ m. (node_at nodes m).end ≡ Split x a first second) same is))
+  node_same : (j : ℕ) (d : Decision) (first second : NodeId) → j < length nodes → (node_at nodes j).end ≡ Split d first second → node_at new j ≡ node_at nodes j
+  node_same j d first second there is = changed.others j there (λ same. split_not_free changed.free (subst (λ m. (node_at nodes m).end ≡ Split d first second) same is))
     where
-      split_not_free : {e : End} → e ≡ Free → e ≡ Split x a first second → ⊥
+      split_not_free : {e : End} → e ≡ Free → e ≡ Split d first second → ⊥
       split_not_free h k = cc
 
-  as_split : (m : List Node) (j x a : ℕ) (first second : NodeId) → IsLinked m → j < length m → (node_at m j).end ≡ Split x a first second → tree_at m j ≡ trees.Split (node_at m j).block x a (tree_at m first.number) (tree_at m second.number)
-  as_split m j x a first second l there is = tree_at_is m j l there ∙ ap (λ e. with_children (node_at m j).block e (tree_at m)) is
+  as_split : (m : List Node) (j : ℕ) (d : Decision) (first second : NodeId) → IsLinked m → j < length m → (node_at m j).end ≡ Split d first second → tree_at m j ≡ trees.Split (node_at m j).block d (tree_at m first.number) (tree_at m second.number)
+  as_split m j d first second l there is = tree_at_is m j l there ∙ ap (λ e. with_children (node_at m j).block e (tree_at m)) is
 
   -- what a subtree gains of a measure that adds over splits, the whole tree gains
   pub gained : (measure : trees.Tree → ℕ) → AddsOverSplits measure → (gain j : ℕ) (history : List Event) → Before nodes j history → IsEnd history here → measure (tree_at new j) ≡ measure (tree_at nodes j) + gain → measure (tree_of new) ≡ measure (tree_of nodes) + gain
   gained measure adds gain j history (at_root is_root is_empty) end more = subst (λ m. measure (tree_at new m) ≡ measure (tree_at nodes m) + gain) is_root more
-  gained measure adds gain j history (at_first parent x a first second above there is before is_child is_history) end more =
-      let e = node_same parent x a first second there is in
-      let family = linked.children parent x a first second there is in
-      let h : IsEnd (Is x a ∷ after (node_at nodes parent).block above) here = subst (λ h. IsEnd h here) is_history end in
+  gained measure adds gain j history (at_first parent d first second above there is before is_child is_history) end more =
+      let e = node_same parent d first second there is in
+      let family = linked.children parent d first second there is in
+      let h : IsEnd (Took d ∷ after (node_at nodes parent).block above) here = subst (λ h. IsEnd h here) is_history end in
       let same : tree_at new second.number ≡ tree_at nodes second.number =
-      apart_same second.number family.second_there (IsNot x a ∷ after (node_at nodes parent).block above) (at_second parent x a first second above there is before refl refl) (λ k. one_side x a (after (node_at nodes parent).block above) here h k) in
-      let up : IsEnd above here = end_of_after (node_at nodes parent).block above here (end_of_cons (Is x a) (after (node_at nodes parent).block above) here h) in
-      let old = ap measure (as_split nodes parent x a first second linked there is) ∙ adds (node_at nodes parent).block x a (tree_at nodes first.number) (tree_at nodes second.number) in
-      let now = ap measure (as_split new parent x a first second linked_new (omega (arith, changed.no_fewer)) (ap (λ (n : Node). n.end) e ∙ is)) ∙ adds (node_at new parent).block x a (tree_at new first.number) (tree_at new second.number) in
+      apart_same second.number family.second_there (Refused d ∷ after (node_at nodes parent).block above) (at_second parent d first second above there is before refl refl) (λ k. one_side d (after (node_at nodes parent).block above) here h k) in
+      let up : IsEnd above here = end_of_after (node_at nodes parent).block above here (end_of_cons (Took d) (after (node_at nodes parent).block above) here h) in
+      let old = ap measure (as_split nodes parent d first second linked there is) ∙ adds (node_at nodes parent).block d (tree_at nodes first.number) (tree_at nodes second.number) in
+      let now = ap measure (as_split new parent d first second linked_new (omega (arith, changed.no_fewer)) (ap (λ (n : Node). n.end) e ∙ is)) ∙ adds (node_at new parent).block d (tree_at new first.number) (tree_at new second.number) in
       let m : measure (tree_at new first.number) ≡ measure (tree_at nodes first.number) + gain = subst (λ c. measure (tree_at new c) ≡ measure (tree_at nodes c) + gain) is_child more in
       gained measure adds gain parent above before up (omega (arith, old, now, m, ap measure same))
-  gained measure adds gain j history (at_second parent x a first second above there is before is_child is_history) end more =
-      let e = node_same parent x a first second there is in
-      let family = linked.children parent x a first second there is in
-      let h : IsEnd (IsNot x a ∷ after (node_at nodes parent).block above) here = subst (λ h. IsEnd h here) is_history end in
+  gained measure adds gain j history (at_second parent d first second above there is before is_child is_history) end more =
+      let e = node_same parent d first second there is in
+      let family = linked.children parent d first second there is in
+      let h : IsEnd (Refused d ∷ after (node_at nodes parent).block above) here = subst (λ h. IsEnd h here) is_history end in
       let same : tree_at new first.number ≡ tree_at nodes first.number =
-      apart_same first.number family.first_there (Is x a ∷ after (node_at nodes parent).block above) (at_first parent x a first second above there is before refl refl) (λ k. one_side x a (after (node_at nodes parent).block above) here k h) in
-      let up : IsEnd above here = end_of_after (node_at nodes parent).block above here (end_of_cons (IsNot x a) (after (node_at nodes parent).block above) here h) in
-      let old = ap measure (as_split nodes parent x a first second linked there is) ∙ adds (node_at nodes parent).block x a (tree_at nodes first.number) (tree_at nodes second.number) in
-      let now = ap measure (as_split new parent x a first second linked_new (omega (arith, changed.no_fewer)) (ap (λ (n : Node). n.end) e ∙ is)) ∙ adds (node_at new parent).block x a (tree_at new first.number) (tree_at new second.number) in
+      apart_same first.number family.first_there (Took d ∷ after (node_at nodes parent).block above) (at_first parent d first second above there is before refl refl) (λ k. one_side d (after (node_at nodes parent).block above) here k h) in
+      let up : IsEnd above here = end_of_after (node_at nodes parent).block above here (end_of_cons (Refused d) (after (node_at nodes parent).block above) here h) in
+      let old = ap measure (as_split nodes parent d first second linked there is) ∙ adds (node_at nodes parent).block d (tree_at nodes first.number) (tree_at nodes second.number) in
+      let now = ap measure (as_split new parent d first second linked_new (omega (arith, changed.no_fewer)) (ap (λ (n : Node). n.end) e ∙ is)) ∙ adds (node_at new parent).block d (tree_at new first.number) (tree_at new second.number) in
       let m : measure (tree_at new second.number) ≡ measure (tree_at nodes second.number) + gain = subst (λ c. measure (tree_at new c) ≡ measure (tree_at nodes c) + gain) is_child more in
       gained measure adds gain parent above before up (omega (arith, old, now, m, ap measure same))
 
@@ -243,16 +243,16 @@ unfolding IsEnd
 itself history = ([], refl)
 
 -- a split of an open leaf adds one
-split_gains : (measure : trees.Tree → ℕ) → AddsOverSplits measure → ((block : List Step) → measure (trees.Open block) ≡ 0) → (nodes : List Node) (i x a : ℕ) → IsLinked nodes → i < length nodes → IsFree nodes i → length nodes + 2 ≤ 2 ^ 32 → ((history : List Event) × Before nodes i history) → measure (tree_of (split_at nodes i x a)) ≡ measure (tree_of nodes) + 1
-split_gains measure adds none nodes i x a linked there free room some =
-    let new = split_at nodes i x a in
-    let changed = changed_by_split nodes i x a there free in
-    let linked_new = linked_by_split nodes i x a linked there free room in
-    let len = length-split_at nodes i x a there in
-    let is : (node_at new i).end ≡ split_end x a (length nodes) = ap (λ (n : Node). n.end) (split_at-same nodes i x a there) in
-    let tree = ap measure (tree_at_is new i linked_new (omega (arith, len)) ∙ ap (λ e. with_children (node_at new i).block e (tree_at new)) is) ∙ adds (node_at new i).block x a (tree_at new (length nodes)) (tree_at new (length nodes + 1)) in
-    let left = leaf_measure measure none new (length nodes) linked_new (omega (arith, len)) (ap (λ (n : Node). n.end) (split_at-first nodes i x a there)) in
-    let right = leaf_measure measure none new (length nodes + 1) linked_new (omega (arith, len)) (ap (λ (n : Node). n.end) (split_at-second nodes i x a there)) in
+split_gains : (measure : trees.Tree → ℕ) → AddsOverSplits measure → ((block : List Step) → measure (trees.Open block) ≡ 0) → (nodes : List Node) (i : ℕ) (d : Decision) → IsLinked nodes → i < length nodes → IsFree nodes i → length nodes + 2 ≤ 2 ^ 32 → ((history : List Event) × Before nodes i history) → measure (tree_of (split_at nodes i d)) ≡ measure (tree_of nodes) + 1
+split_gains measure adds none nodes i d linked there free room some =
+    let new = split_at nodes i d in
+    let changed = changed_by_split nodes i d there free in
+    let linked_new = linked_by_split nodes i d linked there free room in
+    let len = length-split_at nodes i d there in
+    let is : (node_at new i).end ≡ split_end d (length nodes) = ap (λ (n : Node). n.end) (split_at-same nodes i d there) in
+    let tree = ap measure (tree_at_is new i linked_new (omega (arith, len)) ∙ ap (λ e. with_children (node_at new i).block e (tree_at new)) is) ∙ adds (node_at new i).block d (tree_at new (length nodes)) (tree_at new (length nodes + 1)) in
+    let left = leaf_measure measure none new (length nodes) linked_new (omega (arith, len)) (ap (λ (n : Node). n.end) (split_at-first nodes i d there)) in
+    let right = leaf_measure measure none new (length nodes + 1) linked_new (omega (arith, len)) (ap (λ (n : Node). n.end) (split_at-second nodes i d there)) in
     gained nodes new i some.0 linked linked_new changed some.1 measure adds 1 i some.0 some.1 (itself some.0)
     (omega (arith, tree, left, right, leaf_measure measure none nodes i linked there free))
 
@@ -269,10 +269,10 @@ close_gains measure adds none gain closes nodes i block linked there free some =
     (omega (arith, tree, leaf_measure measure none nodes i linked there free))
 
 count_adds : AddsOverSplits count
-count_adds block x a first second = refl
+count_adds block d first second = refl
 
 splits_adds : AddsOverSplits splits
-splits_adds block x a first second = refl
+splits_adds block d first second = refl
 
 pub count_split : CountSplitLaw
 count_split = split_gains count count_adds (λ block. refl)

@@ -1,11 +1,15 @@
 -- The laws that lead from the nodes of a tree to the whole tree.
 use Rattle.std.proofs.Common.{◌≡◌, ℕ, ◌<◌, ◌≤◌, List, [], ◌∷◌, length, refl, sym, ap, ◌∙◌, subst, arith}
+use Rattle.cfn_model.specs.declared.step.Decision.{Decision}
+use Rattle.cfn_model.specs.declared.step.Decision.TheVariants.{Is, Most}
 use Rattle.cfn_model.specs.declared.step.Event.{Event}
-use Rattle.cfn_model.specs.declared.step.Event.TheVariants.{Is, IsNot}
+use Rattle.cfn_model.specs.declared.step.Event.TheVariants.{Took, Refused}
+use Rattle.cfn_model.specs.declared.version.Version.TheVariants.{Second}
 use Rattle.cfn_model.specs.Network.{Network}
 use Rattle.cfn_model.specs.Sums.{floor}
 use Rattle.cfn_model.specs.Steps.{after}
 use Rattle.cfn_model.specs.Text.{IsSpelledTree}
+use Rattle.cfn_model.proofs.CallerLemmas.{has_every_tree}
 use Rattle.cfn_model.specs.Tree as trees
 use Rattle.cfn_model.specs.Tree.{Valid, Strict, OpenBelow, bound, open_leaves}
 use Rattle.cfn_proof.specs.declared.tree.NodeId.{NodeId}
@@ -13,20 +17,20 @@ use Rattle.cfn_proof.specs.declared.tree.End.{End}
 use Rattle.cfn_proof.specs.declared.tree.End.TheVariants.{Free, Shut, Split}
 use Rattle.cfn_proof.specs.declared.tree.Node.{Node}
 use Rattle.cfn_proof.specs.Nodes.{node_at, tree_at, tree_of, with_children, IsSpelledEnd, IsTree, IsLinked, IsFree, Before, at_root, at_first, at_second}
-use Rattle.cfn_proof.specs.Local.{ValidNode, StrictNode, ValidLaw, StrictLaw, OpenBelowLaw, BoundFromLaw, BoundAtLaw, SpelledLaw, NoneOpenLaw, SomeOpenLaw}
+use Rattle.cfn_proof.specs.Local.{ValidNode, StrictNode, ValidLaw, StrictLaw, OpenBelowLaw, BoundFromLaw, BoundAtLaw, SpelledLaw, LinesLaw, NoneOpenLaw, SomeOpenLaw}
 use Rattle.cfn_proof.proofs.TreeLemmas.{tree_at_is, from_last}
 use Rattle.cfn_proof.proofs.Histories.{before_some}
 
 -- a fact on trees that holds of leaves by the node alone, and of splits by the node and both subtrees
-module _ (Q : List Event → trees.Tree → Type 0) (nodes : List Node) (linked : IsLinked nodes) (at_free : (i : ℕ) (history : List Event) → i < length nodes → Before nodes i history → IsFree nodes i → Q history (trees.Open (node_at nodes i).block)) (at_shut : (i : ℕ) (history : List Event) → i < length nodes → Before nodes i history → (node_at nodes i).end ≡ Shut → Q history (trees.Closed (node_at nodes i).block)) (at_split : (i : ℕ) (history : List Event) (x a : ℕ) (first second : NodeId) → i < length nodes → Before nodes i history → (node_at nodes i).end ≡ Split x a first second → Q (Is x a ∷ after (node_at nodes i).block history) (tree_at nodes first.number) → Q (IsNot x a ∷ after (node_at nodes i).block history) (tree_at nodes second.number) → Q history (trees.Split (node_at nodes i).block x a (tree_at nodes first.number) (tree_at nodes second.number))) where
+module _ (Q : List Event → trees.Tree → Type 0) (nodes : List Node) (linked : IsLinked nodes) (at_free : (i : ℕ) (history : List Event) → i < length nodes → Before nodes i history → IsFree nodes i → Q history (trees.Open (node_at nodes i).block)) (at_shut : (i : ℕ) (history : List Event) → i < length nodes → Before nodes i history → (node_at nodes i).end ≡ Shut → Q history (trees.Closed (node_at nodes i).block)) (at_split : (i : ℕ) (history : List Event) (d : Decision) (first second : NodeId) → i < length nodes → Before nodes i history → (node_at nodes i).end ≡ Split d first second → Q (Took d ∷ after (node_at nodes i).block history) (tree_at nodes first.number) → Q (Refused d ∷ after (node_at nodes i).block history) (tree_at nodes second.number) → Q history (trees.Split (node_at nodes i).block d (tree_at nodes first.number) (tree_at nodes second.number))) where
   at_end : (i : ℕ) (history : List Event) (e : End) → i < length nodes → Before nodes i history → (node_at nodes i).end ≡ e → ((j : ℕ) → i < j → j < length nodes → (above : List Event) → Before nodes j above → Q above (tree_at nodes j)) → Q history (with_children (node_at nodes i).block e (tree_at nodes))
   at_end i history Free there before is later = at_free i history there before is
   at_end i history Shut there before is later = at_shut i history there before is
-  at_end i history (Split x a first second) there before is later =
-      let family = linked.children i x a first second there is in
-      at_split i history x a first second there before is
-      (later first.number family.first_behind family.first_there _ (at_first i x a first second history there is before refl refl))
-      (later second.number family.second_behind family.second_there _ (at_second i x a first second history there is before refl refl))
+  at_end i history (Split d first second) there before is later =
+      let family = linked.children i d first second there is in
+      at_split i history d first second there before is
+      (later first.number family.first_behind family.first_there _ (at_first i d first second history there is before refl refl))
+      (later second.number family.second_behind family.second_there _ (at_second i d first second history there is before refl refl))
 
   pub everywhere : (i : ℕ) → i < length nodes → (history : List Event) → Before nodes i history → Q history (tree_at nodes i)
   everywhere = from_last (length nodes) (λ i. (history : List Event) → Before nodes i history → Q history (tree_at nodes i))
@@ -37,7 +41,7 @@ valid_law P nodes k linked valid =
     everywhere (λ history tree. Valid P history tree k) nodes linked
     (λ i history there before is. let v = valid.each i history there before in subst (λ e. ValidNode P history (node_at nodes i).block e k) is v)
     (λ i history there before is. let v = valid.each i history there before in subst (λ e. ValidNode P history (node_at nodes i).block e k) is v)
-    (λ i history x a first second there before is left right.
+    (λ i history d first second there before is left right.
     let v = subst (λ e. ValidNode P history (node_at nodes i).block e k) is (valid.each i history there before) in (v.0, v.1, left, right))
     0 linked.some [] (at_root refl refl)
 
@@ -46,7 +50,7 @@ strict_law P nodes linked strict =
     everywhere (λ history tree. Strict P history tree) nodes linked
     (λ i history there before is. tt)
     (λ i history there before is. tt)
-    (λ i history x a first second there before is left right. (subst (λ e. StrictNode P history (node_at nodes i).block e) is (strict.each i history there before), left, right))
+    (λ i history d first second there before is left right. (subst (λ e. StrictNode P history (node_at nodes i).block e) is (strict.each i history there before), left, right))
     0 linked.some [] (at_root refl refl)
 
 pub open_below_law : OpenBelowLaw
@@ -54,7 +58,7 @@ open_below_law P nodes k linked floors =
     everywhere (λ history tree. OpenBelow P history tree k) nodes linked
     (λ i history there before is. floors.each i history there is before)
     (λ i history there before is. tt)
-    (λ i history x a first second there before is left right. (left, right))
+    (λ i history d first second there before is left right. (left, right))
     0 linked.some [] (at_root refl refl)
 
 pub bound_from_law : BoundFromLaw
@@ -62,7 +66,7 @@ bound_from_law P nodes low k linked below floors =
     everywhere (λ history tree. low ≤ bound P history tree k) nodes linked
     (λ i history there before is. omega (arith, floors.each i history there is before))
     (λ i history there before is. below)
-    (λ i history x a first second there before is left right. omega (arith, left, right))
+    (λ i history d first second there before is left right. omega (arith, left, right))
     0 linked.some [] (at_root refl refl)
 
 bound_at_open : (P : Network) (nodes : List Node) (k i : ℕ) (history : List Event) → IsLinked nodes → i < length nodes → IsFree nodes i → bound P history (tree_at nodes i) k ≤ floor P (after (node_at nodes i).block history)
@@ -71,24 +75,24 @@ bound_at_open P nodes k i history linked there free =
     subst (λ t. bound P history t k ≤ floor P (after (node_at nodes i).block history)) (sym e) (omega arith)
 
 -- a split's tree
-tree_at_split : (nodes : List Node) (i x a : ℕ) (first second : NodeId) → IsLinked nodes → i < length nodes → (node_at nodes i).end ≡ Split x a first second → tree_at nodes i ≡ trees.Split (node_at nodes i).block x a (tree_at nodes first.number) (tree_at nodes second.number)
-tree_at_split nodes i x a first second linked there is = tree_at_is nodes i linked there ∙ ap (λ e. with_children (node_at nodes i).block e (tree_at nodes)) is
+tree_at_split : (nodes : List Node) (i : ℕ) (d : Decision) (first second : NodeId) → IsLinked nodes → i < length nodes → (node_at nodes i).end ≡ Split d first second → tree_at nodes i ≡ trees.Split (node_at nodes i).block d (tree_at nodes first.number) (tree_at nodes second.number)
+tree_at_split nodes i d first second linked there is = tree_at_is nodes i linked there ∙ ap (λ e. with_children (node_at nodes i).block e (tree_at nodes)) is
 
 -- the whole tree's bound is at most that of each subtree
 bound_below : (P : Network) (nodes : List Node) (k i : ℕ) (history : List Event) → IsLinked nodes → Before nodes i history → bound P [] (tree_of nodes) k ≤ bound P history (tree_at nodes i) k
 bound_below P nodes k i history linked (at_root is_root is_empty) =
     subst (λ j. bound P [] (tree_of nodes) k ≤ bound P history (tree_at nodes j) k) (sym is_root) (subst (λ h. bound P [] (tree_of nodes) k ≤ bound P h (tree_of nodes) k) (sym is_empty) (omega arith))
-bound_below P nodes k i history linked (at_first parent x a first second above there is before is_child is_history) =
-    let e : tree_at nodes parent ≡ trees.Split (node_at nodes parent).block x a (tree_at nodes first.number) (tree_at nodes second.number) = tree_at_split nodes parent x a first second linked there is in
+bound_below P nodes k i history linked (at_first parent d first second above there is before is_child is_history) =
+    let e : tree_at nodes parent ≡ trees.Split (node_at nodes parent).block d (tree_at nodes first.number) (tree_at nodes second.number) = tree_at_split nodes parent d first second linked there is in
     let up : bound P [] (tree_of nodes) k ≤ bound P above (tree_at nodes parent) k = bound_below P nodes k parent above linked before in
-    let here : bound P [] (tree_of nodes) k ≤ bound P above (trees.Split (node_at nodes parent).block x a (tree_at nodes first.number) (tree_at nodes second.number)) k = subst (λ t. bound P [] (tree_of nodes) k ≤ bound P above t k) e up in
-    let down : bound P [] (tree_of nodes) k ≤ bound P (Is x a ∷ after (node_at nodes parent).block above) (tree_at nodes first.number) k = omega (arith, here) in
+    let here : bound P [] (tree_of nodes) k ≤ bound P above (trees.Split (node_at nodes parent).block d (tree_at nodes first.number) (tree_at nodes second.number)) k = subst (λ t. bound P [] (tree_of nodes) k ≤ bound P above t k) e up in
+    let down : bound P [] (tree_of nodes) k ≤ bound P (Took d ∷ after (node_at nodes parent).block above) (tree_at nodes first.number) k = omega (arith, here) in
     subst (λ j. bound P [] (tree_of nodes) k ≤ bound P history (tree_at nodes j) k) (sym is_child) (subst (λ h. bound P [] (tree_of nodes) k ≤ bound P h (tree_at nodes first.number) k) (sym is_history) down)
-bound_below P nodes k i history linked (at_second parent x a first second above there is before is_child is_history) =
-    let e : tree_at nodes parent ≡ trees.Split (node_at nodes parent).block x a (tree_at nodes first.number) (tree_at nodes second.number) = tree_at_split nodes parent x a first second linked there is in
+bound_below P nodes k i history linked (at_second parent d first second above there is before is_child is_history) =
+    let e : tree_at nodes parent ≡ trees.Split (node_at nodes parent).block d (tree_at nodes first.number) (tree_at nodes second.number) = tree_at_split nodes parent d first second linked there is in
     let up : bound P [] (tree_of nodes) k ≤ bound P above (tree_at nodes parent) k = bound_below P nodes k parent above linked before in
-    let here : bound P [] (tree_of nodes) k ≤ bound P above (trees.Split (node_at nodes parent).block x a (tree_at nodes first.number) (tree_at nodes second.number)) k = subst (λ t. bound P [] (tree_of nodes) k ≤ bound P above t k) e up in
-    let down : bound P [] (tree_of nodes) k ≤ bound P (IsNot x a ∷ after (node_at nodes parent).block above) (tree_at nodes second.number) k = omega (arith, here) in
+    let here : bound P [] (tree_of nodes) k ≤ bound P above (trees.Split (node_at nodes parent).block d (tree_at nodes first.number) (tree_at nodes second.number)) k = subst (λ t. bound P [] (tree_of nodes) k ≤ bound P above t k) e up in
+    let down : bound P [] (tree_of nodes) k ≤ bound P (Refused d ∷ after (node_at nodes parent).block above) (tree_at nodes second.number) k = omega (arith, here) in
     subst (λ j. bound P [] (tree_of nodes) k ≤ bound P history (tree_at nodes j) k) (sym is_child) (subst (λ h. bound P [] (tree_of nodes) k ≤ bound P h (tree_at nodes second.number) k) (sym is_history) down)
 
 pub bound_at_law : BoundAtLaw
@@ -98,32 +102,35 @@ bound_at_law P nodes k i history linked there free before =
 spelled_at : (nodes : List Node) (tree : IsTree nodes) (i : ℕ) (e : End) → i < length nodes → (node_at nodes i).end ≡ e → ((j : ℕ) → i < j → j < length nodes → IsSpelledTree (tree_at nodes j)) → IsSpelledTree (with_children (node_at nodes i).block e (tree_at nodes))
 spelled_at nodes tree i Free there is later = tree.blocks i there
 spelled_at nodes tree i Shut there is later = tree.blocks i there
-spelled_at nodes tree i (Split x a first second) there is later =
-    let family = tree.linked.children i x a first second there is in
+spelled_at nodes tree i (Split d first second) there is later =
+    let family = tree.linked.children i d first second there is in
     let e = subst (λ e. IsSpelledEnd e) is (tree.ends i there) in
-    (tree.blocks i there, e.0, e.1, later first.number family.first_behind family.first_there, later second.number family.second_behind family.second_there)
+    (tree.blocks i there, e, later first.number family.first_behind family.first_there, later second.number family.second_behind family.second_there)
 
 pub spelled_law : SpelledLaw
 spelled_law nodes tree =
     from_last (length nodes) (λ i. IsSpelledTree (tree_at nodes i)) (λ i there later. subst (λ t. IsSpelledTree t) (sym (tree_at_is nodes i tree.linked there)) (spelled_at nodes tree i (node_at nodes i).end there refl later)) 0 tree.linked.some
+
+pub lines_law : LinesLaw
+lines_law nodes = has_every_tree (tree_of nodes)
 
 pub none_open_law : NoneOpenLaw
 none_open_law nodes linked none =
     everywhere (λ history tree. open_leaves tree ≡ 0) nodes linked
     (λ i history there before is. absurd (none i there is))
     (λ i history there before is. refl)
-    (λ i history x a first second there before is left right. omega (arith, left, right))
+    (λ i history d first second there before is left right. omega (arith, left, right))
     0 linked.some [] (at_root refl refl)
 
 -- the whole tree has at least the open leaves of each subtree
 open_below : (nodes : List Node) (i : ℕ) (history : List Event) → IsLinked nodes → Before nodes i history → open_leaves (tree_at nodes i) ≤ open_leaves (tree_of nodes)
 open_below nodes i history linked (at_root is_root is_empty) = subst (λ j. open_leaves (tree_at nodes j) ≤ open_leaves (tree_of nodes)) (sym is_root) (omega arith)
-open_below nodes i history linked (at_first parent x a first second above there is before is_child is_history) =
-    let e = ap open_leaves (tree_at_split nodes parent x a first second linked there is) in
+open_below nodes i history linked (at_first parent d first second above there is before is_child is_history) =
+    let e = ap open_leaves (tree_at_split nodes parent d first second linked there is) in
     let up = open_below nodes parent above linked before in
     subst (λ j. open_leaves (tree_at nodes j) ≤ open_leaves (tree_of nodes)) (sym is_child) (omega (arith, e, up))
-open_below nodes i history linked (at_second parent x a first second above there is before is_child is_history) =
-    let e = ap open_leaves (tree_at_split nodes parent x a first second linked there is) in
+open_below nodes i history linked (at_second parent d first second above there is before is_child is_history) =
+    let e = ap open_leaves (tree_at_split nodes parent d first second linked there is) in
     let up = open_below nodes parent above linked before in
     subst (λ j. open_leaves (tree_at nodes j) ≤ open_leaves (tree_of nodes)) (sym is_child) (omega (arith, e, up))
 

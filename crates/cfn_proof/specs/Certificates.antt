@@ -1,5 +1,6 @@
--- What a search's certificate means.
+-- What a search's certificate means. It is of the second version.
 use Rattle.std.specs.Prelude.{Option, Some, None}
+use Rattle.cfn_model.specs.declared.version.Version.TheVariants.{Second}
 use Rattle.cfn_model.specs.Certificate as model
 use Rattle.cfn_net.specs.Scoring.{Scoring}
 use Rattle.cfn_proof.specs.declared.certificate.Certificate.{Certificate}
@@ -12,6 +13,7 @@ solution_of (Some scored) = scored.held
 
 abbrev pub certificate_of : Certificate → model.Certificate
 certificate_of c = record {
+  version = Second;
   variables = c.variables;
   functions = c.functions;
   upper = c.upper;

@@ -1,12 +1,14 @@
 -- What a whole tree has where each of its nodes has it. What a node must have depends on what stands before it.
 use Rattle.std.specs.Prelude.{◌≡◌, ℕ, ◌+◌, ◌<◌, ◌≤◌, ◌^◌, List, [], ◌∷◌, length}
 use Rattle.cfn_model.specs.declared.step.Step.{Step}
+use Rattle.cfn_model.specs.declared.step.Decision.{Decision}
 use Rattle.cfn_model.specs.declared.step.Event.{Event}
-use Rattle.cfn_model.specs.declared.step.Event.TheVariants.{Is, IsNot}
+use Rattle.cfn_model.specs.declared.step.Event.TheVariants.{Took, Refused}
+use Rattle.cfn_model.specs.declared.version.Version.TheVariants.{Second}
 use Rattle.cfn_model.specs.Network.{Network}
 use Rattle.cfn_model.specs.Sums.{floor}
-use Rattle.cfn_model.specs.Steps.{IsValue, Run, after}
-use Rattle.cfn_model.specs.Text.{IsSpelledTree}
+use Rattle.cfn_model.specs.Steps.{IsDecision, Run, after}
+use Rattle.cfn_model.specs.Text.{IsSpelledTree, HasTree}
 use Rattle.cfn_model.specs.Tree.{CanClose, IsStrictSplit, Valid, Strict, OpenBelow, bound, count, splits, open_leaves}
 use Rattle.cfn_proof.specs.declared.tree.End.{End}
 use Rattle.cfn_proof.specs.declared.tree.End.TheVariants.{Free, Shut, Split}
@@ -17,7 +19,7 @@ use Rattle.cfn_proof.specs.Nodes.{node_at, tree_of, IsLinked, IsTree, IsFree, Be
 abbrev pub ValidNode : Network → List Event → List Step → End → ℕ → Type 0
 ValidNode P history block Free k = Run P history block k
 ValidNode P history block Shut k = Run P history block k × CanClose P (after block history) k
-ValidNode P history block (Split x a first second) k = Run P history block k × IsValue P x a
+ValidNode P history block (Split d first second) k = Run P history block k × IsDecision P d
 
 pub record ValidNodes (P : Network) (nodes : List Node) (k : ℕ) : Type 0 where
   pub each : (i : ℕ) (history : List Event) → i < length nodes → Before nodes i history → ValidNode P history (node_at nodes i).block (node_at nodes i).end k
@@ -26,7 +28,7 @@ pub record ValidNodes (P : Network) (nodes : List Node) (k : ℕ) : Type 0 where
 abbrev pub StrictNode : Network → List Event → List Step → End → Type 0
 StrictNode P history block Free = Unit {0}
 StrictNode P history block Shut = Unit {0}
-StrictNode P history block (Split x a first second) = IsStrictSplit P (after block history) x a
+StrictNode P history block (Split d first second) = IsStrictSplit P (after block history) d
 
 pub record StrictNodes (P : Network) (nodes : List Node) : Type 0 where
   pub each : (i : ℕ) (history : List Event) → i < length nodes → Before nodes i history → StrictNode P history (node_at nodes i).block (node_at nodes i).end
@@ -58,29 +60,29 @@ BoundAtLaw = (P : Network) (nodes : List Node) (k i : ℕ) (history : List Event
 
 -- A split of an open leaf, and its closing, are one node more.
 abbrev pub CountSplitLaw : Type 0
-CountSplitLaw = (nodes : List Node) (i x a : ℕ) → IsLinked nodes → i < length nodes → IsFree nodes i → length nodes + 2 ≤ 2 ^ 32 → ((history : List Event) × Before nodes i history) → count (tree_of (split_at nodes i x a)) ≡ count (tree_of nodes) + 1
+CountSplitLaw = (nodes : List Node) (i : ℕ) (d : Decision) → IsLinked nodes → i < length nodes → IsFree nodes i → length nodes + 2 ≤ 2 ^ 32 → ((history : List Event) × Before nodes i history) → count (tree_of (split_at nodes i d)) ≡ count (tree_of nodes) + 1
 
 abbrev pub CountCloseLaw : Type 0
 CountCloseLaw = (nodes : List Node) (i : ℕ) (block : List Step) → IsLinked nodes → i < length nodes → IsFree nodes i → ((history : List Event) × Before nodes i history) → count (tree_of (close_at nodes i block)) ≡ count (tree_of nodes) + 1
 
 -- A split of an open leaf is one split more, and a closing is none.
 abbrev pub SplitsSplitLaw : Type 0
-SplitsSplitLaw = (nodes : List Node) (i x a : ℕ) → IsLinked nodes → i < length nodes → IsFree nodes i → length nodes + 2 ≤ 2 ^ 32 → ((history : List Event) × Before nodes i history) → splits (tree_of (split_at nodes i x a)) ≡ splits (tree_of nodes) + 1
+SplitsSplitLaw = (nodes : List Node) (i : ℕ) (d : Decision) → IsLinked nodes → i < length nodes → IsFree nodes i → length nodes + 2 ≤ 2 ^ 32 → ((history : List Event) × Before nodes i history) → splits (tree_of (split_at nodes i d)) ≡ splits (tree_of nodes) + 1
 
 abbrev pub SplitsCloseLaw : Type 0
 SplitsCloseLaw = (nodes : List Node) (i : ℕ) (block : List Step) → IsLinked nodes → i < length nodes → IsFree nodes i → ((history : List Event) × Before nodes i history) → splits (tree_of (close_at nodes i block)) ≡ splits (tree_of nodes)
 
 -- After a split, what stands before a node is what stood before it, or a new child's.
-pub record IsNewChild (nodes : List Node) (i : ℕ) (decision : Event) (history : List Event) : Type 0 where
+pub record IsNewChild (nodes : List Node) (i : ℕ) (side : Event) (history : List Event) : Type 0 where
   pub above : List Event
   pub before : Before nodes i above
-  pub is : history ≡ decision ∷ after (node_at nodes i).block above
+  pub is : history ≡ side ∷ after (node_at nodes i).block above
 
 abbrev pub BeforeSplitLaw : Type 0
-BeforeSplitLaw = (nodes : List Node) (i x a j : ℕ) (history : List Event) → IsLinked nodes → i < length nodes → IsFree nodes i → Before (split_at nodes i x a) j history →
+BeforeSplitLaw = (nodes : List Node) (i : ℕ) (d : Decision) (j : ℕ) (history : List Event) → IsLinked nodes → i < length nodes → IsFree nodes i → Before (split_at nodes i d) j history →
     (j < length nodes → Before nodes j history)
-    × (j ≡ length nodes → IsNewChild nodes i (Is x a) history)
-    × (j ≡ length nodes + 1 → IsNewChild nodes i (IsNot x a) history)
+    × (j ≡ length nodes → IsNewChild nodes i (Took d) history)
+    × (j ≡ length nodes + 1 → IsNewChild nodes i (Refused d) history)
 
 -- After a closing, what stands before a node is what stood before it.
 abbrev pub BeforeCloseLaw : Type 0
@@ -96,6 +98,10 @@ BeforeSomeLaw = (nodes : List Node) (i : ℕ) → IsLinked nodes → i < length 
 -- The whole tree has a spelling where its nodes have.
 abbrev pub SpelledLaw : Type 0
 SpelledLaw = (nodes : List Node) → IsTree nodes → IsSpelledTree (tree_of nodes)
+
+-- The second version has lines for all of a tree's decisions.
+abbrev pub LinesLaw : Type 0
+LinesLaw = (nodes : List Node) → HasTree Second (tree_of nodes)
 
 -- The tree has no open leaf where no node is one, and some where a node is.
 abbrev pub NoneOpenLaw : Type 0

@@ -2,12 +2,12 @@
 use Rattle.std.specs.Prelude.{◌≡◌, ℕ, ◌+◌, ◌-◌, ◌<◌, ◌≤◌, ◌^◌, List, [], ◌∷◌, ◌++◌, length, slice_index_or, slice_set, Bool, false, ◌||◌, ◌==◌, Option, Some, None, IsTrue}
 use Rattle.std.specs.List.{AllByRecursion}
 use Rattle.cfn_model.specs.declared.step.Step.{Step}
+use Rattle.cfn_model.specs.declared.step.Decision.{Decision}
 use Rattle.cfn_model.specs.declared.step.Event.{Event}
-use Rattle.cfn_model.specs.declared.step.Event.TheVariants.{Is, IsNot}
+use Rattle.cfn_model.specs.declared.step.Event.TheVariants.{Took, Refused}
 use Rattle.cfn_model.specs.Steps.{after}
 use Rattle.cfn_model.specs.Tree as trees
-use Rattle.cfn_model.specs.Words.{greatest}
-use Rattle.cfn_model.specs.Text.{IsSpelledStep}
+use Rattle.cfn_model.specs.Text.{IsSpelledStep, IsSpelledDecision}
 use Rattle.cfn_proof.specs.declared.tree.NodeId.{NodeId}
 use Rattle.cfn_proof.specs.declared.tree.End.{End}
 use Rattle.cfn_proof.specs.declared.tree.End.TheVariants.{Free, Shut, Split}
@@ -24,7 +24,7 @@ node_at nodes i = slice_index_or nodes i (open_node None)
 abbrev pub with_children : List Step → End → (ℕ → trees.Tree) → trees.Tree
 with_children block Free child = trees.Open block
 with_children block Shut child = trees.Closed block
-with_children block (Split x a first second) child = trees.Split block x a (child first.number) (child second.number)
+with_children block (Split d first second) child = trees.Split block d (child first.number) (child second.number)
 
 -- The trees of the nodes from the number base on, each made of trees behind it.
 abbrev pub trees_from : ℕ → List Node → List trees.Tree
@@ -43,7 +43,7 @@ tree_of nodes = tree_at nodes 0
 abbrev pub names_child : End → ℕ → Bool
 names_child Free i = false
 names_child Shut i = false
-names_child (Split x a first second) i = (first.number == i) || (second.number == i)
+names_child (Split d first second) i = (first.number == i) || (second.number == i)
 
 -- The children of a node stand behind it, differ, and know it as their parent.
 pub record IsFamily (nodes : List Node) (i first second : ℕ) : Type 0 where
@@ -61,23 +61,23 @@ pub record IsLinked (nodes : List Node) : Type 0 where
   pub few : length nodes ≤ 2 ^ 32
   pub root : (node_at nodes 0).parent ≡ None
   pub only_root : (i : ℕ) → i < length nodes → (node_at nodes i).parent ≡ None → i ≡ 0
-  pub children : (i x a : ℕ) (first second : NodeId) → i < length nodes → (node_at nodes i).end ≡ Split x a first second → IsFamily nodes i first.number second.number
+  pub children : (i : ℕ) (d : Decision) (first second : NodeId) → i < length nodes → (node_at nodes i).end ≡ Split d first second → IsFamily nodes i first.number second.number
   pub parents : (i : ℕ) (parent : NodeId) → i < length nodes → (node_at nodes i).parent ≡ Some parent → (parent.number < i) × IsTrue (names_child (node_at nodes parent.number).end i)
 
 -- What stands before a node's block, the newest event first: nothing before the root's; before a child's what stands
 -- before its parent's end, and the decision.
 pub data Before (nodes : List Node) : ℕ → List Event → Type 0 where
   at_root : {i : ℕ} {history : List Event} → i ≡ 0 → history ≡ [] → Before nodes i history
-  at_first : {i : ℕ} {history : List Event} (parent x a : ℕ) (first second : NodeId) (above : List Event) → parent < length nodes → (node_at nodes parent).end ≡ Split x a first second → Before nodes parent above → i ≡ first.number → history ≡ Is x a ∷ after (node_at nodes parent).block above → Before nodes i history
-  at_second : {i : ℕ} {history : List Event} (parent x a : ℕ) (first second : NodeId) (above : List Event) → parent < length nodes → (node_at nodes parent).end ≡ Split x a first second → Before nodes parent above → i ≡ second.number → history ≡ IsNot x a ∷ after (node_at nodes parent).block above → Before nodes i history
+  at_first : {i : ℕ} {history : List Event} (parent : ℕ) (d : Decision) (first second : NodeId) (above : List Event) → parent < length nodes → (node_at nodes parent).end ≡ Split d first second → Before nodes parent above → i ≡ first.number → history ≡ Took d ∷ after (node_at nodes parent).block above → Before nodes i history
+  at_second : {i : ℕ} {history : List Event} (parent : ℕ) (d : Decision) (first second : NodeId) (above : List Event) → parent < length nodes → (node_at nodes parent).end ≡ Split d first second → Before nodes parent above → i ≡ second.number → history ≡ Refused d ∷ after (node_at nodes parent).block above → Before nodes i history
 
 -- A leaf split by a decision, its children put behind all nodes.
-abbrev pub split_end : ℕ → ℕ → ℕ → End
-split_end x a n = Split x a (record { number = n }) (record { number = n + 1 })
+abbrev pub split_end : Decision → ℕ → End
+split_end d n = Split d (record { number = n }) (record { number = n + 1 })
 
-abbrev pub split_at : List Node → ℕ → ℕ → ℕ → List Node
-split_at nodes i x a =
-    slice_set nodes i (record (node_at nodes i) { end = split_end x a (length nodes) }) ++ open_node (Some (record { number = i })) ∷ open_node (Some (record { number = i })) ∷ []
+abbrev pub split_at : List Node → ℕ → Decision → List Node
+split_at nodes i d =
+    slice_set nodes i (record (node_at nodes i) { end = split_end d (length nodes) }) ++ open_node (Some (record { number = i })) ∷ open_node (Some (record { number = i })) ∷ []
 
 -- A leaf closed behind a block.
 abbrev pub close_at : List Node → ℕ → List Step → List Node
@@ -91,7 +91,7 @@ IsFree nodes i = (node_at nodes i).end ≡ Free
 abbrev pub IsSpelledEnd : End → Type 0
 IsSpelledEnd Free = Unit {0}
 IsSpelledEnd Shut = Unit {0}
-IsSpelledEnd (Split x a first second) = (x ≤ greatest) × (a ≤ greatest)
+IsSpelledEnd (Split d first second) = IsSpelledDecision d
 
 -- The nodes of a tree: they are linked, and their steps and splits have a spelling.
 pub record IsTree (nodes : List Node) : Type 0 where

@@ -9,7 +9,7 @@ use cfn_net::Scored;
 
 /// A certificate: the network's numbers of variables and functions and its upper bound, the best assignment that is
 /// known, a lower bound on the cost of every assignment, and a tree. `upper` and `lower` are at most
-/// 9,223,372,036,854,775,807, and a best is not empty.
+/// 9,223,372,036,854,775,807, and a best is not empty. It is written in version 2.
 #[derive(Drop)]
 pub struct Certificate {
     pub variables: u32,

@@ -1,6 +1,6 @@
 //! Laws of trees: what a whole tree has where each of its nodes has it, and what a split or a closing changes.
 
-ghost use Rattle.cfn_proof.specs.Local.{ValidLaw, StrictLaw, OpenBelowLaw, BoundFromLaw, BoundAtLaw, CountSplitLaw, CountCloseLaw, SplitsSplitLaw, SplitsCloseLaw, BeforeSplitLaw, BeforeCloseLaw, BeforeOnceLaw, BeforeSomeLaw, SpelledLaw, NoneOpenLaw, SomeOpenLaw};
+ghost use Rattle.cfn_proof.specs.Local.{ValidLaw, StrictLaw, OpenBelowLaw, BoundFromLaw, BoundAtLaw, CountSplitLaw, CountCloseLaw, SplitsSplitLaw, SplitsCloseLaw, BeforeSplitLaw, BeforeCloseLaw, BeforeOnceLaw, BeforeSomeLaw, SpelledLaw, LinesLaw, NoneOpenLaw, SomeOpenLaw};
 
 /// A tree is valid at a threshold, or strict, where each of its nodes is after what stands before it.
 pub fn valid_where_nodes_are()
@@ -35,9 +35,10 @@ pub fn same_before()
     ensures some { BeforeSomeLaw }
 {}
 
-/// A tree whose nodes have a spelling has one.
+/// A tree whose nodes have a spelling has one, and version 2 has lines for all of its decisions.
 pub fn spelled_where_nodes_are()
-    ensures { SpelledLaw }
+    ensures spelled { SpelledLaw }
+    ensures lines { LinesLaw }
 {}
 
 /// A tree has an open leaf exactly where a node is one.

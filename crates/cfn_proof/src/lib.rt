@@ -14,7 +14,7 @@ mod tree;
 
 pub use block::Block;
 pub use certificate::Certificate;
-pub use cfn_model::{Event, Row, Step};
+pub use cfn_model::{Decision, Event, Row, Step};
 pub use outcome::{Outcome, Stop};
 pub use path::Path;
 pub use tree::{End, Node, NodeId, Tree};

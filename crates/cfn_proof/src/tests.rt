@@ -5,8 +5,14 @@ use std::test::*;
 fn a_split_and_its_copy(rt: HostRuntime) -> Result<(), Fail> {
     let mut tree = Tree::new(rt.alloc())?;
     assert_eq!(rt; tree.len(), 1);
+    let decision = Decision::Most {
+        variable: 0,
+        value: 1,
+    };
+    let children = tree.split(Tree::ROOT, decision)?;
+    assert_eq!(rt; children.1.number, 2);
     let copy = tree.copy(rt.alloc())?;
-    assert_eq!(rt; copy.len(), 1);
+    assert_eq!(rt; copy.len(), 3);
     Ok(())
 }
 

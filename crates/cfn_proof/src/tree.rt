@@ -4,9 +4,11 @@
 //! open leaf may become a split or a closed leaf.
 
 ghost use Rattle.std.specs.Prelude.{◌≡◌, ◌+◌, ◌<◌, ◌≤◌, [], ◌∷◌, length, None, IfOk, OnOk, OnErr};
+ghost use Rattle.cfn_model.specs.Text.{IsSpelledDecision};
 ghost use Rattle.cfn_proof.specs.Nodes.{IsFree, IsTree, node_at, open_node, split_at, close_at};
 
 use crate::block::Block;
+use cfn_model::Decision;
 use std::alloc::{AllocError, Global};
 use std::marker::Model;
 
@@ -23,10 +25,9 @@ pub enum End {
     Free,
     /// A closed leaf.
     Shut,
-    /// A split: in the first child `variable` has `value`, in the second another value.
+    /// A split: in the first child the decision holds, in the second it fails.
     Split {
-        variable: u32,
-        value: u32,
+        decision: Decision,
         first: NodeId,
         second: NodeId,
     },
@@ -50,6 +51,15 @@ impl Node {
             block: Block::new(alloc),
             end: End::Free,
         }
+    }
+}
+
+/// The numbers of a decision have a spelling, since none is above 4,294,967,295.
+fn spelled(decision: Decision)
+    ensures { IsSpelledDecision decision }
+{
+    match decision {
+        Decision::Is { .. } | Decision::Most { .. } => {}
     }
 }
 
@@ -111,18 +121,17 @@ impl Tree {
         &self.nodes[id.number as usize]
     }
 
-    /// Splits an open leaf, behind its block, and answers its children: in the first `variable` has `value`, in the
-    /// second another value. They are open leaves with empty blocks. An `Err`, want of memory, leaves the tree as
-    /// it was; a tree that has no number left for a child counts as that.
+    /// Splits an open leaf, behind its block, and answers its children: in the first the decision holds, in the
+    /// second it fails. They are open leaves with empty blocks. An `Err`, want of memory, leaves the tree as it was;
+    /// a tree that has no number left for a child counts as that.
     pub fn split(
         &mut self,
         leaf: NodeId,
-        variable: u32,
-        value: u32,
+        decision: Decision,
     ) -> Result<(NodeId, NodeId), AllocError>
         requires there { leaf.number < length self.old }
         requires free { IsFree self.old leaf.number }
-        ensures ok { OnOk result (self.new ≡ split_at self.old leaf.number variable value) }
+        ensures ok { OnOk result (self.new ≡ split_at self.old leaf.number decision) }
         ensures children { IfOk result (λ c. (c.0.number ≡ length self.old) × (c.1.number ≡ length self.old + 1)) }
         ensures err { OnErr result (self.new ≡ self.old) }
     {
@@ -137,11 +146,11 @@ impl Tree {
             number: (next + 1) as u32,
         };
         self.nodes.reserve(2)?;
+        spelled(decision);
         let alloc = *self.nodes.allocator();
         let node = &mut self.nodes[leaf.number as usize];
         node.end = End::Split {
-            variable,
-            value,
+            decision,
             first,
             second,
         };

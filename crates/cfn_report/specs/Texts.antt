@@ -13,6 +13,7 @@ usage_text =
     ∷ (codes "wcspsolve" ∷ codes "solve" ∷ codes "FILE" ∷ codes "CERT" ∷ codes "[--workers" ∷ codes "W]" ∷ codes "[--budget" ∷ codes "B]" ∷ [])
     ∷ (codes "wcspsolve" ∷ codes "check" ∷ codes "FILE" ∷ codes "CERT" ∷ [])
     ∷ (codes "wcspsolve" ∷ codes "cost" ∷ codes "FILE" ∷ codes "VALUES.." ∷ [])
+    ∷ (codes "wcspsolve" ∷ codes "migrate" ∷ codes "FILE" ∷ codes "CERT" ∷ codes "OUT" ∷ [])
     ∷ [])
 
 -- The parts of a report around its rows.
@@ -42,6 +43,10 @@ fault_name kinds.Lower = codes "lower"
 -- What is said of a certificate that is good: its bounds. And of any other: how its first line that fails does so.
 abbrev pub verified_text : ℕ → Option ℕ → List ℕ
 verified_text lower best = line (codes "verified" ∷ codes "lower" ∷ decimal lower ∷ codes "best" ∷ number_or_none best ∷ [])
+
+-- What is said of a certificate that was written in the second version.
+abbrev pub migrated_text : List ℕ
+migrated_text = line (codes "migrated" ∷ [])
 
 abbrev pub refused_text : FaultKind → ℕ → List ℕ
 refused_text kind l = line (codes "refused" ∷ fault_name kind ∷ codes "at" ∷ decimal l ∷ [])

@@ -8,7 +8,7 @@ ghost use Rattle.cfn_model.specs.Text.{allowed_word, cost_text, kind_name, memor
 ghost use Rattle.cfn_line.specs.Appending.{Appends};
 ghost use Rattle.cfn_line.specs.Words.{word_text};
 ghost use Rattle.cfn_line.specs.declared.channel.Channel.TheVariants.{Screen};
-ghost use Rattle.cfn_report.specs.Texts.{fault_name, refused_text, usage_text, verified_text};
+ghost use Rattle.cfn_report.specs.Texts.{fault_name, migrated_text, refused_text, usage_text, verified_text};
 
 use crate::word::word_of;
 use cfn_desk::{Desk, Failed};
@@ -63,7 +63,7 @@ pub fn write_usage<D: Desk>(desk: &mut D) -> Result<(), Failed>
 {
     send(
         Channel::Screen,
-        b"error usage\nwcspsolve solve FILE CERT [--workers W] [--budget B]\nwcspsolve check FILE CERT\nwcspsolve cost FILE VALUES..\n",
+        b"error usage\nwcspsolve solve FILE CERT [--workers W] [--budget B]\nwcspsolve check FILE CERT\nwcspsolve cost FILE VALUES..\nwcspsolve migrate FILE CERT OUT\n",
         desk,
     )
 }
@@ -126,6 +126,14 @@ pub fn write_verified<D: Desk>(lower: u64, best: Option<u64>, desk: &mut D) -> R
         word_of(best),
     ];
     write_line(Channel::Screen, &words, desk)
+}
+
+/// Says that a certificate was written in the second version. An `Err` has said some front of it.
+pub fn write_migrated<D: Desk>(desk: &mut D) -> Result<(), Failed>
+    ensures { Appends Screen (D.outside desk.old)
+        migrated_text result (D.outside desk.new) }
+{
+    send(Channel::Screen, b"migrated\n", desk)
 }
 
 /// Says that a certificate is refused: how its first line that fails does so, and the number of that line, from 1. An

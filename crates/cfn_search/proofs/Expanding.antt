@@ -3,8 +3,10 @@ use Rattle.std.proofs.Common.{◌≡◌, ℕ, suc, ◌+◌, ◌-◌, ◌<◌, �
 use Rattle.std.proofs.lemmas.Bool.{cases_eq}
 use Rattle.std.specs.Prelude.{slice_index, ◌==◌, Option, Some, None}
 use Rattle.cfn_model.specs.declared.step.Step.{Step}
+use Rattle.cfn_model.specs.declared.step.Decision.{Decision}
 use Rattle.cfn_model.specs.declared.step.Event.{Event}
-use Rattle.cfn_model.specs.declared.step.Event.TheVariants.{Did, Is, IsNot}
+use Rattle.cfn_model.specs.declared.step.Event.TheVariants.{Did, Took, Refused}
+use Rattle.cfn_model.specs.Decisions.{variable_of, value_of}
 use Rattle.cfn_model.specs.Network.{Network, IsNetwork, Fits, cost, total}
 use Rattle.cfn_model.specs.Sums.{floor}
 use Rattle.cfn_model.specs.Steps.{Run, after}
@@ -22,44 +24,44 @@ use Rattle.cfn_search.proofs.Live.{from_live, no_steps, same_test, other_test, i
 use Rattle.cfn_search.proofs.Growing.{lowered, closed, divided, last_there}
 use Rattle.cfn_search.proofs.Shifts.{total_split}
 
-pub halved : (P : Network) (nodes : List Node) (ids : List NodeId) (id one two : NodeId) (best : Scoring) (spent x a : ℕ) (lows highs : List ℕ) → IsNetwork P → IsTree nodes → length nodes + 2 ≤ 2 ^ 32 → Sound P nodes (ids ++ id ∷ []) best spent → one.number ≡ length nodes → two.number ≡ length nodes + 1 → length lows ≡ length P.sizes → ((history : List Event) → Before nodes id.number history → AreDomains P.sizes history lows highs) → IsFewest lows highs x → a ≡ slice_index lows x → Sound P (split_at nodes id.number x a) (ids ++ two ∷ one ∷ []) best (spent + 1)
-halved P nodes ids id one two best spent x a lows highs network tree room sound is_one is_two len domains fewest is =
-    let in_range : x < length P.sizes = omega (arith, fewest.there, len) in
+pub halved : (P : Network) (nodes : List Node) (ids : List NodeId) (id one two : NodeId) (best : Scoring) (spent : ℕ) (d : Decision) (lows highs : List ℕ) → IsNetwork P → IsTree nodes → length nodes + 2 ≤ 2 ^ 32 → Sound P nodes (ids ++ id ∷ []) best spent → one.number ≡ length nodes → two.number ≡ length nodes + 1 → length lows ≡ length P.sizes → ((history : List Event) → Before nodes id.number history → AreDomains P.sizes history lows highs) → IsFewest lows highs (variable_of d) → value_of d ≡ slice_index lows (variable_of d) → Sound P (split_at nodes id.number d) (ids ++ two ∷ one ∷ []) best (spent + 1)
+halved P nodes ids id one two best spent d lows highs network tree room sound is_one is_two len domains fewest is =
+    let in_range : variable_of d < length P.sizes = omega (arith, fewest.there, len) in
     let some = before_some nodes id.number tree.linked (last_there P nodes ids id best spent spent [] tree sound) in
-    let d = domains some.0 some.1 in
-    let small = high_le P.sizes some.0 x in
-    divided P nodes ids id one two best spent x a network tree room sound is_one is_two in_range
-    (λ history before. let e = domains history before in (is ∙ e.least x in_range, (let h = e.above x in_range in omega (arith, h, is, fewest.undecided))))
-    (let h = d.above x in_range in omega (arith, h, is, fewest.undecided, small))
+    let e = domains some.0 some.1 in
+    let small = high_le P.sizes some.0 (variable_of d) in
+    divided P nodes ids id one two best spent d network tree room sound is_one is_two in_range
+    (λ history before. let e = domains history before in (is ∙ e.least (variable_of d) in_range, (let h = e.above (variable_of d) in_range in omega (arith, h, is, fewest.undecided))))
+    (let h = e.above (variable_of d) in_range in omega (arith, h, is, fewest.undecided, small))
 
 -- a variable always has a value left
 pub some_left : (P : Network) (history : List Event) (x : ℕ) → IsNetwork P → x < length P.sizes → InOrder P.sizes history → low history x < high P.sizes history x
 some_left P [] x network there order = (network.sizes x there).0
 some_left P (Did step ∷ history) x network there order = absurd order
-some_left P (Is y a ∷ history) x network there order =
-    let before = some_left P history x network there order.2 in
-    elim (cases_eq y x) [
+some_left P (Took d ∷ history) x network there order =
+    let before = some_left P history x network there order.1 in
+    elim (cases_eq (variable_of d) x) [
       | inl same ↦
-          (let l = if_true {b = y == x} (max a (low history x)) (low history x) (same_test y x same) in
-          let h = if_true {b = y == x} (min (a + 1) (high P.sizes history x)) (high P.sizes history x) (same_test y x same) in
-          let least : a ≡ low history x = order.0 ∙ ap (low history) same in
-          let most : a + 1 < high P.sizes history x = subst (λ z. a + 1 < high P.sizes history z) same order.1 in
+          (let l = if_true {b = variable_of d == x} (max (value_of d) (low history x)) (low history x) (same_test (variable_of d) x same) in
+          let h = if_true {b = variable_of d == x} (min (value_of d + 1) (high P.sizes history x)) (high P.sizes history x) (same_test (variable_of d) x same) in
+          let least : value_of d ≡ low history x = order.0.0 ∙ ap (low history) same in
+          let most : value_of d + 1 < high P.sizes history x = subst (λ z. value_of d + 1 < high P.sizes history z) same order.0.1 in
           omega (arith, l, h))
       | inr other ↦
-          (let l = if_false {b = y == x} (max a (low history x)) (low history x) (other_test y x other) in
-          let h = if_false {b = y == x} (min (a + 1) (high P.sizes history x)) (high P.sizes history x) (other_test y x other) in
+          (let l = if_false {b = variable_of d == x} (max (value_of d) (low history x)) (low history x) (other_test (variable_of d) x other) in
+          let h = if_false {b = variable_of d == x} (min (value_of d + 1) (high P.sizes history x)) (high P.sizes history x) (other_test (variable_of d) x other) in
           omega (arith, l, h, before))
     ]
-some_left P (IsNot y a ∷ history) x network there order =
-    let before = some_left P history x network there order.2 in
-    elim (cases_eq y x) [
+some_left P (Refused d ∷ history) x network there order =
+    let before = some_left P history x network there order.1 in
+    elim (cases_eq (variable_of d) x) [
       | inl same ↦
-          (let l = if_true {b = y == x} (max (a + 1) (low history x)) (low history x) (same_test y x same) in
-          let least : a ≡ low history x = order.0 ∙ ap (low history) same in
-          let most : a + 1 < high P.sizes history x = subst (λ z. a + 1 < high P.sizes history z) same order.1 in
+          (let l = if_true {b = variable_of d == x} (max (value_of d + 1) (low history x)) (low history x) (same_test (variable_of d) x same) in
+          let least : value_of d ≡ low history x = order.0.0 ∙ ap (low history) same in
+          let most : value_of d + 1 < high P.sizes history x = subst (λ z. value_of d + 1 < high P.sizes history z) same order.0.1 in
           omega (arith, l))
       | inr other ↦
-          (let l = if_false {b = y == x} (max (a + 1) (low history x)) (low history x) (other_test y x other) in
+          (let l = if_false {b = variable_of d == x} (max (value_of d + 1) (low history x)) (low history x) (other_test (variable_of d) x other) in
           omega (arith, l, before))
     ]
 

@@ -6,6 +6,7 @@ use Rattle.std.specs.List.{AllByRecursion}
 use Rattle.cfn_model.specs.declared.limits.TheConstants.{MOST_VALUES}
 use Rattle.cfn_model.specs.declared.report.Row.{Row}
 use Rattle.cfn_model.specs.declared.step.Event.{Event}
+use Rattle.cfn_model.specs.declared.version.Version.TheVariants.{Second}
 use Rattle.cfn_model.specs.Network.{Network, IsNetwork, Fits, cost}
 use Rattle.cfn_model.specs.Sums.{floor}
 use Rattle.cfn_model.specs.Steps.{after}
@@ -18,7 +19,7 @@ use Rattle.cfn_net.specs.Scoring.{Scoring}
 use Rattle.cfn_proof.specs.declared.tree.NodeId.{NodeId}
 use Rattle.cfn_proof.specs.declared.tree.Node.{Node}
 use Rattle.cfn_proof.specs.Nodes.{node_at, tree_of, IsTree, IsFree, Before}
-use Rattle.cfn_proof.proofs.CallerLemmas.{valid_law, strict_law, open_below_law, bound_from_law, bound_at_law, spelled_law, none_open_law, some_open_law, before_some}
+use Rattle.cfn_proof.proofs.CallerLemmas.{valid_law, strict_law, open_below_law, bound_from_law, bound_at_law, spelled_law, lines_law, none_open_law, some_open_law, before_some}
 use Rattle.cfn_proof.specs.declared.outcome.Stop.{Stop}
 use Rattle.cfn_proof.specs.declared.outcome.Stop.TheVariants.{Done, Budget, Memory}
 use Rattle.cfn_proof.specs.Outcome.{HasCause, IsSearched, RowHolds, opening}
@@ -102,8 +103,8 @@ module _ (P : Network) (budget : ℕ) (nodes : List Node) (ids : List NodeId) (b
   cause_is Budget some = (some_open_law nodes (number_at ids 0) tree.linked (sound.leaves.there 0 some.0) (sound.leaves.free 0 some.0), some.1)
   cause_is Memory some = (some_open_law nodes (number_at ids 0) tree.linked (sound.leaves.there 0 some.0) (sound.leaves.free 0 some.0), omega (arith, allowed, some.1))
 
-  pub searched : (c : Certificate) (rows : List Row) (stop : Stop) → c.variables ≡ length P.sizes → c.functions ≡ length P.functions → c.upper ≡ P.upper → c.best ≡ best.held → c.tree ≡ tree_of nodes → LowerIs (length ids) (price_of best) lowest c.lower → rows ≡ opening P ∷ [] → StopIs (length ids) spent budget stop → IsSearched P budget spent c rows stop
-  searched c rows stop variables functions upper is_best is_tree lower begins why =
+  pub searched : (c : Certificate) (rows : List Row) (stop : Stop) → c.variables ≡ length P.sizes → c.functions ≡ length P.functions → c.upper ≡ P.upper → c.version ≡ Second → c.best ≡ best.held → c.tree ≡ tree_of nodes → LowerIs (length ids) (price_of best) lowest c.lower → rows ≡ opening P ∷ [] → StopIs (length ids) spent budget stop → IsSearched P budget spent c rows stop
+  searched c rows stop variables functions upper version is_best is_tree lower begins why =
       let k : threshold c ≡ price_of best = ap (λ u. threshold_of u c.best) upper ∙ ap (threshold_of P.upper) is_best ∙ price_is in
       let b : c.lower ≡ bound P [] c.tree (threshold c) = bound_is c.lower lower ∙ ap (λ t. bound P [] t (price_of best)) (sym is_tree) ∙ ap (bound P [] c.tree) (sym k) in
       let solution : IsBest P c.best = subst (λ s. IsBest P s) (sym is_best) sound.solution in
@@ -124,6 +125,7 @@ module _ (P : Network) (budget : ℕ) (nodes : List Node) (ids : List NodeId) (b
           best = best_spelled P c.best network solution;
           lower = omega (arith, b, k, bound_low P [] c.tree (threshold c), small, network.upper);
           tree = subst (λ t. Rattle.cfn_model.specs.Text.IsSpelledTree t) (sym is_tree) (spelled_law nodes tree);
+          has_tree = subst (λ t. Rattle.cfn_model.specs.Text.HasTree c.version t) (sym is_tree) (subst (λ v. Rattle.cfn_model.specs.Text.HasTree v (tree_of nodes)) (sym version) (lines_law nodes));
         };
         lower = b;
         below = subst (λ t. Rattle.cfn_model.specs.Tree.OpenBelow P [] t (threshold c)) (sym is_tree) (subst (λ m. Rattle.cfn_model.specs.Tree.OpenBelow P [] (tree_of nodes) m) (sym k) (open_below_law P nodes (price_of best) tree.linked (record { each = λ i history h free before. let g = open_floor i history h free before in omega (arith, g.0, g.1) })));

@@ -4,11 +4,14 @@ use Rattle.std.proofs.lemmas.Bool.{cases_eq, cases_lt}
 use Rattle.std.proofs.lemmas.List.{get_or_append_left, get_or-append_right, length-append}
 use Rattle.std.specs.Prelude.{slice_index, slice_index_or}
 use Rattle.cfn_model.specs.declared.step.Step.{Step}
+use Rattle.cfn_model.specs.declared.step.Decision.{Decision}
 use Rattle.cfn_model.specs.declared.step.Event.{Event}
-use Rattle.cfn_model.specs.declared.step.Event.TheVariants.{Is, IsNot}
+use Rattle.cfn_model.specs.declared.step.Event.TheVariants.{Took, Refused}
+use Rattle.cfn_model.specs.declared.limits.TheConstants.{MOST_VALUES}
+use Rattle.cfn_model.specs.Decisions.{variable_of, value_of}
 use Rattle.cfn_model.specs.Network.{Network, IsNetwork}
 use Rattle.cfn_model.specs.Sums.{floor}
-use Rattle.cfn_model.specs.Steps.{IsValue, Run, after}
+use Rattle.cfn_model.specs.Steps.{IsDecision, Run, after}
 use Rattle.cfn_model.specs.Tree.{CanClose, IsStrictSplit}
 use Rattle.cfn_model.specs.Certificate.{IsBest}
 use Rattle.cfn_model.proofs.CallerLemmas.{run_lower, close_lower}
@@ -20,16 +23,16 @@ use Rattle.cfn_proof.specs.declared.tree.Node.{Node}
 use Rattle.cfn_proof.specs.Nodes.{node_at, open_node, IsTree, IsFree, Before, split_at, split_end, close_at}
 use Rattle.cfn_proof.specs.Local.{ValidNode, StrictNode}
 use Rattle.cfn_proof.proofs.CallerLemmas.{length-split_at, split_at-same, split_at-other, split_at-first, split_at-second, split_numbers, length-close_at, close_at-same, close_at-other, before_split, before_close, before_some, count_split, count_close, splits_split, splits_close}
-use Rattle.cfn_search.specs.Decisions.{low, high, InOrder}
+use Rattle.cfn_search.specs.Decisions.{IsNext, InOrder}
 use Rattle.cfn_search.specs.Sound.{Sound, AreOpen, number_at, price_of}
-use Rattle.cfn_search.proofs.Live.{live_from, no_steps}
+use Rattle.cfn_search.proofs.Live.{live_from, no_steps, keeps_named, keeps_above}
 use Rattle.cfn_search.proofs.Shifts.{decisions_floor}
 
 -- a node stays valid at every smaller threshold
 valid_node_lower : (P : Network) (history : List Event) (block : List Step) (e : End) (k less : ℕ) → less ≤ k → ValidNode P history block e k → ValidNode P history block e less
 valid_node_lower P history block Free k less h valid = run_lower P history block k less h valid
 valid_node_lower P history block Shut k less h valid = (run_lower P history block k less h valid.0, close_lower P (after block history) k less h valid.1)
-valid_node_lower P history block (Split x a first second) k less h valid = (run_lower P history block k less h valid.0, valid.1)
+valid_node_lower P history block (Split d first second) k less h valid = (run_lower P history block k less h valid.0, valid.1)
 
 -- a better solution keeps all
 pub lowered : (P : Network) (nodes : List Node) (ids : List NodeId) (best better : Scoring) (spent : ℕ) → better.network ≡ best.network → IsBest P better.held → price_of better ≤ price_of best → Sound P nodes ids best spent → Sound P nodes ids better spent
@@ -56,16 +59,16 @@ last_number ids id = ap (λ (n : NodeId). n.number) (get_or-append_right ids (id
     at_zero : slice_index_or (id ∷ []) (length ids - length ids) (record { number = 0 }) ≡ id
     at_zero = let e : length ids - length ids ≡ 0 = omega arith in rw e refl
 
-shut_is_not : {e : End} {x a : ℕ} {first second : NodeId} → e ≡ Shut → e ≡ Split x a first second → ⊥
+shut_is_not : {e : End} {d : Decision} {first second : NodeId} → e ≡ Shut → e ≡ Split d first second → ⊥
 shut_is_not h k = cc
 
 shut_not_free : {e : End} → e ≡ Shut → e ≡ Free → ⊥
 shut_not_free h k = cc
 
-split_not_free : {e : End} {x a : ℕ} {first second : NodeId} → e ≡ Split x a first second → e ≡ Free → ⊥
+split_not_free : {e : End} {d : Decision} {first second : NodeId} → e ≡ Split d first second → e ≡ Free → ⊥
 split_not_free h k = cc
 
-split_not_shut : {e : End} {x a : ℕ} {first second : NodeId} → e ≡ Split x a first second → e ≡ Shut → ⊥
+split_not_shut : {e : End} {d : Decision} {first second : NodeId} → e ≡ Split d first second → e ≡ Shut → ⊥
 split_not_shut h k = cc
 
 -- the leaf at the end of the list is closed
@@ -111,9 +114,9 @@ module _ (P : Network) (nodes : List Node) (ids : List NodeId) (id : NodeId) (be
           | inr apart ↦ ap (λ (n : Node). n.block) (other i apart) ∙ sound.empty i (omega (arith, len)) (λ shut. not_shut (ap (λ (n : Node). n.end) (other i apart) ∙ shut))
         ];
         splits = record {
-          each = λ i x a first second h is. elim (cases_eq i id.number) [
-            | inl at_leaf ↦ absurd (shut_is_not is_shut (subst (λ m. (node_at (close_at nodes id.number block) m).end ≡ Split x a first second) at_leaf is))
-            | inr apart ↦ sound.splits.each i x a first second (omega (arith, len)) (ap (λ (n : Node). n.end) (sym (other i apart)) ∙ is)
+          each = λ i d first second h is. elim (cases_eq i id.number) [
+            | inl at_leaf ↦ absurd (shut_is_not is_shut (subst (λ m. (node_at (close_at nodes id.number block) m).end ≡ Split d first second) at_leaf is))
+            | inr apart ↦ sound.splits.each i d first second (omega (arith, len)) (ap (λ (n : Node). n.end) (sym (other i apart)) ∙ is)
           ];
         };
         leaves = record {
@@ -152,13 +155,13 @@ three : (i n : ℕ) → i < n + 2 → (i < n) ⊎ ((i ≡ n) ⊎ (i ≡ n + 1))
 three i n h = elim (cases_lt i n) [ inl was ↦ inl was | inr late ↦ elim (cases_eq i n) [ inl first ↦ inr (inl first) | inr other ↦ inr (inr (omega arith)) ] ]
 
 -- the leaf at the end of the list is split, and its children take its place, the first last
-module _ (P : Network) (nodes : List Node) (ids : List NodeId) (id one two : NodeId) (best : Scoring) (spent x a : ℕ) (network : IsNetwork P) (tree : IsTree nodes) (room : length nodes + 2 ≤ 2 ^ 32) (sound : Sound P nodes (ids ++ id ∷ []) best spent) (is_one : one.number ≡ length nodes) (is_two : two.number ≡ length nodes + 1) where
+module _ (P : Network) (nodes : List Node) (ids : List NodeId) (id one two : NodeId) (best : Scoring) (spent : ℕ) (d : Decision) (network : IsNetwork P) (tree : IsTree nodes) (room : length nodes + 2 ≤ 2 ^ 32) (sound : Sound P nodes (ids ++ id ∷ []) best spent) (is_one : one.number ≡ length nodes) (is_two : two.number ≡ length nodes + 1) where
   at_last : id.number < length nodes
   at_last = last_there P nodes ids id best spent spent [] tree sound
 
-  grown : id.number < length nodes → IsFree nodes id.number → ((j : ℕ) → j < length ids → number_at ids j ≢ id.number) → ((i : ℕ) → i < length nodes → i ≢ id.number → node_at (split_at nodes id.number x a) i ≡ node_at nodes i) → length (split_at nodes id.number x a) ≡ length nodes + 2 → node_at (split_at nodes id.number x a) (length nodes) ≡ open_node (Some (record { number = id.number })) → node_at (split_at nodes id.number x a) (length nodes + 1) ≡ open_node (Some (record { number = id.number })) → (node_at (split_at nodes id.number x a) id.number).end ≡ split_end x a (length nodes) → AreOpen (split_at nodes id.number x a) (ids ++ two ∷ one ∷ [])
+  grown : id.number < length nodes → IsFree nodes id.number → ((j : ℕ) → j < length ids → number_at ids j ≢ id.number) → ((i : ℕ) → i < length nodes → i ≢ id.number → node_at (split_at nodes id.number d) i ≡ node_at nodes i) → length (split_at nodes id.number d) ≡ length nodes + 2 → node_at (split_at nodes id.number d) (length nodes) ≡ open_node (Some (record { number = id.number })) → node_at (split_at nodes id.number d) (length nodes + 1) ≡ open_node (Some (record { number = id.number })) → (node_at (split_at nodes id.number d) id.number).end ≡ split_end d (length nodes) → AreOpen (split_at nodes id.number d) (ids ++ two ∷ one ∷ [])
   grown there free apart_from other len first_is second_is is_split =
-      let new = split_at nodes id.number x a in
+      let new = split_at nodes id.number d in
       let l1 = length-append ids (id ∷ []) in
       let l2 = length-append ids (two ∷ one ∷ []) in
       let old_there : (j : ℕ) → j < length ids → number_at ids j < length nodes = λ j h. subst (λ n. n < length nodes) (front_number ids id j h) (sound.leaves.there j (omega (arith, l1))) in
@@ -209,28 +212,28 @@ module _ (P : Network) (nodes : List Node) (ids : List NodeId) (id one two : Nod
       at_end : (c : ℕ) → length ids ≤ c → c < length (ids ++ id ∷ []) → c ≡ length ids
       at_end c h k = omega (arith, length-append ids (id ∷ []))
 
-  pub divided : x < length P.sizes → ((history : List Event) → Before nodes id.number history → (a ≡ low history x) × (a + 1 < high P.sizes history x)) → a + 1 < slice_index P.sizes x → Sound P (split_at nodes id.number x a) (ids ++ two ∷ one ∷ []) best (spent + 1)
+  pub divided : variable_of d < length P.sizes → ((history : List Event) → Before nodes id.number history → IsNext P.sizes history d) → value_of d + 1 < slice_index P.sizes (variable_of d) → Sound P (split_at nodes id.number d) (ids ++ two ∷ one ∷ []) best (spent + 1)
   divided in_range decision value =
       let there = at_last in
       let free = last_free P nodes ids id best spent spent [] tree sound in
       let apart_from = not_last P nodes ids id best spent spent [] tree sound in
-      let new = split_at nodes id.number x a in
-      let same = split_at-same nodes id.number x a there in
-      let first_is = split_at-first nodes id.number x a there in
-      let second_is = split_at-second nodes id.number x a there in
-      let len = length-split_at nodes id.number x a there in
-      let is_split : (node_at new id.number).end ≡ split_end x a (length nodes) = ap (λ (n : Node). n.end) same in
-      let other : (i : ℕ) → i < length nodes → i ≢ id.number → node_at new i ≡ node_at nodes i = λ i h apart. split_at-other nodes id.number x a there i h apart in
-      let old : (i : ℕ) (history : List Event) → i < length nodes → Before new i history → Before nodes i history = λ i history h before. (before_split nodes id.number x a i history tree.linked there free before).0 h in
+      let new = split_at nodes id.number d in
+      let same = split_at-same nodes id.number d there in
+      let first_is = split_at-first nodes id.number d there in
+      let second_is = split_at-second nodes id.number d there in
+      let len = length-split_at nodes id.number d there in
+      let is_split : (node_at new id.number).end ≡ split_end d (length nodes) = ap (λ (n : Node). n.end) same in
+      let other : (i : ℕ) → i < length nodes → i ≢ id.number → node_at new i ≡ node_at nodes i = λ i h apart. split_at-other nodes id.number d there i h apart in
+      let old : (i : ℕ) (history : List Event) → i < length nodes → Before new i history → Before nodes i history = λ i history h before. (before_split nodes id.number d i history tree.linked there free before).0 h in
       let block_is : (node_at nodes id.number).block ≡ [] = sound.empty id.number there (λ shut. shut_not_free shut free) in
       let here : (i : ℕ) → i < length nodes + 2 → (i < length nodes) ⊎ ((i ≡ length nodes) ⊎ (i ≡ length nodes + 1)) = λ i h. three i (length nodes) h in
-      let value_there : IsValue P x a = record { variable = in_range; value = omega arith } in
-      let strict_there : (history : List Event) → Before nodes id.number history → IsStrictSplit P history x a = λ history before.
-      (let d = decision history before in
+      let value_there : IsDecision P d = record { variable = in_range; value = omega arith } in
+      let strict_there : (history : List Event) → Before nodes id.number history → IsStrictSplit P history d = λ history before.
+      (let e = decision history before in
       let o = sound.order id.number history there before in
       record {
-        live = live_from P.sizes history x a o (omega (arith, d.0)) (omega (arith, d.1));
-        other = (a + 1, value, (λ e. omega arith), live_from P.sizes history x (a + 1) o (omega (arith, d.0)) d.1);
+        first = (value_of d, omega (arith, value), keeps_named d, live_from P.sizes history (variable_of d) (value_of d) o (omega (arith, e.0)) (omega (arith, e.1)));
+        second = (value_of d + 1, value, keeps_above d (value_of d + 1) (omega arith), live_from P.sizes history (variable_of d) (value_of d + 1) o (omega (arith, e.0)) e.1);
       }) in
       record {
         network = sound.network;
@@ -254,7 +257,7 @@ module _ (P : Network) (nodes : List Node) (ids : List NodeId) (id one two : Nod
             | inl was ↦ elim (cases_eq i id.number) [
               | inl at_leaf ↦ subst (λ m. StrictNode P history (node_at new m).block (node_at new m).end) (sym at_leaf)
                   (subst (λ (n : Node). StrictNode P history n.block n.end) (sym same)
-                  (subst (λ b. IsStrictSplit P (after b history) x a) (sym block_is) (strict_there history (subst (λ m. Before nodes m history) at_leaf (old i history was before)))))
+                  (subst (λ b. IsStrictSplit P (after b history) d) (sym block_is) (strict_there history (subst (λ m. Before nodes m history) at_leaf (old i history was before)))))
               | inr apart ↦ subst (λ (n : Node). StrictNode P history n.block n.end) (sym (other i was apart)) (sound.strict.each i history was (old i history was before))
             ]
             | inr born ↦ elim born [
@@ -267,15 +270,13 @@ module _ (P : Network) (nodes : List Node) (ids : List NodeId) (id one two : Nod
           | inl was ↦ sound.order i history was (old i history was before)
           | inr born ↦ elim born [
             | inl first ↦
-                (let n = (before_split nodes id.number x a i history tree.linked there free before).1 first in
-                let e : history ≡ Is x a ∷ n.above = n.is ∙ ap (λ b. Is x a ∷ after b n.above) block_is in
-                let d = decision n.above n.before in
-                subst (λ h. InOrder P.sizes h) (sym e) (d.0, d.1, sound.order id.number n.above there n.before))
+                (let n = (before_split nodes id.number d i history tree.linked there free before).1 first in
+                let e : history ≡ Took d ∷ n.above = n.is ∙ ap (λ b. Took d ∷ after b n.above) block_is in
+                subst (λ h. InOrder P.sizes h) (sym e) (decision n.above n.before, sound.order id.number n.above there n.before))
             | inr second ↦
-                (let n = (before_split nodes id.number x a i history tree.linked there free before).2 second in
-                let e : history ≡ IsNot x a ∷ n.above = n.is ∙ ap (λ b. IsNot x a ∷ after b n.above) block_is in
-                let d = decision n.above n.before in
-                subst (λ h. InOrder P.sizes h) (sym e) (d.0, d.1, sound.order id.number n.above there n.before))
+                (let n = (before_split nodes id.number d i history tree.linked there free before).2 second in
+                let e : history ≡ Refused d ∷ n.above = n.is ∙ ap (λ b. Refused d ∷ after b n.above) block_is in
+                subst (λ h. InOrder P.sizes h) (sym e) (decision n.above n.before, sound.order id.number n.above there n.before))
           ]
         ];
         empty = λ i h not_shut. elim (here i (omega (arith, len))) [
@@ -289,25 +290,23 @@ module _ (P : Network) (nodes : List Node) (ids : List NodeId) (id one two : Nod
           ]
         ];
         splits = record {
-          each = λ i y b first second h is. elim (here i (omega (arith, len))) [
+          each = λ i c first second h is. elim (here i (omega (arith, len))) [
             | inl was ↦ elim (cases_eq i id.number) [
               | inl at_leaf ↦
-                  (let n = split_numbers (sym is_split ∙ subst (λ m. (node_at new m).end ≡ Split y b first second) at_leaf is) in
-                  let e1 : y ≡ x = n.0 in
-                  let e2 : b ≡ a = n.1 in
-                  let s = network.sizes x in_range in
-                  (omega arith, subst (λ z. b < slice_index P.sizes z) (sym e1) (omega arith), omega (arith, s.1)))
-              | inr apart ↦ sound.splits.each i y b first second was (ap (λ (n : Node). n.end) (sym (other i was apart)) ∙ is)
+                  (let n = split_numbers (sym is_split ∙ subst (λ m. (node_at new m).end ≡ Split c first second) at_leaf is) in
+                  let s = network.sizes (variable_of d) in_range in
+                  subst (λ b. (variable_of b < length P.sizes) × (value_of b < slice_index P.sizes (variable_of b)) × (value_of b < MOST_VALUES)) (sym n.0) (in_range, omega (arith, value), omega (arith, value, s.1)))
+              | inr apart ↦ sound.splits.each i c first second was (ap (λ (n : Node). n.end) (sym (other i was apart)) ∙ is)
             ]
             | inr born ↦ absurd (elim born [
-              | inl new_first ↦ split_not_free (subst (λ m. (node_at new m).end ≡ Split y b first second) new_first is) (ap (λ (n : Node). n.end) first_is)
-              | inr new_second ↦ split_not_free (subst (λ m. (node_at new m).end ≡ Split y b first second) new_second is) (ap (λ (n : Node). n.end) second_is)
+              | inl new_first ↦ split_not_free (subst (λ m. (node_at new m).end ≡ Split c first second) new_first is) (ap (λ (n : Node). n.end) first_is)
+              | inr new_second ↦ split_not_free (subst (λ m. (node_at new m).end ≡ Split c first second) new_second is) (ap (λ (n : Node). n.end) second_is)
             ])
           ];
         };
         leaves = grown there free apart_from other len first_is second_is is_split;
-        expanded = let m = splits_split nodes id.number x a tree.linked there free room (before_some nodes id.number tree.linked there) in omega (arith, m, sound.expanded);
-        counted = let m = count_split nodes id.number x a tree.linked there free room (before_some nodes id.number tree.linked there) in omega (arith, m, sound.counted);
+        expanded = let m = splits_split nodes id.number d tree.linked there free room (before_some nodes id.number tree.linked there) in omega (arith, m, sound.expanded);
+        counted = let m = count_split nodes id.number d tree.linked there free room (before_some nodes id.number tree.linked there) in omega (arith, m, sound.counted);
       }
 
 -- the floor of an open leaf is that of the network

@@ -1,9 +1,12 @@
 -- Decisions in order leave exactly the values from the least one to the greatest one.
-use Rattle.std.proofs.Common.{◌≡◌, ◌≢◌, ℕ, ◌+◌, ◌<◌, ◌≤◌, inl, inr, min, max, List, [], ◌∷◌, refl, ap, ◌∙◌, subst, arith, eq-eqb}
+use Rattle.std.proofs.Common.{◌≡◌, ◌≢◌, ℕ, ◌+◌, ◌<◌, ◌≤◌, inl, inr, min, max, List, [], ◌∷◌, refl, sym, ap, ◌∙◌, subst, arith, eq-eqb}
 use Rattle.std.proofs.lemmas.Bool.{cases_eq}
-use Rattle.std.specs.Prelude.{Bool, true, false, not, ◌&&◌, ◌==◌, if◌then◌else◌, slice_index}
+use Rattle.std.specs.Prelude.{Bool, true, false, not, ◌&&◌, ◌==◌, if◌then◌else◌, nat_le, slice_index}
+use Rattle.cfn_model.specs.declared.step.Decision.{Decision}
+use Rattle.cfn_model.specs.declared.step.Decision.TheVariants.{Is, Most}
 use Rattle.cfn_model.specs.declared.step.Event.{Event}
-use Rattle.cfn_model.specs.declared.step.Event.TheVariants.{Did, Is, IsNot}
+use Rattle.cfn_model.specs.declared.step.Event.TheVariants.{Did, Took, Refused}
+use Rattle.cfn_model.specs.Decisions.{variable_of, value_of, keeps}
 use Rattle.cfn_model.specs.Sums.{is_live}
 use Rattle.cfn_search.specs.Decisions.{low, high, InOrder}
 use Rattle.cfn_search.specs.Closing.{NoSteps}
@@ -11,8 +14,8 @@ use Rattle.cfn_search.specs.Closing.{NoSteps}
 pub no_steps : (sizes : List ℕ) (history : List Event) → InOrder sizes history → NoSteps history
 no_steps sizes [] order = tt
 no_steps sizes (Did step ∷ history) order = absurd order
-no_steps sizes (Is x a ∷ history) order = no_steps sizes history order.2
-no_steps sizes (IsNot x a ∷ history) order = no_steps sizes history order.2
+no_steps sizes (Took d ∷ history) order = no_steps sizes history order.1
+no_steps sizes (Refused d ∷ history) order = no_steps sizes history order.1
 
 pub same_test : (x y : ℕ) → x ≡ y → (x == y) ≡ true
 same_test x y h = eq-eqb x y h
@@ -48,31 +51,49 @@ not_removed : (b : Bool) → not b ≡ true → b ≡ false
 not_removed true h = absurd (let k : false ≡ true = h in cc)
 not_removed false h = refl
 
+-- a decision's first side has the value that it names, and of those from there on no other
+pub keeps_named : (d : Decision) → keeps d (value_of d) ≡ true
+keeps_named (Is x a) = eq-eqb a a refl
+keeps_named (Most x v) = at_itself v
+  where
+    at_itself : (v : ℕ) → nat_le v v ≡ true
+    at_itself v = grind arith
+
+pub keeps_above : (d : Decision) (b : ℕ) → value_of d < b → keeps d b ≡ false
+keeps_above (Is x a) b h = other_test a b (λ e. omega arith)
+keeps_above (Most x v) b h = beyond v b h
+  where
+    beyond : (v b : ℕ) → v < b → nat_le b v ≡ false
+    beyond v b h = grind arith
+
+kept_is : (d : Decision) (b : ℕ) → value_of d ≤ b → keeps d b ≡ true → value_of d ≡ b
+kept_is d b h kept = elim (cases_eq (value_of d) b) [
+  | inl same ↦ same
+  | inr other ↦ absurd (let apart = keeps_above d b (omega arith) in let e : false ≡ true = sym apart ∙ kept in cc)
+]
+
 pub live_from : (sizes : List ℕ) (history : List Event) (x v : ℕ) → InOrder sizes history → low history x ≤ v → v < high sizes history x → is_live history x v ≡ true
 live_from sizes [] x v order above below = refl
 live_from sizes (Did step ∷ history) x v order above below = absurd order
-live_from sizes (Is y a ∷ history) x v order above below = elim (cases_eq y x) [
+live_from sizes (Took d ∷ history) x v order above below = elim (cases_eq (variable_of d) x) [
   | inl same ↦
-      (let l = if_true {b = y == x} (max a (low history x)) (low history x) (same_test y x same) in
-      let h = if_true {b = y == x} (min (a + 1) (high sizes history x)) (high sizes history x) (same_test y x same) in
-      let is : a ≡ v = omega (arith, l, h) in
-      both ((y == x) && not (a == v)) _ (here_false (y == x) (not (a == v)) (not_false (a == v) (same_test a v is))) (live_from sizes history x v order.2 (omega (arith, l)) (omega (arith, h))))
+      (let l = if_true {b = variable_of d == x} (max (value_of d) (low history x)) (low history x) (same_test (variable_of d) x same) in
+      let h = if_true {b = variable_of d == x} (min (value_of d + 1) (high sizes history x)) (high sizes history x) (same_test (variable_of d) x same) in
+      let is : value_of d ≡ v = omega (arith, l, h) in
+      both ((variable_of d == x) && not (keeps d v)) _ (here_false (variable_of d == x) (not (keeps d v)) (not_false (keeps d v) (subst (λ b. keeps d b ≡ true) is (keeps_named d)))) (live_from sizes history x v order.1 (omega (arith, l)) (omega (arith, h))))
   | inr other ↦
-      (let l = if_false {b = y == x} (max a (low history x)) (low history x) (other_test y x other) in
-      let h = if_false {b = y == x} (min (a + 1) (high sizes history x)) (high sizes history x) (other_test y x other) in
-      both ((y == x) && not (a == v)) _ (apart_false (y == x) (not (a == v)) (other_test y x other)) (live_from sizes history x v order.2 (omega (arith, l)) (omega (arith, h))))
+      (let l = if_false {b = variable_of d == x} (max (value_of d) (low history x)) (low history x) (other_test (variable_of d) x other) in
+      let h = if_false {b = variable_of d == x} (min (value_of d + 1) (high sizes history x)) (high sizes history x) (other_test (variable_of d) x other) in
+      both ((variable_of d == x) && not (keeps d v)) _ (apart_false (variable_of d == x) (not (keeps d v)) (other_test (variable_of d) x other)) (live_from sizes history x v order.1 (omega (arith, l)) (omega (arith, h))))
 ]
-live_from sizes (IsNot y a ∷ history) x v order above below = elim (cases_eq y x) [
+live_from sizes (Refused d ∷ history) x v order above below = elim (cases_eq (variable_of d) x) [
   | inl same ↦
-      (let l = if_true {b = y == x} (max (a + 1) (low history x)) (low history x) (same_test y x same) in
-      both ((y == x) && (a == v)) _ (here_false (y == x) (a == v) (other_test a v (λ e. omega (arith, l)))) (live_from sizes history x v order.2 (omega (arith, l)) below))
+      (let l = if_true {b = variable_of d == x} (max (value_of d + 1) (low history x)) (low history x) (same_test (variable_of d) x same) in
+      both ((variable_of d == x) && keeps d v) _ (here_false (variable_of d == x) (keeps d v) (keeps_above d v (omega (arith, l)))) (live_from sizes history x v order.1 (omega (arith, l)) below))
   | inr other ↦
-      (let l = if_false {b = y == x} (max (a + 1) (low history x)) (low history x) (other_test y x other) in
-      both ((y == x) && (a == v)) _ (apart_false (y == x) (a == v) (other_test y x other)) (live_from sizes history x v order.2 (omega (arith, l)) below))
+      (let l = if_false {b = variable_of d == x} (max (value_of d + 1) (low history x)) (low history x) (other_test (variable_of d) x other) in
+      both ((variable_of d == x) && keeps d v) _ (apart_false (variable_of d == x) (keeps d v) (other_test (variable_of d) x other)) (live_from sizes history x v order.1 (omega (arith, l)) below))
 ]
-
-same_of : (a b : ℕ) → (a == b) ≡ true → a ≡ b
-same_of a b h = grind arith
 
 -- what a test does not remove
 kept_same : (b c : Bool) → (b && not c) ≡ false → b ≡ true → c ≡ true
@@ -85,34 +106,35 @@ kept_other b c h k = subst (λ d. (d && c) ≡ false) k h
 pub from_live : (sizes : List ℕ) (history : List Event) (x v : ℕ) → InOrder sizes history → v < slice_index sizes x → is_live history x v ≡ true → (low history x ≤ v) × (v < high sizes history x)
 from_live sizes [] x v order within live = (omega arith, within)
 from_live sizes (Did step ∷ history) x v order within live = absurd order
-from_live sizes (Is y a ∷ history) x v order within live =
-    let l = and_true (not ((y == x) && not (a == v))) (is_live history x v) live in
-    let before = from_live sizes history x v order.2 within l.1 in
-    elim (cases_eq y x) [
+from_live sizes (Took d ∷ history) x v order within live =
+    let l = and_true (not ((variable_of d == x) && not (keeps d v))) (is_live history x v) live in
+    let before = from_live sizes history x v order.1 within l.1 in
+    elim (cases_eq (variable_of d) x) [
       | inl same ↦
-          (let lo = if_true {b = y == x} (max a (low history x)) (low history x) (same_test y x same) in
-          let hi = if_true {b = y == x} (min (a + 1) (high sizes history x)) (high sizes history x) (same_test y x same) in
-          let is = same_of a v (kept_same (y == x) (a == v) (not_removed _ l.0) (same_test y x same)) in
+          (let lo = if_true {b = variable_of d == x} (max (value_of d) (low history x)) (low history x) (same_test (variable_of d) x same) in
+          let hi = if_true {b = variable_of d == x} (min (value_of d + 1) (high sizes history x)) (high sizes history x) (same_test (variable_of d) x same) in
+          let least : value_of d ≡ low history x = order.0.0 ∙ ap (low history) same in
+          let is = kept_is d v (omega (arith, least, before.0)) (kept_same (variable_of d == x) (keeps d v) (not_removed _ l.0) (same_test (variable_of d) x same)) in
           (omega (arith, lo, before.0, is), omega (arith, hi, before.1, is)))
       | inr other ↦
-          (let lo = if_false {b = y == x} (max a (low history x)) (low history x) (other_test y x other) in
-          let hi = if_false {b = y == x} (min (a + 1) (high sizes history x)) (high sizes history x) (other_test y x other) in
+          (let lo = if_false {b = variable_of d == x} (max (value_of d) (low history x)) (low history x) (other_test (variable_of d) x other) in
+          let hi = if_false {b = variable_of d == x} (min (value_of d + 1) (high sizes history x)) (high sizes history x) (other_test (variable_of d) x other) in
           (omega (arith, lo, before.0), omega (arith, hi, before.1)))
     ]
-from_live sizes (IsNot y a ∷ history) x v order within live =
-    let l = and_true (not ((y == x) && (a == v))) (is_live history x v) live in
-    let before = from_live sizes history x v order.2 within l.1 in
-    elim (cases_eq y x) [
+from_live sizes (Refused d ∷ history) x v order within live =
+    let l = and_true (not ((variable_of d == x) && keeps d v)) (is_live history x v) live in
+    let before = from_live sizes history x v order.1 within l.1 in
+    elim (cases_eq (variable_of d) x) [
       | inl same ↦
-          (let lo = if_true {b = y == x} (max (a + 1) (low history x)) (low history x) (same_test y x same) in
-          let differs = kept_other (y == x) (a == v) (not_removed _ l.0) (same_test y x same) in
-          let apart : a ≢ v = λ e. different a v differs e in
-          let least : a ≡ low history x = order.0 ∙ ap (low history) same in
+          (let lo = if_true {b = variable_of d == x} (max (value_of d + 1) (low history x)) (low history x) (same_test (variable_of d) x same) in
+          let differs = kept_other (variable_of d == x) (keeps d v) (not_removed _ l.0) (same_test (variable_of d) x same) in
+          let apart : value_of d ≢ v = λ e. different differs (subst (λ b. keeps d b ≡ true) e (keeps_named d)) in
+          let least : value_of d ≡ low history x = order.0.0 ∙ ap (low history) same in
           (omega (arith, lo, before.0, least), before.1))
       | inr other ↦
-          (let lo = if_false {b = y == x} (max (a + 1) (low history x)) (low history x) (other_test y x other) in
+          (let lo = if_false {b = variable_of d == x} (max (value_of d + 1) (low history x)) (low history x) (other_test (variable_of d) x other) in
           (omega (arith, lo, before.0), before.1))
     ]
   where
-    different : (a v : ℕ) → (a == v) ≡ false → a ≢ v
-    different a v h e = grind arith
+    different : {b : Bool} → b ≡ false → b ≡ true → ⊥
+    different h e = cc

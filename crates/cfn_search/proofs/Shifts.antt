@@ -7,7 +7,7 @@ use Rattle.std.specs.Prelude.{ℤ, pos, ◌+ℤ◌, neg_ℤ, Bool, true, false, 
 use Rattle.cfn_model.specs.declared.step.Step.{Step}
 use Rattle.cfn_model.specs.declared.step.Step.TheVariants.{Project, Lift}
 use Rattle.cfn_model.specs.declared.step.Event.{Event}
-use Rattle.cfn_model.specs.declared.step.Event.TheVariants.{Did, Is, IsNot}
+use Rattle.cfn_model.specs.declared.step.Event.TheVariants.{Did, Took, Refused}
 use Rattle.cfn_model.specs.Network.{Function, Network, IsNetwork, Fits, restrict, scope_at, arity, variable_at, function_at, no_function, entry, entry_at, dims, dims_at, cell, cost}
 use Rattle.cfn_model.specs.Sums.{when, constant, constant_of, floor, unary, residual, is_live, is_cut, all_live}
 use Rattle.cfn_model.specs.Steps.{CanProject, CanLift, Allowed, Run, after}
@@ -27,20 +27,20 @@ run_push P (s ∷ block) step history k run allowed = (run.0, run_push P block s
 pub decisions_floor : (P : Network) (history : List Event) → NoSteps history → floor P history ≡ floor P []
 decisions_floor P [] none = refl
 decisions_floor P (Did step ∷ history) none = absurd none
-decisions_floor P (Is x a ∷ history) none = let h = decisions_floor P history none in omega (arith, h)
-decisions_floor P (IsNot x a ∷ history) none = let h = decisions_floor P history none in omega (arith, h)
+decisions_floor P (Took d ∷ history) none = let h = decisions_floor P history none in omega (arith, h)
+decisions_floor P (Refused d ∷ history) none = let h = decisions_floor P history none in omega (arith, h)
 
 pub decisions_unary : (P : Network) (history : List Event) (x a : ℕ) → NoSteps history → unary P history x a ≡ pos 0
 decisions_unary P [] x a none = refl
 decisions_unary P (Did step ∷ history) x a none = absurd none
-decisions_unary P (Is y b ∷ history) x a none = let h = decisions_unary P history x a none in omega (arith, ints, h)
-decisions_unary P (IsNot y b ∷ history) x a none = let h = decisions_unary P history x a none in omega (arith, ints, h)
+decisions_unary P (Took d ∷ history) x a none = let h = decisions_unary P history x a none in omega (arith, ints, h)
+decisions_unary P (Refused d ∷ history) x a none = let h = decisions_unary P history x a none in omega (arith, ints, h)
 
 pub decisions_residual : (P : Network) (history : List Event) (f : ℕ) (tuple : List ℕ) → NoSteps history → residual P history f tuple ≡ residual P [] f tuple
 decisions_residual P [] f tuple none = refl
 decisions_residual P (Did step ∷ history) f tuple none = absurd none
-decisions_residual P (Is x a ∷ history) f tuple none = let h = decisions_residual P history f tuple none in omega (arith, ints, h)
-decisions_residual P (IsNot x a ∷ history) f tuple none = let h = decisions_residual P history f tuple none in omega (arith, ints, h)
+decisions_residual P (Took d ∷ history) f tuple none = let h = decisions_residual P history f tuple none in omega (arith, ints, h)
+decisions_residual P (Refused d ∷ history) f tuple none = let h = decisions_residual P history f tuple none in omega (arith, ints, h)
 
 -- nothing is shifted before the first step
 pub unshifted : (P : Network) (values : List ℕ) (history : List Event) (k lacks : ℕ) → Leaves P history values → floor P [] + lacks ≡ k → Shifted P values history [] k 0 lacks

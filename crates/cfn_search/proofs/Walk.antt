@@ -4,8 +4,10 @@ use Rattle.std.proofs.lemmas.Bool.{cases_eq}
 use Rattle.std.proofs.lemmas.List.{get_or-set_same, get_or-set_other}
 use Rattle.std.specs.Prelude.{slice_index, ◌==◌, Bool, true, false, if◌then◌else◌}
 use Rattle.cfn_model.specs.declared.step.Step.{Step}
+use Rattle.cfn_model.specs.declared.step.Decision.{Decision}
 use Rattle.cfn_model.specs.declared.step.Event.{Event}
-use Rattle.cfn_model.specs.declared.step.Event.TheVariants.{Did, Is, IsNot}
+use Rattle.cfn_model.specs.declared.step.Event.TheVariants.{Did, Took, Refused}
+use Rattle.cfn_model.specs.Decisions.{variable_of, value_of}
 use Rattle.cfn_model.specs.Steps.{after}
 use Rattle.cfn_proof.specs.declared.tree.NodeId.{NodeId}
 use Rattle.cfn_proof.specs.declared.tree.End.{End}
@@ -36,38 +38,38 @@ same_test x = eq-eqb x x refl
 other_test : (x y : ℕ) → (x ≡ y → ⊥) → (x == y) ≡ false
 other_test x y h = grind arith
 
-split_parts : {e : End} {x a y b : ℕ} {first second third fourth : NodeId} → e ≡ Split x a first second → e ≡ Split y b third fourth → (x ≡ y) × (a ≡ b) × (first ≡ third) × (second ≡ fourth)
-split_parts e f = ((cc), (cc), (cc), (cc))
+split_parts : {e : End} {d c : Decision} {first second third fourth : NodeId} → e ≡ Split d first second → e ≡ Split c third fourth → (d ≡ c) × (first ≡ third) × (second ≡ fourth)
+split_parts e f = ((cc), (cc), (cc))
 
 no_parent : {o : Option NodeId} {p : NodeId} → o ≡ None → o ≡ Some p → ⊥
 no_parent e f = cc
 
 -- the node above is the parent, on the side where the walk came from
-record Up (nodes : List Node) (at p x a : ℕ) (above : List Event) (first : NodeId) : Type 0 where
+record Up (nodes : List Node) (at p : ℕ) (d : Decision) (above : List Event) (first : NodeId) : Type 0 where
   higher : List Event
   before : Before nodes p higher
-  left : first.number ≡ at → above ≡ Is x a ∷ after (node_at nodes p).block higher
-  right : first.number ≢ at → above ≡ IsNot x a ∷ after (node_at nodes p).block higher
+  left : first.number ≡ at → above ≡ Took d ∷ after (node_at nodes p).block higher
+  right : first.number ≢ at → above ≡ Refused d ∷ after (node_at nodes p).block higher
 
-up : (nodes : List Node) (at : ℕ) (parent : NodeId) (x a : ℕ) (first second : NodeId) (above : List Event) → IsLinked nodes → (node_at nodes at).parent ≡ Some parent → (node_at nodes parent.number).end ≡ Split x a first second → Before nodes at above → Up nodes at parent.number x a above first
-up nodes at parent x a first second above linked knows is before =
+up : (nodes : List Node) (at : ℕ) (parent : NodeId) (d : Decision) (first second : NodeId) (above : List Event) → IsLinked nodes → (node_at nodes at).parent ≡ Some parent → (node_at nodes parent.number).end ≡ Split d first second → Before nodes at above → Up nodes at parent.number d above first
+up nodes at parent d first second above linked knows is before =
     elim (side_of nodes at above linked before) [
       | inl root ↦ absurd (no_parent (ap (λ m. (node_at nodes m).parent) root.0 ∙ linked.root) knows)
       | inr s ↦
           (let same : s.parent ≡ parent.number = number_of (sym s.knows ∙ knows) in
           let there : parent.number < length nodes = subst (λ m. m < length nodes) same s.there in
-          let family = linked.children parent.number x a first second there is in
-          let parts = split_parts is (subst (λ m. (node_at nodes m).end ≡ Split s.x s.a s.first s.second) same s.is) in
+          let family = linked.children parent.number d first second there is in
+          let parts = split_parts is (subst (λ m. (node_at nodes m).end ≡ Split s.d s.first s.second) same s.is) in
           record {
             higher = s.above;
             before = subst (λ m. Before nodes m s.above) same s.before;
             left = λ here. elim s.side [
-              | inl l ↦ l.1 ∙ ap (λ y. Is y s.a ∷ after (node_at nodes s.parent).block s.above) (sym parts.0) ∙ ap (λ b. Is x b ∷ after (node_at nodes s.parent).block s.above) (sym parts.1) ∙ ap (λ m. Is x a ∷ after (node_at nodes m).block s.above) same
-              | inr r ↦ absurd (family.different (here ∙ r.0 ∙ ap (λ (n : NodeId). n.number) (sym parts.3)))
+              | inl l ↦ l.1 ∙ ap (λ c. Took c ∷ after (node_at nodes s.parent).block s.above) (sym parts.0) ∙ ap (λ m. Took d ∷ after (node_at nodes m).block s.above) same
+              | inr r ↦ absurd (family.different (here ∙ r.0 ∙ ap (λ (n : NodeId). n.number) (sym parts.2)))
             ];
             right = λ other. elim s.side [
-              | inl l ↦ absurd (other (ap (λ (n : NodeId). n.number) parts.2 ∙ sym l.0))
-              | inr r ↦ r.1 ∙ ap (λ y. IsNot y s.a ∷ after (node_at nodes s.parent).block s.above) (sym parts.0) ∙ ap (λ b. IsNot x b ∷ after (node_at nodes s.parent).block s.above) (sym parts.1) ∙ ap (λ m. IsNot x a ∷ after (node_at nodes m).block s.above) same
+              | inl l ↦ absurd (other (ap (λ (n : NodeId). n.number) parts.1 ∙ sym l.0))
+              | inr r ↦ r.1 ∙ ap (λ c. Refused c ∷ after (node_at nodes s.parent).block s.above) (sym parts.0) ∙ ap (λ m. Refused d ∷ after (node_at nodes m).block s.above) same
             ];
           })
     ]
@@ -75,61 +77,72 @@ up nodes at parent x a first second above linked knows is before =
     number_of : {n : ℕ} {p : NodeId} → Some (record { number = n }) ≡ Some p → n ≡ p.number
     number_of e = (cc)
 
-module _ (sizes : List ℕ) (nodes : List Node) (at : ℕ) (parent : NodeId) (x a : ℕ) (first second : NodeId) (lows highs : List ℕ) (history : List Event) (linked : IsLinked nodes) (knows : (node_at nodes at).parent ≡ Some parent) (is : (node_at nodes parent.number).end ≡ Split x a first second) (there_low : x < length lows) (there_high : x < length highs) (rest : Rest sizes nodes at lows highs history) where
-  pub rest_first : first.number ≡ at → Rest sizes nodes parent.number (set lows x (max (slice_index lows x) a)) (set highs x (min (slice_index highs x) (a + 1))) history
+module _ (sizes : List ℕ) (nodes : List Node) (at : ℕ) (parent : NodeId) (d : Decision) (first second : NodeId) (lows highs : List ℕ) (history : List Event) (linked : IsLinked nodes) (knows : (node_at nodes at).parent ≡ Some parent) (is : (node_at nodes parent.number).end ≡ Split d first second) (there_low : variable_of d < length lows) (there_high : variable_of d < length highs) (rest : Rest sizes nodes at lows highs history) where
+  rest_first : first.number ≡ at → Rest sizes nodes parent.number (set lows (variable_of d) (max (slice_index lows (variable_of d)) (value_of d))) (set highs (variable_of d) (min (slice_index highs (variable_of d)) (value_of d + 1))) history
   rest_first here =
-      let u = up nodes at parent x a first second rest.above linked knows is rest.before in
+      let u = up nodes at parent d first second rest.above linked knows is rest.before in
       let e = u.left here in
       record {
         above = u.higher;
         before = u.before;
-        least = λ y h. elim (cases_eq y x) [
+        least = λ y h. elim (cases_eq y (variable_of d)) [
           | inl same ↦
               (let old = rest.least y h in
-              let l = ap (λ k. low k y) e ∙ ap (λ b. if b then max a (low (after (node_at nodes parent.number).block u.higher) y) else low (after (node_at nodes parent.number).block u.higher) y) (ap (λ m. x == m) same ∙ same_test x) ∙ ap (max a) (low-after (node_at nodes parent.number).block u.higher y) in
-              let w : slice_index (set lows x (max (slice_index lows x) a)) y ≡ max (slice_index lows y) a = ap (slice_index (set lows x (max (slice_index lows x) a))) same ∙ get_or-set_same lows x _ 0 there_low ∙ ap (λ m. max (slice_index lows m) a) (sym same) in
+              let l = ap (λ k. low k y) e ∙ ap (λ b. if b then max (value_of d) (low (after (node_at nodes parent.number).block u.higher) y) else low (after (node_at nodes parent.number).block u.higher) y) (ap (λ m. variable_of d == m) same ∙ same_test (variable_of d)) ∙ ap (max (value_of d)) (low-after (node_at nodes parent.number).block u.higher y) in
+              let w : slice_index (set lows (variable_of d) (max (slice_index lows (variable_of d)) (value_of d))) y ≡ max (slice_index lows y) (value_of d) = ap (slice_index (set lows (variable_of d) (max (slice_index lows (variable_of d)) (value_of d)))) same ∙ get_or-set_same lows (variable_of d) _ 0 there_low ∙ ap (λ m. max (slice_index lows m) (value_of d)) (sym same) in
               omega (arith, old, l, w))
           | inr other ↦
               (let old = rest.least y h in
-              let l = ap (λ k. low k y) e ∙ ap (λ b. if b then max a (low (after (node_at nodes parent.number).block u.higher) y) else low (after (node_at nodes parent.number).block u.higher) y) (other_test x y (λ m. other (sym m))) ∙ low-after (node_at nodes parent.number).block u.higher y in
-              let w : slice_index (set lows x (max (slice_index lows x) a)) y ≡ slice_index lows y = get_or-set_other lows x y _ 0 other in
+              let l = ap (λ k. low k y) e ∙ ap (λ b. if b then max (value_of d) (low (after (node_at nodes parent.number).block u.higher) y) else low (after (node_at nodes parent.number).block u.higher) y) (other_test (variable_of d) y (λ m. other (sym m))) ∙ low-after (node_at nodes parent.number).block u.higher y in
+              let w : slice_index (set lows (variable_of d) (max (slice_index lows (variable_of d)) (value_of d))) y ≡ slice_index lows y = get_or-set_other lows (variable_of d) y _ 0 other in
               omega (arith, old, l, w))
         ];
-        most = λ y h. elim (cases_eq y x) [
+        most = λ y h. elim (cases_eq y (variable_of d)) [
           | inl same ↦
               (let old = rest.most y h in
-              let l = ap (λ k. high sizes k y) e ∙ ap (λ b. if b then min (a + 1) (high sizes (after (node_at nodes parent.number).block u.higher) y) else high sizes (after (node_at nodes parent.number).block u.higher) y) (ap (λ m. x == m) same ∙ same_test x) ∙ ap (min (a + 1)) (high-after sizes (node_at nodes parent.number).block u.higher y) in
-              let w : slice_index (set highs x (min (slice_index highs x) (a + 1))) y ≡ min (slice_index highs y) (a + 1) = ap (slice_index (set highs x (min (slice_index highs x) (a + 1)))) same ∙ get_or-set_same highs x _ 0 there_high ∙ ap (λ m. min (slice_index highs m) (a + 1)) (sym same) in
+              let l = ap (λ k. high sizes k y) e ∙ ap (λ b. if b then min (value_of d + 1) (high sizes (after (node_at nodes parent.number).block u.higher) y) else high sizes (after (node_at nodes parent.number).block u.higher) y) (ap (λ m. variable_of d == m) same ∙ same_test (variable_of d)) ∙ ap (min (value_of d + 1)) (high-after sizes (node_at nodes parent.number).block u.higher y) in
+              let w : slice_index (set highs (variable_of d) (min (slice_index highs (variable_of d)) (value_of d + 1))) y ≡ min (slice_index highs y) (value_of d + 1) = ap (slice_index (set highs (variable_of d) (min (slice_index highs (variable_of d)) (value_of d + 1)))) same ∙ get_or-set_same highs (variable_of d) _ 0 there_high ∙ ap (λ m. min (slice_index highs m) (value_of d + 1)) (sym same) in
               omega (arith, old, l, w))
           | inr other ↦
               (let old = rest.most y h in
-              let l = ap (λ k. high sizes k y) e ∙ ap (λ b. if b then min (a + 1) (high sizes (after (node_at nodes parent.number).block u.higher) y) else high sizes (after (node_at nodes parent.number).block u.higher) y) (other_test x y (λ m. other (sym m))) ∙ high-after sizes (node_at nodes parent.number).block u.higher y in
-              let w : slice_index (set highs x (min (slice_index highs x) (a + 1))) y ≡ slice_index highs y = get_or-set_other highs x y _ 0 other in
+              let l = ap (λ k. high sizes k y) e ∙ ap (λ b. if b then min (value_of d + 1) (high sizes (after (node_at nodes parent.number).block u.higher) y) else high sizes (after (node_at nodes parent.number).block u.higher) y) (other_test (variable_of d) y (λ m. other (sym m))) ∙ high-after sizes (node_at nodes parent.number).block u.higher y in
+              let w : slice_index (set highs (variable_of d) (min (slice_index highs (variable_of d)) (value_of d + 1))) y ≡ slice_index highs y = get_or-set_other highs (variable_of d) y _ 0 other in
               omega (arith, old, l, w))
         ];
       }
 
-  pub rest_second : first.number ≢ at → Rest sizes nodes parent.number (set lows x (max (slice_index lows x) (a + 1))) highs history
+  rest_second : first.number ≢ at → Rest sizes nodes parent.number (set lows (variable_of d) (max (slice_index lows (variable_of d)) (value_of d + 1))) highs history
   rest_second away =
-      let u = up nodes at parent x a first second rest.above linked knows is rest.before in
+      let u = up nodes at parent d first second rest.above linked knows is rest.before in
       let e = u.right away in
       record {
         above = u.higher;
         before = u.before;
-        least = λ y h. elim (cases_eq y x) [
+        least = λ y h. elim (cases_eq y (variable_of d)) [
           | inl same ↦
               (let old = rest.least y h in
-              let l = ap (λ k. low k y) e ∙ ap (λ b. if b then max (a + 1) (low (after (node_at nodes parent.number).block u.higher) y) else low (after (node_at nodes parent.number).block u.higher) y) (ap (λ m. x == m) same ∙ same_test x) ∙ ap (max (a + 1)) (low-after (node_at nodes parent.number).block u.higher y) in
-              let w : slice_index (set lows x (max (slice_index lows x) (a + 1))) y ≡ max (slice_index lows y) (a + 1) = ap (slice_index (set lows x (max (slice_index lows x) (a + 1)))) same ∙ get_or-set_same lows x _ 0 there_low ∙ ap (λ m. max (slice_index lows m) (a + 1)) (sym same) in
+              let l = ap (λ k. low k y) e ∙ ap (λ b. if b then max (value_of d + 1) (low (after (node_at nodes parent.number).block u.higher) y) else low (after (node_at nodes parent.number).block u.higher) y) (ap (λ m. variable_of d == m) same ∙ same_test (variable_of d)) ∙ ap (max (value_of d + 1)) (low-after (node_at nodes parent.number).block u.higher y) in
+              let w : slice_index (set lows (variable_of d) (max (slice_index lows (variable_of d)) (value_of d + 1))) y ≡ max (slice_index lows y) (value_of d + 1) = ap (slice_index (set lows (variable_of d) (max (slice_index lows (variable_of d)) (value_of d + 1)))) same ∙ get_or-set_same lows (variable_of d) _ 0 there_low ∙ ap (λ m. max (slice_index lows m) (value_of d + 1)) (sym same) in
               omega (arith, old, l, w))
           | inr other ↦
               (let old = rest.least y h in
-              let l = ap (λ k. low k y) e ∙ ap (λ b. if b then max (a + 1) (low (after (node_at nodes parent.number).block u.higher) y) else low (after (node_at nodes parent.number).block u.higher) y) (other_test x y (λ m. other (sym m))) ∙ low-after (node_at nodes parent.number).block u.higher y in
-              let w : slice_index (set lows x (max (slice_index lows x) (a + 1))) y ≡ slice_index lows y = get_or-set_other lows x y _ 0 other in
+              let l = ap (λ k. low k y) e ∙ ap (λ b. if b then max (value_of d + 1) (low (after (node_at nodes parent.number).block u.higher) y) else low (after (node_at nodes parent.number).block u.higher) y) (other_test (variable_of d) y (λ m. other (sym m))) ∙ low-after (node_at nodes parent.number).block u.higher y in
+              let w : slice_index (set lows (variable_of d) (max (slice_index lows (variable_of d)) (value_of d + 1))) y ≡ slice_index lows y = get_or-set_other lows (variable_of d) y _ 0 other in
               omega (arith, old, l, w))
         ];
         most = λ y h. let old = rest.most y h in let l = ap (λ k. high sizes k y) e ∙ high-after sizes (node_at nodes parent.number).block u.higher y in omega (arith, old, l);
       }
+
+  -- the same, by what the decision names
+  pub first_met : (x a : ℕ) → x ≡ variable_of d → a ≡ value_of d → first.number ≡ at → Rest sizes nodes parent.number (set lows x (max (slice_index lows x) a)) (set highs x (min (slice_index highs x) (a + 1))) history
+  first_met x a is_x is_a here =
+      subst (λ y. Rest sizes nodes parent.number (set lows y (max (slice_index lows y) a)) (set highs y (min (slice_index highs y) (a + 1))) history) (sym is_x)
+      (subst (λ b. Rest sizes nodes parent.number (set lows (variable_of d) (max (slice_index lows (variable_of d)) b)) (set highs (variable_of d) (min (slice_index highs (variable_of d)) (b + 1))) history) (sym is_a) (rest_first here))
+
+  pub second_met : (x a : ℕ) → x ≡ variable_of d → a ≡ value_of d → first.number ≢ at → Rest sizes nodes parent.number (set lows x (max (slice_index lows x) (a + 1))) highs history
+  second_met x a is_x is_a away =
+      subst (λ y. Rest sizes nodes parent.number (set lows y (max (slice_index lows y) (a + 1))) highs history) (sym is_x)
+      (subst (λ b. Rest sizes nodes parent.number (set lows (variable_of d) (max (slice_index lows (variable_of d)) (b + 1))) highs history) (sym is_a) (rest_second away))
 
 -- at the root nothing is left to meet
 pub at_root_is : (sizes : List ℕ) (nodes : List Node) (at : ℕ) (lows highs : List ℕ) (history : List Event) → IsLinked nodes → at < length nodes → (node_at nodes at).parent ≡ None → length lows ≡ length sizes → length highs ≡ length sizes → ((x : ℕ) → x < length sizes → slice_index highs x ≤ slice_index sizes x) → Rest sizes nodes at lows highs history → AreDomains sizes history lows highs
@@ -150,8 +163,8 @@ cond_le false m n = omega arith
 pub high_le : (sizes : List ℕ) (history : List Event) (x : ℕ) → high sizes history x ≤ slice_index sizes x
 high_le sizes [] x = omega arith
 high_le sizes (Did step ∷ history) x = high_le sizes history x
-high_le sizes (Is y a ∷ history) x = let h = high_le sizes history x in let c = cond_le (y == x) (a + 1) (high sizes history x) in omega (arith, h, c)
-high_le sizes (IsNot y a ∷ history) x = high_le sizes history x
+high_le sizes (Took d ∷ history) x = let h = high_le sizes history x in let c = cond_le (variable_of d == x) (value_of d + 1) (high sizes history x) in omega (arith, h, c)
+high_le sizes (Refused d ∷ history) x = high_le sizes history x
 
 -- the walk begins at the leaf, with all values
 pub at_leaf_is : (sizes : List ℕ) (nodes : List Node) (at : ℕ) (lows : List ℕ) (history : List Event) → AreDomains sizes [] lows sizes → Before nodes at history → Rest sizes nodes at lows sizes history

@@ -1,18 +1,19 @@
 //! What the decisions above a leaf leave of each variable's domain.
 //!
-//! A split takes the least value that is left, so what is left of a domain is always the values from a least one to
-//! a greatest one, and two numbers a variable tell it.
+//! A split names the least value that is left, so what is left of a domain is always the values from a least one to
+//! a greatest one, and two numbers a variable tell it. By the value or by a bound, the first side has that value alone.
 
 ghost use Rattle.std.specs.Prelude.{◌≡◌, ℕ, ◌+◌, ◌<◌, ◌≤◌, List, length, slice_index, IfOk, MatchOption};
 ghost use Rattle.std.specs.Prelude.{[]};
 ghost use Rattle.cfn_model.specs.declared.limits.TheConstants.{MOST_VARIABLES};
 ghost use Rattle.cfn_model.specs.declared.step.Event.{Event};
+ghost use Rattle.cfn_model.specs.Decisions.{variable_of, value_of};
 ghost use Rattle.cfn_proof.specs.Nodes.{Before};
 ghost use Rattle.cfn_search.specs.Decisions.{AreDomains, AllDecided, IsFewest};
 ghost use Rattle.cfn_search.specs.Trees.{SplitsInRange};
 
 use cfn_net::Network;
-use cfn_proof::{End, NodeId, Tree};
+use cfn_proof::{Decision, End, NodeId, Tree};
 use std::alloc::{AllocError, Global};
 
 /// For each variable the least value that is left, and the number above the greatest one.
@@ -87,12 +88,12 @@ fn restrict_along(tree: &Tree, leaf: NodeId, low: &mut [u32], high: &mut [u32])
     let mut at = leaf;
     while let Some(parent) = tree.node(at).parent {
         if let End::Split {
-            variable,
-            value,
+            decision,
             first,
             ..
         } = tree.node(parent).end
         {
+            let (variable, value) = named(decision);
             let x = variable as usize;
             if first == at {
                 low[x] = low[x].max(value);
@@ -102,6 +103,16 @@ fn restrict_along(tree: &Tree, leaf: NodeId, low: &mut [u32], high: &mut [u32])
             }
         }
         at = parent;
+    }
+}
+
+/// The variable that a decision is about, and the value that it names.
+fn named(decision: Decision) -> (u32, u32)
+    ensures variable { result.0 ≡ variable_of decision }
+    ensures value { result.1 ≡ value_of decision }
+{
+    match decision {
+        Decision::Is { variable, value } | Decision::Most { variable, value } => (variable, value),
     }
 }
 

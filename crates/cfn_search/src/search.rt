@@ -15,7 +15,7 @@ use crate::closing::closing_block;
 use crate::domains::Domains;
 use cfn_cost::Cost;
 use cfn_net::{Network, Scored};
-use cfn_proof::{Certificate, NodeId, Outcome, Row, Stop, Tree};
+use cfn_proof::{Certificate, Decision, NodeId, Outcome, Row, Stop, Tree};
 use std::alloc::{AllocError, Global};
 
 /// A search between two expansions.
@@ -192,7 +192,8 @@ impl State {
         self.tree.linked();
         self.leaves.reserve(2)?;
         let value = self.domains.low[x as usize];
-        let (first, second) = self.tree.split(leaf, x, value)?;
+        let decision = Decision::Is { variable: x, value };
+        let (first, second) = self.tree.split(leaf, decision)?;
         self.tree.linked();
         self.leaves.push_reserved(second);
         self.leaves.push_reserved(first);

@@ -61,7 +61,7 @@ impl Run {
     /// Whether the certificate is whole, and begins with these bytes behind its first line.
     pub fn certifies(&self, front: &[u8]) -> bool {
         let certificate = self.certificate();
-        let behind = certificate.strip_prefix(b"wcspcert 1\n").unwrap_or(b"");
+        let behind = certificate.strip_prefix(b"wcspcert 2\n").unwrap_or(b"");
         behind.starts_with(front) && certificate.ends_with(b"\nend\n")
     }
 

@@ -21,7 +21,7 @@ fn one_node_splits_the_root(rt: HostRuntime) -> Result<(), Fail> {
         b"variables 3\nfunctions 3\nworkers 1\nrow 0 none\nlower 0\nupper none\nnodes 1\nresult budget\n";
     assert_eq!(rt; run.said(), said.as_slice());
     let certificate =
-        b"wcspcert 1\nnetwork 3 3 10\nlower 0\nbest none\ntree\nsplit 0 0\nopen\nopen\nend\n";
+        b"wcspcert 2\nnetwork 3 3 10\nlower 0\nbest none\ntree\nsplit 0 0\nopen\nopen\nend\n";
     assert_eq!(rt; run.certificate(), certificate.as_slice());
     Ok(())
 }
@@ -34,7 +34,7 @@ fn no_node_leaves_the_constant_as_the_bound(rt: HostRuntime) -> Result<(), Fail>
     let said =
         b"variables 1\nfunctions 1\nworkers 1\nrow 4 none\nlower 4\nupper none\nnodes 0\nresult budget\n";
     assert_eq!(rt; run.said(), said.as_slice());
-    let certificate = b"wcspcert 1\nnetwork 1 1 10\nlower 4\nbest none\ntree\nopen\nend\n";
+    let certificate = b"wcspcert 2\nnetwork 1 1 10\nlower 4\nbest none\ntree\nopen\nend\n";
     assert_eq!(rt; run.certificate(), certificate.as_slice());
     Ok(())
 }
@@ -49,7 +49,7 @@ fn closed_root_needs_no_budget(rt: HostRuntime) -> Result<(), Fail> {
         let said =
             b"variables 1\nfunctions 1\nworkers 1\nrow 10 none\nlower 10\nupper none\nnodes 0\nresult none\n";
         assert_eq!(rt; run.said(), said.as_slice());
-        let certificate = b"wcspcert 1\nnetwork 1 1 10\nlower 10\nbest none\ntree\nclosed\nend\n";
+        let certificate = b"wcspcert 2\nnetwork 1 1 10\nlower 10\nbest none\ntree\nclosed\nend\n";
         assert_eq!(rt; run.certificate(), certificate.as_slice());
     }
     Ok(())

@@ -33,7 +33,7 @@ fn failed_put_is_a_write_fault(rt: HostRuntime) -> Result<(), Fail> {
 fn earlier_certificate_survives_each_fault(rt: HostRuntime) -> Result<(), Fail> {
     let files = [("in", TINY), ("out", b"earlier".as_slice())];
     let whole = Run::over(&rt, &SOLVE, &files, &[])?;
-    assert!(rt; whole.certificate().starts_with(b"wcspcert 1\n"));
+    assert!(rt; whole.certificate().starts_with(b"wcspcert 2\n"));
     let mut kept = 0;
     for failing in 1..60 {
         let run = Run::over(&rt, &SOLVE, &files, &[failing])?;

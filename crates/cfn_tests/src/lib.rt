@@ -1,13 +1,15 @@
 //! Tests of whole runs, and no code of its own.
 //!
-//! `solving`, `asking`, `reading` and `failing` judge what is found, what the words of a command line ask for, which files
-//! are refused, and what a fault of the outside leaves.
+//! `solving`, `asking`, `reading`, `failing` and `migrating` judge what is found, what the words of a command line ask for,
+//! which files are refused, what a fault of the outside leaves, and what becomes of a certificate of the first version.
 #![tactic(auto)]
 
 #[cfg(test)]
 mod asking;
 #[cfg(test)]
 mod failing;
+#[cfg(test)]
+mod migrating;
 #[cfg(test)]
 mod reading;
 #[cfg(test)]

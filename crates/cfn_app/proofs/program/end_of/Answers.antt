@@ -1,6 +1,6 @@
 use Rattle.std.proofs.Common.{ap, ◌∙◌, Some}
-use Rattle.cfn_cli.specs.Request.{request, spoken_solve, spoken_check, spoken_cost}
-use Rattle.cfn_app.specs.Runs.{solves, checks, costs}
+use Rattle.cfn_cli.specs.Request.{request, spoken_solve, spoken_check, spoken_cost, spoken_migrate}
+use Rattle.cfn_app.specs.Runs.{solves, checks, costs, migrates}
 use Rattle.cfn_app.proofs.program.end_of.Goals as goal
 
 pub returns-in-Ok-Solve : goal.returns-in-Ok-Solve
@@ -14,3 +14,7 @@ returns-in-Ok-Check g c =
 pub returns-in-Ok-Cost : goal.returns-in-Ok-Cost
 returns-in-Ok-Cost g c =
     costs (spoken_cost c.in-Ok-Cost.ask) (c.in-Ok-Cost.ensures.command ∙ ap (λ command. Some (request command)) c.in-Ok-Cost.field-0-is) c.cost_file.ensures.files c.cost_file.ensures.ends
+
+pub returns-in-Ok-Migrate : goal.returns-in-Ok-Migrate
+returns-in-Ok-Migrate g c =
+    migrates (spoken_migrate c.in-Ok-Migrate.ask) (c.in-Ok-Migrate.ensures.command ∙ ap (λ command. Some (request command)) c.in-Ok-Migrate.field-0-is) c.migrate_file.ensures

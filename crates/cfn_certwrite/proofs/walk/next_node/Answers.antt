@@ -13,8 +13,8 @@ returns-in-Free c = record {
 
 pub returns-in-Split-clause-there : goal.returns-in-Split-clause-there
 returns-in-Split-clause-there c =
-    (c.linked.ensures.linked.children c.args.id.number c.in-Split.variable c.in-Split.value c.in-Split.first c.in-Split.second c.requires (ap (λ n. n.end) (sym c.node.ensures) ∙ c.in-Split.is)).first_there
+    (c.linked.ensures.linked.children c.args.id.number c.in-Split.decision c.in-Split.first c.in-Split.second c.requires (ap (λ n. n.end) (sym c.node.ensures) ∙ c.in-Split.is)).first_there
 
 pub returns-in-Split-clause-lines : goal.returns-in-Split-clause-lines
 returns-in-Split-clause-lines c =
-    from_split c.args.tree.now c.args.id.number c.in-Split.variable c.in-Split.value c.in-Split.first c.in-Split.second c.linked.ensures.linked c.requires (ap (λ n. n.end) (sym c.node.ensures) ∙ c.in-Split.is)
+    from_split c.args.tree.now c.args.id.number c.in-Split.decision c.in-Split.first c.in-Split.second c.linked.ensures.linked c.requires (ap (λ n. n.end) (sym c.node.ensures) ∙ c.in-Split.is)

@@ -1,5 +1,5 @@
-use Rattle.cfn_core.proofs.Always.{holds}
+use Rattle.cfn_core.proofs.Always.{always_holds}
 use Rattle.cfn_core.proofs.laws.every_order.Goals as goal
 
 pub returns : goal.returns
-returns c = holds
+returns c = always_holds

@@ -1,11 +1,10 @@
 -- The walk's goals: a parent stands before its children, its split names a value, and what was met stays right.
 use Rattle.std.proofs.Common.{◌≡◌, ◌≢◌, ℕ, ◌+◌, ◌<◌, ◌≤◌, List, length, slice_index, min, max, sym, ap, ◌∙◌, subst, arith, Some, Fits, w32}
-use Rattle.cfn_model.specs.declared.limits.TheConstants.{MOST_VALUES}
 use Rattle.cfn_proof.specs.declared.tree.Node.{Node}
 use Rattle.cfn_proof.specs.declared.tree.End.TheVariants.{Split}
 use Rattle.cfn_proof.specs.Nodes.{node_at}
 use Rattle.cfn_proof.proofs.CallerLemmas.{named}
-use Rattle.cfn_search.proofs.Walk.{Rest, rest_first, rest_second, at_root_is, at_leaf_is, still_small, same_from, other_from}
+use Rattle.cfn_search.proofs.Walk.{Rest, first_met, second_met, at_root_is, at_leaf_is, still_small, same_from, other_from}
 use Rattle.cfn_search.proofs.domains.restrict_along.Goals as goal
 
 pub loop-parent-init : goal.loop-parent-init
@@ -27,72 +26,72 @@ bounds-low-x c =
     let knows : (node_at c.args.tree.now c.loop-parent.at.number).parent ≡ Some c.in-Some.parent = (ap (λ (n : Node). n.parent) (sym c.node.ensures) ∙ c.in-Some.is) in
     let u = c.linked.ensures.linked.parents c.loop-parent.at.number c.in-Some.parent c.loop-parent.invariant.there knows in
     let there : c.in-Some.parent.number < length c.args.tree.now = omega (arith, u.0, c.loop-parent.invariant.there) in
-    let is : (node_at c.args.tree.now c.in-Some.parent.number).end ≡ Split c.in-Split.variable c.in-Split.value c.in-Split.first c.in-Split.second = ap (λ (n : Node). n.end) (sym c.node-in-Some.ensures) ∙ c.in-Split.is in
-    let range = c.requires.splits.each c.in-Some.parent.number c.in-Split.variable c.in-Split.value c.in-Split.first c.in-Split.second there is in
-    omega (arith, range.0, c.requires.whole.length_low, c.loop-parent.auto.low)
+    let is : (node_at c.args.tree.now c.in-Some.parent.number).end ≡ Split c.in-Split.decision c.in-Split.first c.in-Split.second = ap (λ (n : Node). n.end) (sym c.node-in-Some.ensures) ∙ c.in-Split.is in
+    let range = c.requires.splits.each c.in-Some.parent.number c.in-Split.decision c.in-Split.first c.in-Split.second there is in
+    omega (arith, range.0, c.named-variable.ensures.variable, c.requires.whole.length_low, c.loop-parent.auto.low)
 
 pub bounds-low-x-then-eq : goal.bounds-low-x-then-eq
 bounds-low-x-then-eq c =
     let knows : (node_at c.args.tree.now c.loop-parent.at.number).parent ≡ Some c.in-Some.parent = (ap (λ (n : Node). n.parent) (sym c.node.ensures) ∙ c.in-Some.is) in
     let u = c.linked.ensures.linked.parents c.loop-parent.at.number c.in-Some.parent c.loop-parent.invariant.there knows in
     let there : c.in-Some.parent.number < length c.args.tree.now = omega (arith, u.0, c.loop-parent.invariant.there) in
-    let is : (node_at c.args.tree.now c.in-Some.parent.number).end ≡ Split c.in-Split.variable c.in-Split.value c.in-Split.first c.in-Split.second = ap (λ (n : Node). n.end) (sym c.node-in-Some.ensures) ∙ c.in-Split.is in
-    let range = c.requires.splits.each c.in-Some.parent.number c.in-Split.variable c.in-Split.value c.in-Split.first c.in-Split.second there is in
-    omega (arith, range.0, c.requires.whole.length_low, c.loop-parent.auto.low)
+    let is : (node_at c.args.tree.now c.in-Some.parent.number).end ≡ Split c.in-Split.decision c.in-Split.first c.in-Split.second = ap (λ (n : Node). n.end) (sym c.node-in-Some.ensures) ∙ c.in-Split.is in
+    let range = c.requires.splits.each c.in-Some.parent.number c.in-Split.decision c.in-Split.first c.in-Split.second there is in
+    omega (arith, range.0, c.named-variable.ensures.variable, c.requires.whole.length_low, c.loop-parent.auto.low)
 
 pub bounds-high-x : goal.bounds-high-x
 bounds-high-x c =
     let knows : (node_at c.args.tree.now c.loop-parent.at.number).parent ≡ Some c.in-Some.parent = (ap (λ (n : Node). n.parent) (sym c.node.ensures) ∙ c.in-Some.is) in
     let u = c.linked.ensures.linked.parents c.loop-parent.at.number c.in-Some.parent c.loop-parent.invariant.there knows in
     let there : c.in-Some.parent.number < length c.args.tree.now = omega (arith, u.0, c.loop-parent.invariant.there) in
-    let is : (node_at c.args.tree.now c.in-Some.parent.number).end ≡ Split c.in-Split.variable c.in-Split.value c.in-Split.first c.in-Split.second = ap (λ (n : Node). n.end) (sym c.node-in-Some.ensures) ∙ c.in-Split.is in
-    let range = c.requires.splits.each c.in-Some.parent.number c.in-Split.variable c.in-Split.value c.in-Split.first c.in-Split.second there is in
-    omega (arith, range.0, c.requires.whole.length_low, c.loop-parent.auto.high)
+    let is : (node_at c.args.tree.now c.in-Some.parent.number).end ≡ Split c.in-Split.decision c.in-Split.first c.in-Split.second = ap (λ (n : Node). n.end) (sym c.node-in-Some.ensures) ∙ c.in-Split.is in
+    let range = c.requires.splits.each c.in-Some.parent.number c.in-Split.decision c.in-Split.first c.in-Split.second there is in
+    omega (arith, range.0, c.named-variable.ensures.variable, c.requires.whole.length_low, c.loop-parent.auto.high)
 
 pub bounds-high-x-then-eq : goal.bounds-high-x-then-eq
 bounds-high-x-then-eq c =
     let knows : (node_at c.args.tree.now c.loop-parent.at.number).parent ≡ Some c.in-Some.parent = (ap (λ (n : Node). n.parent) (sym c.node.ensures) ∙ c.in-Some.is) in
     let u = c.linked.ensures.linked.parents c.loop-parent.at.number c.in-Some.parent c.loop-parent.invariant.there knows in
     let there : c.in-Some.parent.number < length c.args.tree.now = omega (arith, u.0, c.loop-parent.invariant.there) in
-    let is : (node_at c.args.tree.now c.in-Some.parent.number).end ≡ Split c.in-Split.variable c.in-Split.value c.in-Split.first c.in-Split.second = ap (λ (n : Node). n.end) (sym c.node-in-Some.ensures) ∙ c.in-Split.is in
-    let range = c.requires.splits.each c.in-Some.parent.number c.in-Split.variable c.in-Split.value c.in-Split.first c.in-Split.second there is in
-    omega (arith, range.0, c.requires.whole.length_low, c.loop-parent.auto.high)
+    let is : (node_at c.args.tree.now c.in-Some.parent.number).end ≡ Split c.in-Split.decision c.in-Split.first c.in-Split.second = ap (λ (n : Node). n.end) (sym c.node-in-Some.ensures) ∙ c.in-Split.is in
+    let range = c.requires.splits.each c.in-Some.parent.number c.in-Split.decision c.in-Split.first c.in-Split.second there is in
+    omega (arith, range.0, c.named-variable.ensures.variable, c.requires.whole.length_low, c.loop-parent.auto.high)
 
 pub bounds-low-x-else-eq : goal.bounds-low-x-else-eq
 bounds-low-x-else-eq c =
     let knows : (node_at c.args.tree.now c.loop-parent.at.number).parent ≡ Some c.in-Some.parent = (ap (λ (n : Node). n.parent) (sym c.node.ensures) ∙ c.in-Some.is) in
     let u = c.linked.ensures.linked.parents c.loop-parent.at.number c.in-Some.parent c.loop-parent.invariant.there knows in
     let there : c.in-Some.parent.number < length c.args.tree.now = omega (arith, u.0, c.loop-parent.invariant.there) in
-    let is : (node_at c.args.tree.now c.in-Some.parent.number).end ≡ Split c.in-Split.variable c.in-Split.value c.in-Split.first c.in-Split.second = ap (λ (n : Node). n.end) (sym c.node-in-Some.ensures) ∙ c.in-Split.is in
-    let range = c.requires.splits.each c.in-Some.parent.number c.in-Split.variable c.in-Split.value c.in-Split.first c.in-Split.second there is in
-    omega (arith, range.0, c.requires.whole.length_low, c.loop-parent.auto.low)
+    let is : (node_at c.args.tree.now c.in-Some.parent.number).end ≡ Split c.in-Split.decision c.in-Split.first c.in-Split.second = ap (λ (n : Node). n.end) (sym c.node-in-Some.ensures) ∙ c.in-Split.is in
+    let range = c.requires.splits.each c.in-Some.parent.number c.in-Split.decision c.in-Split.first c.in-Split.second there is in
+    omega (arith, range.0, c.named-variable.ensures.variable, c.requires.whole.length_low, c.loop-parent.auto.low)
 
 pub bounds-low-x-else-eq-2 : goal.bounds-low-x-else-eq-2
 bounds-low-x-else-eq-2 c =
     let knows : (node_at c.args.tree.now c.loop-parent.at.number).parent ≡ Some c.in-Some.parent = (ap (λ (n : Node). n.parent) (sym c.node.ensures) ∙ c.in-Some.is) in
     let u = c.linked.ensures.linked.parents c.loop-parent.at.number c.in-Some.parent c.loop-parent.invariant.there knows in
     let there : c.in-Some.parent.number < length c.args.tree.now = omega (arith, u.0, c.loop-parent.invariant.there) in
-    let is : (node_at c.args.tree.now c.in-Some.parent.number).end ≡ Split c.in-Split.variable c.in-Split.value c.in-Split.first c.in-Split.second = ap (λ (n : Node). n.end) (sym c.node-in-Some.ensures) ∙ c.in-Split.is in
-    let range = c.requires.splits.each c.in-Some.parent.number c.in-Split.variable c.in-Split.value c.in-Split.first c.in-Split.second there is in
-    omega (arith, range.0, c.requires.whole.length_low, c.loop-parent.auto.low)
+    let is : (node_at c.args.tree.now c.in-Some.parent.number).end ≡ Split c.in-Split.decision c.in-Split.first c.in-Split.second = ap (λ (n : Node). n.end) (sym c.node-in-Some.ensures) ∙ c.in-Split.is in
+    let range = c.requires.splits.each c.in-Some.parent.number c.in-Split.decision c.in-Split.first c.in-Split.second there is in
+    omega (arith, range.0, c.named-variable.ensures.variable, c.requires.whole.length_low, c.loop-parent.auto.low)
 
 pub overflow_add-value : goal.overflow_add-value
 overflow_add-value c =
     let knows : (node_at c.args.tree.now c.loop-parent.at.number).parent ≡ Some c.in-Some.parent = (ap (λ (n : Node). n.parent) (sym c.node.ensures) ∙ c.in-Some.is) in
     let u = c.linked.ensures.linked.parents c.loop-parent.at.number c.in-Some.parent c.loop-parent.invariant.there knows in
     let there : c.in-Some.parent.number < length c.args.tree.now = omega (arith, u.0, c.loop-parent.invariant.there) in
-    let is : (node_at c.args.tree.now c.in-Some.parent.number).end ≡ Split c.in-Split.variable c.in-Split.value c.in-Split.first c.in-Split.second = ap (λ (n : Node). n.end) (sym c.node-in-Some.ensures) ∙ c.in-Split.is in
-    let range = c.requires.splits.each c.in-Some.parent.number c.in-Split.variable c.in-Split.value c.in-Split.first c.in-Split.second there is in
-    let small : c.in-Split.value < MOST_VALUES = range.2 in omega (arith, small)
+    let is : (node_at c.args.tree.now c.in-Some.parent.number).end ≡ Split c.in-Split.decision c.in-Split.first c.in-Split.second = ap (λ (n : Node). n.end) (sym c.node-in-Some.ensures) ∙ c.in-Split.is in
+    let range = c.requires.splits.each c.in-Some.parent.number c.in-Split.decision c.in-Split.first c.in-Split.second there is in
+    omega (arith, range.2, c.named-variable.ensures.value)
 
 pub overflow_add-value-else-eq : goal.overflow_add-value-else-eq
 overflow_add-value-else-eq c =
     let knows : (node_at c.args.tree.now c.loop-parent.at.number).parent ≡ Some c.in-Some.parent = (ap (λ (n : Node). n.parent) (sym c.node.ensures) ∙ c.in-Some.is) in
     let u = c.linked.ensures.linked.parents c.loop-parent.at.number c.in-Some.parent c.loop-parent.invariant.there knows in
     let there : c.in-Some.parent.number < length c.args.tree.now = omega (arith, u.0, c.loop-parent.invariant.there) in
-    let is : (node_at c.args.tree.now c.in-Some.parent.number).end ≡ Split c.in-Split.variable c.in-Split.value c.in-Split.first c.in-Split.second = ap (λ (n : Node). n.end) (sym c.node-in-Some.ensures) ∙ c.in-Split.is in
-    let range = c.requires.splits.each c.in-Some.parent.number c.in-Split.variable c.in-Split.value c.in-Split.first c.in-Split.second there is in
-    let small : c.in-Split.value < MOST_VALUES = range.2 in omega (arith, small)
+    let is : (node_at c.args.tree.now c.in-Some.parent.number).end ≡ Split c.in-Split.decision c.in-Split.first c.in-Split.second = ap (λ (n : Node). n.end) (sym c.node-in-Some.ensures) ∙ c.in-Split.is in
+    let range = c.requires.splits.each c.in-Some.parent.number c.in-Split.decision c.in-Split.first c.in-Split.second there is in
+    omega (arith, range.2, c.named-variable.ensures.value)
 
 pub loop-parent-smaller-then-eq : goal.loop-parent-smaller-then-eq
 loop-parent-smaller-then-eq c =
@@ -120,16 +119,16 @@ loop-parent-preserved-then-eq c =
     let knows : (node_at c.args.tree.now c.loop-parent.at.number).parent ≡ Some c.in-Some.parent = (ap (λ (n : Node). n.parent) (sym c.node.ensures) ∙ c.in-Some.is) in
     let u = c.linked.ensures.linked.parents c.loop-parent.at.number c.in-Some.parent c.loop-parent.invariant.there knows in
     let there : c.in-Some.parent.number < length c.args.tree.now = omega (arith, u.0, c.loop-parent.invariant.there) in
-    let is : (node_at c.args.tree.now c.in-Some.parent.number).end ≡ Split c.in-Split.variable c.in-Split.value c.in-Split.first c.in-Split.second = ap (λ (n : Node). n.end) (sym c.node-in-Some.ensures) ∙ c.in-Split.is in
-    let range = c.requires.splits.each c.in-Some.parent.number c.in-Split.variable c.in-Split.value c.in-Split.first c.in-Split.second there is in
-    let in_low : c.in-Split.variable < length c.loop-parent.low = omega (arith, range.0, c.requires.whole.length_low, c.loop-parent.auto.low) in
-    let in_high : c.in-Split.variable < length c.loop-parent.high = omega (arith, range.0, c.loop-parent.auto.high) in
+    let is : (node_at c.args.tree.now c.in-Some.parent.number).end ≡ Split c.in-Split.decision c.in-Split.first c.in-Split.second = ap (λ (n : Node). n.end) (sym c.node-in-Some.ensures) ∙ c.in-Split.is in
+    let range = c.requires.splits.each c.in-Some.parent.number c.in-Split.decision c.in-Split.first c.in-Split.second there is in
+    let in_low : c.named-variable.result.0 < length c.loop-parent.low = omega (arith, range.0, c.named-variable.ensures.variable, c.requires.whole.length_low, c.loop-parent.auto.low) in
+    let in_high : c.named-variable.result.0 < length c.loop-parent.high = omega (arith, range.0, c.named-variable.ensures.variable, c.loop-parent.auto.high) in
     record {
       there = there;
-      small = λ y h. subst (λ v. slice_index (Rattle.std.proofs.Common.set c.loop-parent.high c.in-Split.variable v) y ≤ slice_index c.args.high.now y) (sym c.min.ensures) (still_small c.loop-parent.high c.args.high.now c.in-Split.variable _ (omega arith) c.loop-parent.invariant.small in_high y h);
-      rest = λ history before. subst (λ v. Rest c.args.high.now c.args.tree.now c.in-Some.parent.number (Rattle.std.proofs.Common.set c.loop-parent.low c.in-Split.variable v) (Rattle.std.proofs.Common.set c.loop-parent.high c.in-Split.variable c.min.result) history) (sym c.max.ensures)
-          (subst (λ v. Rest c.args.high.now c.args.tree.now c.in-Some.parent.number (Rattle.std.proofs.Common.set c.loop-parent.low c.in-Split.variable (max (slice_index c.loop-parent.low c.in-Split.variable) c.in-Split.value)) (Rattle.std.proofs.Common.set c.loop-parent.high c.in-Split.variable v) history) (sym c.min.ensures)
-          (rest_first c.args.high.now c.args.tree.now c.loop-parent.at.number c.in-Some.parent c.in-Split.variable c.in-Split.value c.in-Split.first c.in-Split.second c.loop-parent.low c.loop-parent.high history c.linked.ensures.linked knows is in_low in_high (c.loop-parent.invariant.rest history before) (same_from _ _ _ c.eq.ensures c.if-eq.true)));
+      small = λ y h. subst (λ v. slice_index (Rattle.std.proofs.Common.set c.loop-parent.high c.named-variable.result.0 v) y ≤ slice_index c.args.high.now y) (sym c.min.ensures) (still_small c.loop-parent.high c.args.high.now c.named-variable.result.0 _ (omega arith) c.loop-parent.invariant.small in_high y h);
+      rest = λ history before. subst (λ v. Rest c.args.high.now c.args.tree.now c.in-Some.parent.number (Rattle.std.proofs.Common.set c.loop-parent.low c.named-variable.result.0 v) (Rattle.std.proofs.Common.set c.loop-parent.high c.named-variable.result.0 c.min.result) history) (sym c.max.ensures)
+          (subst (λ v. Rest c.args.high.now c.args.tree.now c.in-Some.parent.number (Rattle.std.proofs.Common.set c.loop-parent.low c.named-variable.result.0 (max (slice_index c.loop-parent.low c.named-variable.result.0) c.named-variable.result.1)) (Rattle.std.proofs.Common.set c.loop-parent.high c.named-variable.result.0 v) history) (sym c.min.ensures)
+          (first_met c.args.high.now c.args.tree.now c.loop-parent.at.number c.in-Some.parent c.in-Split.decision c.in-Split.first c.in-Split.second c.loop-parent.low c.loop-parent.high history c.linked.ensures.linked knows is (subst (λ x. x < length c.loop-parent.low) c.named-variable.ensures.variable in_low) (subst (λ x. x < length c.loop-parent.high) c.named-variable.ensures.variable in_high) (c.loop-parent.invariant.rest history before) c.named-variable.result.0 c.named-variable.result.1 c.named-variable.ensures.variable c.named-variable.ensures.value (same_from _ _ _ c.eq.ensures c.if-eq.true)));
     }
 
 pub loop-parent-preserved-else-eq : goal.loop-parent-preserved-else-eq
@@ -137,15 +136,15 @@ loop-parent-preserved-else-eq c =
     let knows : (node_at c.args.tree.now c.loop-parent.at.number).parent ≡ Some c.in-Some.parent = (ap (λ (n : Node). n.parent) (sym c.node.ensures) ∙ c.in-Some.is) in
     let u = c.linked.ensures.linked.parents c.loop-parent.at.number c.in-Some.parent c.loop-parent.invariant.there knows in
     let there : c.in-Some.parent.number < length c.args.tree.now = omega (arith, u.0, c.loop-parent.invariant.there) in
-    let is : (node_at c.args.tree.now c.in-Some.parent.number).end ≡ Split c.in-Split.variable c.in-Split.value c.in-Split.first c.in-Split.second = ap (λ (n : Node). n.end) (sym c.node-in-Some.ensures) ∙ c.in-Split.is in
-    let range = c.requires.splits.each c.in-Some.parent.number c.in-Split.variable c.in-Split.value c.in-Split.first c.in-Split.second there is in
-    let in_low : c.in-Split.variable < length c.loop-parent.low = omega (arith, range.0, c.requires.whole.length_low, c.loop-parent.auto.low) in
-    let in_high : c.in-Split.variable < length c.loop-parent.high = omega (arith, range.0, c.loop-parent.auto.high) in
+    let is : (node_at c.args.tree.now c.in-Some.parent.number).end ≡ Split c.in-Split.decision c.in-Split.first c.in-Split.second = ap (λ (n : Node). n.end) (sym c.node-in-Some.ensures) ∙ c.in-Split.is in
+    let range = c.requires.splits.each c.in-Some.parent.number c.in-Split.decision c.in-Split.first c.in-Split.second there is in
+    let in_low : c.named-variable.result.0 < length c.loop-parent.low = omega (arith, range.0, c.named-variable.ensures.variable, c.requires.whole.length_low, c.loop-parent.auto.low) in
+    let in_high : c.named-variable.result.0 < length c.loop-parent.high = omega (arith, range.0, c.named-variable.ensures.variable, c.loop-parent.auto.high) in
     record {
       there = there;
       small = c.loop-parent.invariant.small;
-      rest = λ history before. subst (λ v. Rest c.args.high.now c.args.tree.now c.in-Some.parent.number (Rattle.std.proofs.Common.set c.loop-parent.low c.in-Split.variable v) c.loop-parent.high history) (sym c.max-else-eq.ensures)
-          (rest_second c.args.high.now c.args.tree.now c.loop-parent.at.number c.in-Some.parent c.in-Split.variable c.in-Split.value c.in-Split.first c.in-Split.second c.loop-parent.low c.loop-parent.high history c.linked.ensures.linked knows is in_low in_high (c.loop-parent.invariant.rest history before) (other_from _ _ _ c.eq.ensures c.if-eq.false));
+      rest = λ history before. subst (λ v. Rest c.args.high.now c.args.tree.now c.in-Some.parent.number (Rattle.std.proofs.Common.set c.loop-parent.low c.named-variable.result.0 v) c.loop-parent.high history) (sym c.max-else-eq.ensures)
+          (second_met c.args.high.now c.args.tree.now c.loop-parent.at.number c.in-Some.parent c.in-Split.decision c.in-Split.first c.in-Split.second c.loop-parent.low c.loop-parent.high history c.linked.ensures.linked knows is (subst (λ x. x < length c.loop-parent.low) c.named-variable.ensures.variable in_low) (subst (λ x. x < length c.loop-parent.high) c.named-variable.ensures.variable in_high) (c.loop-parent.invariant.rest history before) c.named-variable.result.0 c.named-variable.result.1 c.named-variable.ensures.variable c.named-variable.ensures.value (other_from _ _ _ c.eq.ensures c.if-eq.false));
     }
 
 -- a parent is a split
@@ -154,7 +153,7 @@ loop-parent-preserved c =
     let knows : (node_at c.args.tree.now c.loop-parent.at.number).parent ≡ Some c.in-Some.parent = ap (λ (n : Node). n.parent) (sym c.node.ensures) ∙ c.in-Some.is in
     let u = c.linked.ensures.linked.parents c.loop-parent.at.number c.in-Some.parent c.loop-parent.invariant.there knows in
     let child = named (node_at c.args.tree.now c.in-Some.parent.number).end c.loop-parent.at.number u.1 in
-    absurd (c.in_default-end.not-Split child.0 child.1 child.2 child.3 (ap (λ (n : Node). n.end) c.node-in-Some.ensures ∙ child.4))
+    absurd (c.in_default-end.not-Split child.0 child.1 child.2 (ap (λ (n : Node). n.end) c.node-in-Some.ensures ∙ child.3))
 
 pub returns : goal.returns
 returns c = λ history before.

@@ -10,7 +10,7 @@ returns c =
     let s = c.args.self in
     let len : (Rattle.std.specs.Prelude.vec_len s.leaves) ≡ length s.leaves.items = s.leaves.ok.0 in
     searched P c.args.budget s.tree s.leaves.items s.best s.nodes c.args.lowest c.limits.ensures c.linked.ensures c.requires.sound.sound c.requires.lowest c.requires.swept c.requires.allowed
-    _ c.args.rows.items c.if-is_done-2.stop c.variables.ensures c.functions.ensures c.ub.ensures c.held.ensures.solution refl
+    _ c.args.rows.items c.if-is_done-2.stop c.variables.ensures c.functions.ensures c.ub.ensures refl c.held.ensures.solution refl
     (elim c.if-is_done.branch [
       | then-is_done w ↦ inl (empty_from _ _ c.is_empty-is_done.ensures w.if-is_done.true len, w.lower-is ∙ c.price-price.ensures)
       | else-is_done w ↦ inr (some_from _ _ c.is_empty-is_done.ensures w.if-is_done.false len, w.lower-is)
