@@ -1,7 +1,7 @@
 -- The next word of a line, and the number that a word is.
-use Rattle.std.proofs.Common.{◌≡◌, ℕ, zero, suc, ◌+◌, ◌-◌, ◌<◌, ◌≤◌, Bool, true, false, List, [], ◌∷◌, length, take, drop, refl, sym, ap, ◌∙◌, arith, add-one, inl, inr}
+use Rattle.std.proofs.Common.{◌≡◌, ℕ, zero, suc, ◌+◌, ◌-◌, ◌<◌, ◌≤◌, Bool, true, false, List, [], ◌∷◌, length, take, drop, get_or, refl, sym, ap, ap₂, ◌∙◌, arith, add-one, inl, inr}
 use Rattle.std.proofs.lemmas.Bool.{cases_Bool, cases_lt, lt-ltb, le-ltb, and_parts, leb-true, ne_eqb}
-use Rattle.std.proofs.lemmas.List.{take_rest}
+use Rattle.std.proofs.lemmas.List.{take_rest, drop_all, drop_more}
 use Rattle.std.proofs.Math.Numerals.{one-add}
 use Rattle.std.specs.Prelude.{Option, Some, None, Ok, Err, Result, ℤ, position, ◌==◌, nat_le, unsigned_abs, is_some, unwrap_or}
 use Rattle.std.specs.List.{list_all, position_or_len}
@@ -208,3 +208,15 @@ values_fail words n rest e none = of_values words n rest e ∙ by_others (number
 
 pub values_said : (words : List (List ℕ)) (n : ℕ) (rest : List (List ℕ)) → number_from words ≡ Some (n, rest) → is_some (numbers_in rest) ≡ true → are_values words ≡ Some (Values (n ∷ values_of rest))
 values_said words n rest e some = of_values words n rest e ∙ ap (said (Some n)) (its_values rest some)
+
+-- a word with the bytes of a key
+abbrev pub SameFrom : List ℕ → ℕ → List ℕ → Type 0
+SameFrom word p [] = Unit {0}
+SameFrom word p (b ∷ key) = (get_or word p 0 ≡ b) × SameFrom word (p + 1) key
+
+same_from : (word key : List ℕ) (p : ℕ) → length word ≡ p + length key → SameFrom word p key → drop p word ≡ key
+same_from word [] p long same = drop_all p word (omega (arith, long))
+same_from word (b ∷ key) p long same = drop_more word p 0 (omega (arith, long)) ∙ ap₂ (λ x xs. x ∷ xs) same.0 (same_from word key (p + 1) (omega (arith, long)) same.1)
+
+pub spelled : (word key : List ℕ) → length word ≡ length key → SameFrom word 0 key → word ≡ key
+spelled word key long same = same_from word key 0 (omega (arith, long)) same
