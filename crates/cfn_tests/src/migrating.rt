@@ -16,14 +16,14 @@ fn certificate(rt: &HostRuntime, first: &[u8], lines: &[u8]) -> Result<Vec<u8>, 
 }
 
 /// A run over the files `in` and `cert`, where these calls fail.
-fn migrated(
-    rt: &HostRuntime,
-    text: &[u8],
-    out: &str,
-    failing: &[u64],
-) -> Result<Run, AllocError> {
+fn migrated(rt: &HostRuntime, text: &[u8], out: &str, failing: &[u64]) -> Result<Run, AllocError> {
     let files = [("in", TINY), ("cert", text)];
-    Run::over(rt, &["wcspsolve", "migrate", "in", "cert", out], &files, failing)
+    Run::over(
+        rt,
+        &["wcspsolve", "migrate", "in", "cert", out],
+        &files,
+        failing,
+    )
 }
 
 #[test]
