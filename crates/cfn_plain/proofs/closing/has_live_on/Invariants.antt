@@ -1,6 +1,6 @@
 use Rattle.std.proofs.Common.{◌≡◌, ℕ, ◌<◌}
 use Rattle.std.specs.Prelude.{IsFalse}
-use Rattle.cfn_model.specs.Decisions.{variable_of, keeps}
+use Rattle.cfn_model.specs.Decisions.{keeps}
 use Rattle.cfn_model.specs.Sums.{is_live}
 use Rattle.cfn_plain.proofs.closing.has_live_on.Given as goal
 
