@@ -4,12 +4,13 @@ use Rattle.std.specs.Prelude.{slice_index}
 use Rattle.cfn_model.specs.declared.step.Decision.TheVariants.{Is}
 use Rattle.cfn_model.specs.Network.{Network}
 use Rattle.cfn_model.specs.Sums.{floor}
-use Rattle.cfn_core.specs.Pool.{Free, Out, Leaf, Fork, IsPiece}
-use Rattle.cfn_core.specs.World.{World, new_view, opening}
-use Rattle.cfn_core.specs.Actions.{Answers, Reply, taken, noted, given, all_back, IsFirst, take_task, take_spent, give_done, give_gone}
+use Rattle.cfn_machine.specs.Pool.{Free, Out, Leaf, Fork, IsPiece, new_view}
+use Rattle.cfn_machine.specs.Steps.{IsFirst, AllSpent}
+use Rattle.cfn_core.specs.World.{World, opening}
+use Rattle.cfn_core.specs.Actions.{Answers, Reply, taken, noted, given, all_back, take_task, take_none, give_done, give_gone}
 use Rattle.cfn_core.specs.Examples.{IsSplittable, one_variable, root_task, root_split, SplitSpends, RecallRefuses}
 use Rattle.cfn_model.proofs.CallerLemmas.{small_took, small_refused}
-use Rattle.cfn_core.proofs.Keeping.{opening_small}
+use Rattle.cfn_machine.proofs.CallerLemmas.{opening_small}
 
 just : {due : Reply} {left : World} → Answers due left due left
 just = record { reply = refl; world = refl }
@@ -58,20 +59,20 @@ is_splittable = record {
 pub split_spends : SplitSpends
 split_spends P is = (
   (tt, (tt, (split_piece P is, (tt, tt)))),
-  let w1 : World = taken (opening P 1 1) (root_task P) (Leaf 0 (Out 0 1)) in
+  let w1 : World = taken (opening P 1 1) (root_task P) (record (opening P 1 1).pool { tree = Leaf 0 (Out 0 1) }) in
       let w2 : World = noted w1 (new_view P 1) in
-      let w3 : World = given w2 (root_split P) 0 (Fork [] (Is 0 0) (Leaf 1 Free) (Leaf 2 Free)) in (
+      let w3 : World = given w2 (root_split P) 0 (record w2.pool { tree = Fork [] (Is 0 0) (Leaf 1 Free) (Leaf 2 Free); next = 3; nodes = 1; view = record w2.pool.view { seen = w2.word } }) in (
         w3,
         (
           w1,
-          take_task 0 [] (root_task P) (Leaf 0 (Out 0 1)) (omega arith, omega arith) (λ e. omega (arith, e)) (λ e. omega (arith, e)) (root_first P) refl (refl, refl, refl, refl) just,
+          take_task (root_task P) w1.pool (omega arith, omega arith) (record { wants = omega arith; unspent = λ e. omega (arith, e); room = λ e. omega (arith, e); first = root_first P; handed = refl; tree = Leaf 0 (Out 0 1); marked = (refl, refl, refl, refl); left = refl }) just,
           (
             w2,
             just,
             (
               w3,
-              give_done (Fork [] (Is 0 0) (Leaf 1 Free) (Leaf 2 Free)) (omega arith, is.low) (refl, refl, refl, refl) just,
-              (w3, take_spent (omega arith, omega arith) (omega arith) refl just, refl),
+              give_done w3.pool (omega arith, is.low) (record { tree = Fork [] (Is 0 0) (Leaf 1 Free) (Leaf 2 Free); placed = (refl, refl, refl, refl); left = refl }) just,
+              (w3, take_none AllSpent (omega arith, omega arith) (omega arith, refl) just, refl),
             ),
           ),
         ),
@@ -82,15 +83,15 @@ split_spends P is = (
 pub recall_refuses : RecallRefuses
 recall_refuses P is = (
   (tt, (tt, (tt, (split_piece P is, tt)))),
-  let w1 : World = taken (opening P 1 2) (root_task P) (Leaf 0 (Out 0 1)) in
+  let w1 : World = taken (opening P 1 2) (root_task P) (record (opening P 1 2).pool { tree = Leaf 0 (Out 0 1) }) in
       let w2 : World = noted w1 (new_view P 1) in
       let w3 : World = all_back w2 in
-      let w4 : World = taken w3 (root_task P) (Leaf 0 (Out 0 1)) in (
+      let w4 : World = taken w3 (root_task P) (record w3.pool { tree = Leaf 0 (Out 0 1) }) in (
         w3,
         w4,
         (
           w1,
-          take_task 0 [] (root_task P) (Leaf 0 (Out 0 1)) (omega arith, omega arith) (λ e. omega (arith, e)) (λ e. omega (arith, e)) (root_first P) refl (refl, refl, refl, refl) just,
+          take_task (root_task P) w1.pool (omega arith, omega arith) (record { wants = omega arith; unspent = λ e. omega (arith, e); room = λ e. omega (arith, e); first = root_first P; handed = refl; tree = Leaf 0 (Out 0 1); marked = (refl, refl, refl, refl); left = refl }) just,
           (
             w2,
             just,
@@ -102,6 +103,6 @@ recall_refuses P is = (
           ),
         ),
         refl,
-        (w4, take_task 0 [] (root_task P) (Leaf 0 (Out 0 1)) (omega arith, omega arith) (λ e. omega (arith, e)) (λ e. omega (arith, e)) (root_first P) refl (refl, refl, refl, refl) just, refl),
+        (w4, take_task (root_task P) w4.pool (omega arith, omega arith) (record { wants = omega arith; unspent = λ e. omega (arith, e); room = λ e. omega (arith, e); first = root_first P; handed = refl; tree = Leaf 0 (Out 0 1); marked = (refl, refl, refl, refl); left = refl }) just, refl),
       ),
 )

@@ -1,31 +1,17 @@
 -- Each action keeps the pool sound and the word's rule.
-use Rattle.std.proofs.Common.{◌≡◌, ℕ, ◌+◌, ◌-◌, ◌<◌, ◌≤◌, inl, inr, min, List, [], ◌∷◌, refl, sym, ap, subst, arith, Option, Some, None, slice_set, ◌^◌}
-use Rattle.std.proofs.lemmas.Int.{ints}
-use Rattle.std.specs.Prelude.{Bool, true, false, pos, ◌<ℤ◌, nat_lt}
-use Rattle.cfn_model.specs.declared.step.Event.{Event}
-use Rattle.cfn_model.specs.declared.step.Event.TheVariants.{Took, Refused}
-use Rattle.cfn_model.specs.Network.{Network, IsNetwork, arity, entry_at, cell, dims, function_at}
-use Rattle.cfn_model.specs.Sums.{when}
-use Rattle.cfn_model.specs.Steps.{after}
-use Rattle.cfn_model.specs.Tree.{count, splits, Valid, Strict}
+use Rattle.std.proofs.Common.{◌≡◌, ℕ, ◌+◌, ◌-◌, ◌<◌, ◌≤◌, inl, inr, min, List, [], ◌∷◌, refl, sym, ap, subst, arith, Option, Some, None, slice_set}
+use Rattle.cfn_model.specs.Network.{Network}
+use Rattle.cfn_model.specs.Tree.{Valid}
 use Rattle.cfn_model.proofs.CallerLemmas.{valid_lower}
-use Rattle.cfn_model.specs.Paths.{HasSmallCosts, Tame}
-use Rattle.cfn_core.specs.Pool.{Mark, Free, Out, PoolTree, Leaf, Shut, Fork, tree_of, Replaced, grant_of, granted, numbered, recalled, Task, Piece, IsPiece, View, Pool, IsSound}
-use Rattle.cfn_core.specs.World.{World, price, cheaper, view_at, note_at, least_price, shares_of, KeepsFitting, IsView, HasWordRule, new_view}
-use Rattle.cfn_core.specs.Actions.{Action, Look, Lower, Note, Meet, Take, Give, Back, Recall, Sweep, Reply, Answers, looked, lowered, noted, joined, met, task_for, taken, Takes, take_idle, take_empty, take_spent, take_again, take_task, CanGive, given, Gives, give_idle, give_gone, give_done, returned, Returns, back_idle, back_not, back_done, all_back, cleared, Runs, AreActions}
+use Rattle.cfn_machine.specs.Pool.{tree_of, Task, Piece, IsPiece, View, Pool, IsSound, price, cheaper, KeepsFitting, new_view}
+use Rattle.cfn_machine.specs.Steps.{PoolTakes, PoolGives, PoolReturns, pool_recalled, pool_swept, pool_met}
+use Rattle.cfn_machine.specs.Steps.{Takes as Taking, Gives as Giving, Returns as Returning, Recalls, Sweeps, Meets}
+use Rattle.cfn_core.specs.World.{World, view_at, note_at, least_price, shares_of, IsView, HasWordRule}
+use Rattle.cfn_core.specs.Actions.{Action, Look, Lower, Note, Meet, Take, Give, Back, Recall, Sweep, Reply, Answers, looked, lowered, noted, met, taken, Takes, take_idle, take_none, take_task, CanGive, given, Gives, give_idle, give_gone, give_done, returned, Returns, back_idle, back_not, back_done, all_back, cleared, Runs, AreActions}
 use Rattle.cfn_core.specs.Laws.{IsWorld, Opens, Keeps}
-use Rattle.cfn_core.proofs.Placing.{replaced_valid, replaced_strict, replaced_tame, replaced_count, replaced_splits, replaced_granted, numbered_is, numbered_granted, recalled_is, recalled_granted, swept_valid, swept_strict, swept_tame, swept_granted, swept_count, swept_splits, splits_count}
-use Rattle.cfn_core.proofs.Views.{by_option, set_at, behind_at, nothing, same_some, price_low, cheaper_price, cheaper_keeps, least_lowered, least_same, least_met, shares_set, opening_least, opening_shares, opening_view}
-
--- a leaf of a tame tree has small costs
-replaced_small : (P : Network) (n : ℕ) (mark : Mark) (path : List Event) (place tree : PoolTree) (history : List Event) (new : PoolTree) →
-    Replaced tree history n mark path place new → Tame P history (tree_of tree) → HasSmallCosts P path
-replaced_small P n mark path place (Leaf number m) history new at tame = subst (HasSmallCosts P) (sym at.2) tame
-replaced_small P n mark path place (Shut block) history new at tame = absurd at
-replaced_small P n mark path place (Fork block d first second) history new (inl at) tame =
-    replaced_small P n mark path place first (Took d ∷ after block history) at.0 at.1 tame.1
-replaced_small P n mark path place (Fork block d first second) history new (inr at) tame =
-    replaced_small P n mark path place second (Refused d ∷ after block history) at.0 at.1 tame.2
+use Rattle.cfn_machine.proofs.CallerLemmas.{keeps_sound, cheaper_price, cheaper_keeps}
+use Rattle.cfn_machine.proofs.CallerLemmas as machine
+use Rattle.cfn_core.proofs.Views.{by_option, set_at, behind_at, nothing, same_some, price_low, least_lowered, least_same, least_met, shares_set, opening_least, opening_shares, opening_view}
 
 module _ (P : Network) (w : World) (holds : IsWorld P w) where
   sound : IsSound P w.pool
@@ -96,21 +82,9 @@ module _ (P : Network) (w : World) (holds : IsWorld P w) where
     };
   }
 
-  -- the pool's tree stays valid at a smaller threshold
-  seen_kept : (view : View) → view.seen ≤ w.pool.view.seen → IsSound P (record w.pool { view = view })
-  seen_kept view low = record {
-    seen = omega (arith, sound.seen);
-    valid = valid_lower P [] (tree_of w.pool.tree) w.pool.view.seen view.seen low sound.valid;
-    strict = sound.strict;
-    tame = sound.tame;
-    expanded = sound.expanded;
-    counted = sound.counted;
-    within = sound.within;
-  }
-
   meet_kept : (i : ℕ) (view : View) → view_at w.views i ≡ Some view → IsWorld P (met P w i view)
   meet_kept i view is = record {
-    sound = seen_kept (joined P w.pool.view view) (omega arith);
+    sound = keeps_sound P w.pool (pool_met P w.pool view) w.word (Meets view) (rule.views i view is).keeps sound refl;
     word = record {
       least = omega (arith, rule.least, least_met P w.views i view is, cheaper_price P w.pool.view.best view.best);
       pool = record {
@@ -126,19 +100,6 @@ module _ (P : Network) (w : World) (holds : IsWorld P w) where
     };
   }
 
-  -- a leaf gets another mark
-  mark_kept : (n : ℕ) (mark other : Mark) (path : List Event) (tree : PoolTree) → Replaced w.pool.tree [] n mark path (Leaf n other) tree →
-      w.pool.nodes + granted w.pool.tree + grant_of other ≤ w.pool.budget + grant_of mark → IsSound P (record w.pool { tree = tree })
-  mark_kept n mark other path tree at room = record {
-    seen = sound.seen;
-    valid = replaced_valid n mark path (Leaf n other) P w.pool.view.seen w.pool.tree [] tree at tt sound.valid;
-    strict = replaced_strict n mark path (Leaf n other) P w.pool.tree [] tree at tt sound.strict;
-    tame = replaced_tame n mark path (Leaf n other) P w.pool.tree [] tree at (replaced_small P n mark path (Leaf n other) w.pool.tree [] tree at sound.tame) sound.tame;
-    expanded = omega (arith, sound.expanded, replaced_splits n mark path (Leaf n other) w.pool.tree [] tree at);
-    counted = omega (arith, sound.counted, replaced_count n mark path (Leaf n other) w.pool.tree [] tree at);
-    within = omega (arith, sound.within, room, replaced_granted n mark path (Leaf n other) w.pool.tree [] tree at);
-  }
-
   -- the word's rule speaks of the pool's view alone
   rule_kept : (pool : Pool) (hands : List Task) → pool.view ≡ w.pool.view → HasWordRule P (record w { pool = pool; hands = hands })
   rule_kept pool hands same = record {
@@ -151,19 +112,16 @@ module _ (P : Network) (w : World) (holds : IsWorld P w) where
     all = subst (λ (v : View). v.shares + shares_of w.views ≡ 128) (sym same) rule.all;
   }
 
-  take_kept : (worker want n : ℕ) (path : List Event) (task : Task) (tree : PoolTree) → task ≡ task_for P w worker want n path →
-      Replaced w.pool.tree [] n Free path (Leaf n (Out worker task.grant)) tree → IsWorld P (taken w task tree)
-  take_kept worker want n path task tree is at =
-      let g : task.grant ≡ min want (w.pool.budget - (w.pool.nodes + granted w.pool.tree)) = ap (λ (t : Task). t.grant) is in
-      record {
-        sound = mark_kept n Free (Out worker task.grant) path tree at (omega (arith, g, sound.within));
-        word = rule_kept (record w.pool { tree = tree }) (task ∷ w.hands) refl;
-      }
+  take_kept : (worker want : ℕ) (task : Task) (pool : Pool) → PoolTakes P w.pool worker want task pool → IsWorld P (taken w task pool)
+  take_kept worker want task pool takes = record {
+    sound = keeps_sound P w.pool pool w.word (Taking worker want task) tt sound takes;
+    word = rule_kept pool (task ∷ w.hands) (ap (λ (p : Pool). p.view) takes.left);
+  }
 
-  back_kept : (task : Task) (path : List Event) (tree : PoolTree) → Replaced w.pool.tree [] task.leaf (Out task.worker task.grant) path (Leaf task.leaf Free) tree → IsWorld P (returned w task tree)
-  back_kept task path tree at = record {
-    sound = mark_kept task.leaf (Out task.worker task.grant) Free path tree at (omega (arith, sound.within));
-    word = rule_kept (record w.pool { tree = tree }) _ refl;
+  back_kept : (task : Task) (pool : Pool) → PoolReturns w.pool task pool → IsWorld P (returned w task pool)
+  back_kept task pool returns = record {
+    sound = keeps_sound P w.pool pool w.word (Returning task) tt sound returns;
+    word = rule_kept pool _ (ap (λ (p : Pool). p.view) returns.left);
   }
 
   -- the word's rule where the pool sees the word
@@ -179,53 +137,23 @@ module _ (P : Network) (w : World) (holds : IsWorld P w) where
     all = subst (λ (v : View). v.shares + shares_of w.views ≡ 128) (sym same) rule.all;
   }
 
-  give_kept : (piece : Piece) (note : ℕ) (tree : PoolTree) → IsPiece P piece → CanGive w piece note →
-      Replaced w.pool.tree [] piece.task.leaf (Out piece.task.worker piece.task.grant) piece.task.path (numbered w.pool.next piece.tree) tree → IsWorld P (given w piece note tree)
-  give_kept piece note tree is can at =
-      let mark = Out piece.task.worker piece.task.grant in
-      let path = piece.task.path in
-      let place = numbered w.pool.next piece.tree in
-      let same : tree_of place ≡ piece.tree = numbered_is piece.tree w.pool.next is.empty in
+  give_kept : (piece : Piece) (note : ℕ) (pool : Pool) → IsPiece P piece → CanGive w piece note → PoolGives w.pool w.word piece pool → IsWorld P (given w piece note pool)
+  give_kept piece note pool is can gives =
       let low : w.word ≤ piece.threshold = by_option (note_at w.notes note) can.1 (λ n. absurd n) (λ seen there upto. omega (arith, upto, (rule.notes note seen there).0)) in
-      let piece_valid : Valid P path (tree_of place) w.word = subst (λ t. Valid P path t w.word) (sym same) (valid_lower P path piece.tree piece.threshold w.word low is.valid) in
       record {
-        sound = record {
-          seen = omega (arith, rule.pool.from, sound.seen);
-          valid = replaced_valid piece.task.leaf mark path place P w.word w.pool.tree [] tree at piece_valid valid_at_word;
-          strict = replaced_strict piece.task.leaf mark path place P w.pool.tree [] tree at (subst (Strict P path) (sym same) is.strict) sound.strict;
-          tame = replaced_tame piece.task.leaf mark path place P w.pool.tree [] tree at (subst (Tame P path) (sym same) is.tame) sound.tame;
-          expanded = (let c = replaced_splits piece.task.leaf mark path place w.pool.tree [] tree at in let d : splits (tree_of place) ≡ splits piece.tree = ap splits same in omega (arith, sound.expanded, c, d, splits_count piece.tree));
-          counted = (let c = replaced_count piece.task.leaf mark path place w.pool.tree [] tree at in let d : count (tree_of place) ≡ count piece.tree = ap count same in omega (arith, sound.counted, c, d));
-          within = omega (arith, sound.within, is.few, replaced_granted piece.task.leaf mark path place w.pool.tree [] tree at, numbered_granted piece.tree w.pool.next);
-        };
-        word = seen_rule _ (slice_set w.notes note None) _ refl (λ j seen there. elim (set_at w.notes note j None seen there) [ inl same ↦ nothing same | inr old ↦ old ]);
+        sound = keeps_sound P w.pool pool w.word (Giving piece) (is, low, rule.pool.from) sound gives;
+        word = seen_rule pool (slice_set w.notes note None) _ (ap (λ (p : Pool). p.view) gives.left) (λ j seen there. elim (set_at w.notes note j None seen there) [ inl same ↦ nothing same | inr old ↦ old ]);
       }
 
   recall_kept : IsWorld P (all_back w)
   recall_kept = record {
-    sound = record {
-      seen = sound.seen;
-      valid = subst (λ t. Valid P [] t w.pool.view.seen) (sym (recalled_is w.pool.tree)) sound.valid;
-      strict = subst (Strict P []) (sym (recalled_is w.pool.tree)) sound.strict;
-      tame = subst (Tame P []) (sym (recalled_is w.pool.tree)) sound.tame;
-      expanded = (let c = ap splits (recalled_is w.pool.tree) in omega (arith, sound.expanded, c));
-      counted = (let c = ap count (recalled_is w.pool.tree) in omega (arith, sound.counted, c));
-      within = omega (arith, sound.within, recalled_granted w.pool.tree);
-    };
-    word = rule_kept (record w.pool { tree = recalled w.pool.tree }) w.hands refl;
+    sound = keeps_sound P w.pool (pool_recalled w.pool) w.word Recalls tt sound refl;
+    word = rule_kept (pool_recalled w.pool) w.hands refl;
   }
 
   sweep_kept : IsWorld P (cleared P w)
   sweep_kept = record {
-    sound = record {
-      seen = omega (arith, rule.pool.from, sound.seen);
-      valid = swept_valid P w.word w.pool.tree [] valid_at_word;
-      strict = swept_strict P w.word w.pool.tree [] sound.strict;
-      tame = swept_tame P w.word w.pool.tree [] sound.tame;
-      expanded = omega (arith, sound.expanded, swept_splits P w.word w.pool.tree []);
-      counted = omega (arith, sound.counted, swept_count P w.word w.pool.tree []);
-      within = omega (arith, sound.within, swept_granted P w.word w.pool.tree []);
-    };
+    sound = keeps_sound P w.pool (pool_swept P w.pool w.word) w.word Sweeps rule.pool.from sound refl;
     word = seen_rule _ w.notes w.hands refl (λ j seen there. there);
   }
 
@@ -235,20 +163,18 @@ left_as {P} holds answers = subst (IsWorld P) (sym answers.world) holds
 
 takes_keeps : (P : Network) (w new : World) (worker want : ℕ) (r : Reply) → IsWorld P w → Takes P w worker want r new → IsWorld P new
 takes_keeps P w new worker want r holds (take_idle h answers) = left_as holds answers
-takes_keeps P w new worker want r holds (take_empty c h answers) = left_as holds answers
-takes_keeps P w new worker want r holds (take_spent c h k answers) = left_as holds answers
-takes_keeps P w new worker want r holds (take_again c h k l answers) = left_as holds answers
-takes_keeps P w new worker want r holds (take_task n path task tree c h k l is at answers) = left_as (take_kept P w holds worker want n path task tree is at) answers
+takes_keeps P w new worker want r holds (take_none lack c h answers) = left_as holds answers
+takes_keeps P w new worker want r holds (take_task task pool c takes answers) = left_as (take_kept P w holds worker want task pool takes) answers
 
 gives_keeps : (P : Network) (w new : World) (piece : Piece) (note : ℕ) (r : Reply) → IsPiece P piece → IsWorld P w → Gives w piece note r new → IsWorld P new
 gives_keeps P w new piece note r is holds (give_idle h answers) = left_as holds answers
 gives_keeps P w new piece note r is holds (give_gone h k answers) = left_as holds answers
-gives_keeps P w new piece note r is holds (give_done tree can at answers) = left_as (give_kept P w holds piece note tree is can at) answers
+gives_keeps P w new piece note r is holds (give_done pool can gives answers) = left_as (give_kept P w holds piece note pool is can gives) answers
 
 returns_keeps : (P : Network) (w new : World) (task : Task) (r : Reply) → IsWorld P w → Returns w task r new → IsWorld P new
 returns_keeps P w new task r holds (back_idle h answers) = left_as holds answers
 returns_keeps P w new task r holds (back_not c h answers) = left_as holds answers
-returns_keeps P w new task r holds (back_done path tree c at answers) = left_as (back_kept P w holds task path tree at) answers
+returns_keeps P w new task r holds (back_done pool c returns answers) = left_as (back_kept P w holds task pool returns) answers
 
 pub keeps : Keeps
 keeps P w new (Look i) r brings holds acts = by_option (view_at w.views i) acts (λ idle. left_as holds idle) (λ view is answers. left_as (look_kept P w holds i view is) answers)
@@ -262,19 +188,9 @@ keeps P w new Recall r brings holds acts = left_as (recall_kept P w holds) acts
 keeps P w new Sweep r brings holds acts = left_as (sweep_kept P w holds) acts
 
 -- the opening
-pub opening_small : (P : Network) → IsNetwork P → HasSmallCosts P []
-opening_small P network = record {
-  unary = λ x a is live. omega (arith, ints);
-  residual = λ f tuple there fits live. small (nat_lt 0 (arity P f)) (entry_at P f tuple) (omega (arith, network.upper, (network.functions f there).capped (cell (dims P.sizes (function_at P f).scope) tuple)));
-}
-  where
-    small : (b : Bool) (n : ℕ) → n < 2 ^ 64 → when b (pos n) <ℤ pos (2 ^ 64)
-    small true n h = omega (arith, ints)
-    small false n h = omega (arith, ints)
-
 pub opens : Opens
 opens P workers budget network few = record {
-  sound = record { seen = omega arith; valid = tt; strict = tt; tame = opening_small P network; expanded = omega arith; counted = omega arith; within = omega arith };
+  sound = (machine.opens P (127 - workers) budget network).sound;
   word = record {
     least = omega (arith, opening_least P (workers + 1) (new_view P 1) refl);
     pool = record { from = omega arith; upto = omega arith; keeps = tt };

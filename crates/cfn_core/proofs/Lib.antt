@@ -1,11 +1,8 @@
-pub mod Placing
 pub mod Views
 pub mod Keeping
 pub mod Handing
 pub mod Refusing
-pub mod Deciding
 pub mod Answering
-pub mod Agreeing
 pub mod Always
 pub mod Thresholds
 pub mod Examples

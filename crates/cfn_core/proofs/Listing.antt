@@ -9,9 +9,9 @@ use Rattle.cfn_model.specs.Network.{Network}
 use Rattle.cfn_model.specs.Sums.{floor}
 use Rattle.cfn_model.specs.Steps.{after}
 use Rattle.cfn_model.specs.Tree.{count, open_leaves}
+use Rattle.cfn_machine.specs.Pool.{Mark, Free, Out, PoolTree, Leaf, Shut, Fork, tree_of, IsLeaf, Replaced, granted, recalled, swept}
 use Rattle.cfn_core.specs.declared.node.End.TheVariants.{FreeLeaf, ShutLeaf, Branch}
 use Rattle.cfn_core.specs.declared.node.Node.{Node}
-use Rattle.cfn_core.specs.Pool.{Mark, Free, Out, PoolTree, Leaf, Shut, Fork, tree_of, IsLeaf, Replaced, granted, recalled, swept}
 use Rattle.cfn_core.specs.Nodes.{node, leaf_end, nodes_of, forked, with_end, trees_of, first_of, pool_tree, IsListed, recalled_end, recalled_node, swept_node}
 use Rattle.cfn_core.specs.Finding.{open_end, open_in, grant_end, granted_in}
 

@@ -1,12 +1,12 @@
 -- What a machine keeps.
-use Rattle.std.proofs.Common.{◌≡◌, ℕ, ◌+◌, ◌*◌, ◌<◌, ◌≤◌, List, [], ◌∷◌, ◌++◌, replicate, refl, sym, subst, ◌-◌, Some, arith}
+use Rattle.std.proofs.Common.{◌≡◌, ℕ, ◌+◌, ◌*◌, ◌≤◌, List, [], ◌∷◌, ◌++◌, replicate, refl, sym, subst, ◌-◌, Some, arith}
 use Rattle.std.specs.List.{AllByRecursion}
 use Rattle.cfn_model.specs.declared.limits.TheConstants.{GREATEST}
 use Rattle.cfn_model.specs.Network.{Network, IsNetwork}
-use Rattle.cfn_core.specs.Pool.{Free, Leaf}
-use Rattle.cfn_core.specs.World.{World, new_view, opening}
+use Rattle.cfn_machine.specs.Pool.{Free, Leaf, new_view, AreNumbered}
+use Rattle.cfn_core.specs.World.{World, opening}
 use Rattle.cfn_core.specs.Actions.{Action, Reply, IsAction, Acts, Runs}
-use Rattle.cfn_core.specs.Laws.{IsWorld, AreNumbered, IsHanded}
+use Rattle.cfn_core.specs.Laws.{IsWorld, IsHanded}
 use Rattle.cfn_core.specs.Nodes.{nodes_of, pool_tree, IsListed}
 use Rattle.cfn_core.specs.Machine.{Machine, world_of, IsMachine}
 use Rattle.cfn_core.proofs.Keeping.{opens, keeps}

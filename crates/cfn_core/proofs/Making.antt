@@ -13,10 +13,10 @@ use Rattle.cfn_proof.specs.declared.tree.End.TheVariants.{Free, Shut, Split as D
 use Rattle.cfn_proof.specs.declared.tree.Node.{Node as Branching}
 use Rattle.cfn_proof.specs.Nodes.{node_at, with_children, tree_at, IsLinked}
 use Rattle.cfn_proof.proofs.CallerLemmas.{tree_at_is}
+use Rattle.cfn_machine.specs.Pool.{numbered}
 use Rattle.cfn_core.specs.declared.node.End.TheVariants.{FreeLeaf, ShutLeaf, Branch}
 use Rattle.cfn_core.specs.declared.node.Node.{Node}
 use Rattle.cfn_core.specs.declared.walk.Ahead.{Ahead}
-use Rattle.cfn_core.specs.Pool.{numbered}
 use Rattle.cfn_core.specs.Nodes.{node, nodes_of}
 use Rattle.cfn_core.specs.Walk.{numbers_left, nodes_left, IsOnWay}
 

@@ -6,11 +6,12 @@ use Rattle.std.specs.Prelude.{slice_set}
 use Rattle.cfn_model.specs.Network.{Network}
 use Rattle.cfn_model.specs.Sums.{floor}
 use Rattle.cfn_model.specs.Tree.{open_leaves}
+use Rattle.cfn_machine.specs.Pool.{Mark, Free, Out, PoolTree, Leaf, IsLeaf, Replaced, tree_of, granted, recalled, swept, Task, IsTask}
+use Rattle.cfn_machine.specs.Steps.{IsFirst, task_for, PoolTakes, NoneOpen, AllSpent, AllOut}
 use Rattle.cfn_core.specs.declared.node.End.TheVariants.{FreeLeaf, OutLeaf}
 use Rattle.cfn_core.specs.declared.node.Node.{Node}
 use Rattle.cfn_core.specs.declared.finding.First.{First}
-use Rattle.cfn_core.specs.Pool.{Mark, Free, Out, PoolTree, Leaf, IsLeaf, Replaced, tree_of, granted, recalled, swept, Task, IsTask}
-use Rattle.cfn_core.specs.Actions.{Action, Reply, Acts, Take, Back, Recall, Sweep, Given, Empty, Spent, Again, NotOut, Done, IsThere, CanTake, IsFirst, take_empty, take_spent, take_again, take_task, task_for, back_not, back_done, without}
+use Rattle.cfn_core.specs.Actions.{Action, Reply, Acts, Take, Back, Recall, Sweep, Given, Empty, Spent, Again, NotOut, Done, IsThere, CanTake, take_none, take_task, back_not, back_done, without}
 use Rattle.cfn_core.specs.Laws.{IsWorld}
 use Rattle.cfn_core.specs.Nodes.{node, leaf_end, nodes_of, pool_tree, IsListed, recalled_node, swept_node}
 use Rattle.cfn_core.specs.Finding.{no_node, node_at, open_in, granted_in, IsFirstFree, NoneFree, IsAt}
@@ -93,10 +94,20 @@ handed_out m worker want left grant first nodes listed world can unspent leaves 
     let made = marked P m.nodes listed first.place first.number Free is.there is.free (Out worker grant) in
     let sums : granted_in m.nodes ≡ granted (pool_tree m.nodes) = ap granted_in listed ∙ granted_is P [] (pool_tree m.nodes) in
     let task : Task = record { leaf = first.number; worker = worker; grant = grant; floor = first.floor; path = path } in
-    let is_task : task ≡ task_for P (world_of m) worker want first.number path =
+    let is_task : task ≡ task_for P (world_of m).pool worker want first.number path =
     ap₂ (λ g f. record { leaf = first.number; worker = worker; grant = g; floor = f; path = path }) (less ∙ ap (min want) (omega (arith, leaves, sums))) (floor_there P m.nodes listed first is) in
     let all : nodes ≡ nodes_of P [] made.new = set ∙ made.all in
-    let acts = take_task first.number path task made.new can unspent (λ same. omega (arith, same, leaves, sums, some)) (is_first P m.nodes listed first is) is_task made.replaced (record {
+    let takes : PoolTakes P (world_of m).pool worker want task (record (world_of m).pool { tree = made.new }) = record {
+      wants = can.1;
+      unspent = unspent;
+      room = λ same. omega (arith, same, leaves, sums, some);
+      first = is_first P m.nodes listed first is;
+      handed = is_task;
+      tree = made.new;
+      marked = made.replaced;
+      left = refl;
+    } in
+    let acts = take_task task (record (world_of m).pool { tree = made.new }) can takes (record {
       reply = refl;
       world = ap (λ t. record (world_of m) { pool = record (world_of m).pool { tree = t }; hands = task ∷ m.hands }) (tree_read P made.new nodes all);
     }) in
@@ -112,21 +123,25 @@ module _ (m : Machine) (listed : IsListed m.network m.nodes) (worker want : ℕ)
   opened = ap open_in listed ∙ open_is m.network [] (pool_tree m.nodes)
 
   pub none_open : (0 < open_in m.nodes → ⊥) → Acts m.network (world_of m) (Take worker want) Empty (world_of m)
-  none_open none = elim (cases_lt 0 (open_in m.nodes)) [ inl some ↦ absurd (none some) | inr few ↦ take_empty can (omega (arith, few, opened)) (record { reply = refl; world = refl }) ]
+  none_open none = elim (cases_lt 0 (open_in m.nodes)) [ inl some ↦ absurd (none some) | inr few ↦ take_none NoneOpen can (omega (arith, few, opened)) (record { reply = refl; world = refl }) ]
 
   pub all_spent : 0 < open_in m.nodes → m.spent ≡ m.budget → Acts m.network (world_of m) (Take worker want) Spent (world_of m)
-  all_spent some spent = take_spent can (omega (arith, some, opened)) spent (record { reply = refl; world = refl })
+  all_spent some spent = take_none AllSpent can (omega (arith, some, opened), spent) (record { reply = refl; world = refl })
 
   pub all_granted : (left : ℕ) → 0 < open_in m.nodes → m.spent ≢ m.budget → left + (m.spent + granted_in m.nodes) ≡ m.budget → left ≡ 0 → Acts m.network (world_of m) (Take worker want) Again (world_of m)
   all_granted left some unspent leaves none =
-      take_again can (omega (arith, some, opened)) unspent (inr (omega (arith, leaves, none, ap granted_in listed, granted_is m.network [] (pool_tree m.nodes)))) (record { reply = refl; world = refl })
+      take_none AllOut can (omega (arith, some, opened), unspent, inr (omega (arith, leaves, none, ap granted_in listed, granted_is m.network [] (pool_tree m.nodes)))) (record { reply = refl; world = refl })
 
   pub none_free : 0 < open_in m.nodes → m.spent ≢ m.budget → NoneFree m.nodes (length m.nodes) → Acts m.network (world_of m) (Take worker want) Again (world_of m)
   none_free some unspent none =
-      take_again can (omega (arith, some, opened)) unspent (inl (λ n path at.
-      (let p = placed (nodes_of m.network [] (pool_tree m.nodes)) (node m.network path [] (FreeLeaf n)) (has_leaf m.network n Free path (pool_tree m.nodes) [] at) in
-      let here : node_at m.nodes p.0 ≡ node m.network path [] (FreeLeaf n) = ap (λ l. node_at l p.0) listed ∙ p.2 in
-      none p.0 n (omega (arith, ap length listed, p.1)) (ap (λ (e : Node). e.end) here)))) (record { reply = refl; world = refl })
+      take_none AllOut can (
+        omega (arith, some, opened),
+        unspent,
+        inl (λ n path at.
+            (let p = placed (nodes_of m.network [] (pool_tree m.nodes)) (node m.network path [] (FreeLeaf n)) (has_leaf m.network n Free path (pool_tree m.nodes) [] at) in
+            let here : node_at m.nodes p.0 ≡ node m.network path [] (FreeLeaf n) = ap (λ l. node_at l p.0) listed ∙ p.2 in
+            none p.0 n (omega (arith, ap length listed, p.1)) (ap (λ (e : Node). e.end) here))),
+      ) (record { reply = refl; world = refl })
 
 -- a task that is given back
 pub not_out : (m : Machine) (task : Task) → IsListed m.network m.nodes → IsThere (world_of m) task.worker → ((j : ℕ) → IsAt m.nodes j (OutLeaf task.leaf task.worker task.grant) → ⊥) → Acts m.network (world_of m) (Back task) NotOut (world_of m)
@@ -147,7 +162,7 @@ given_back m task i nodes hands listed there at set kept =
     let all : nodes ≡ nodes_of m.network [] made.new = set ∙ made.all in
     record {
       listed = is_listed m.network made.new nodes all;
-      acts = back_done (node_at m.nodes i).path made.new there made.replaced (record {
+      acts = back_done (record (world_of m).pool { tree = made.new }) there (record { path = (node_at m.nodes i).path; tree = made.new; freed = made.replaced; left = refl }) (record {
         reply = refl;
         world = ap₂ (λ t h. record (world_of m) { pool = record (world_of m).pool { tree = t }; hands = h }) (tree_read m.network made.new nodes all) kept;
       });

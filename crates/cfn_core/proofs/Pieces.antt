@@ -6,13 +6,14 @@ use Rattle.cfn_model.specs.declared.step.Event.TheVariants.{Took, Refused}
 use Rattle.cfn_model.specs.Network.{Network}
 use Rattle.cfn_model.specs.Steps.{after}
 use Rattle.cfn_model.specs.Tree.{Tree, Open, Closed, Split, count, open_leaves}
+use Rattle.cfn_machine.specs.Pool.{Out, PoolTree, Leaf, Shut, Fork, IsLeaf, Replaced, granted, numbered, Task, Piece, IsPiece}
+use Rattle.cfn_machine.specs.Steps.{IsOut}
 use Rattle.cfn_core.specs.declared.node.Node.{Node}
-use Rattle.cfn_core.specs.Pool.{Out, PoolTree, Leaf, Shut, Fork, IsLeaf, Replaced, granted, numbered, Task, Piece, IsPiece}
-use Rattle.cfn_core.specs.Actions.{Acts, Give, Gone, Done, CanGive, IsOut, give_gone, give_done, without}
+use Rattle.cfn_core.specs.Actions.{Acts, Give, Gone, Done, CanGive, give_gone, give_done, without}
 use Rattle.cfn_core.specs.Nodes.{node, leaf_end, nodes_of, pool_tree, IsListed}
 use Rattle.cfn_core.specs.Finding.{node_at, open_in, IsOutAt}
 use Rattle.cfn_core.specs.Machine.{Machine, world_of, IsMachine}
-use Rattle.cfn_core.proofs.Placing.{numbered_is}
+use Rattle.cfn_machine.proofs.CallerLemmas.{numbered_is}
 use Rattle.cfn_core.proofs.Listing.{has_leaf, tree_read, is_listed, open_is, length_is}
 use Rattle.cfn_core.proofs.Marking.{Left, placed, leaf_there, put_there}
 
@@ -31,7 +32,7 @@ few_open (Split block d first second) = omega (arith, few_open first, few_open s
 
 -- the leaf of a piece that is out
 module _ (m : Machine) (is : IsMachine m) (piece : Piece) (i : ℕ) (out : IsOutAt m.nodes i piece.task) where
-  pub is_out : IsOut (world_of m) piece.task
+  pub is_out : IsOut (world_of m).pool piece.task
   is_out = subst (λ p. IsLeaf (pool_tree m.nodes) [] piece.task.leaf (Out piece.task.worker piece.task.grant) p) out.path
       (leaf_there m.network m.nodes is.listed i piece.task.leaf (Out piece.task.worker piece.task.grant) out.at.0 out.at.1)
 
@@ -52,7 +53,8 @@ module _ (m : Machine) (is : IsMachine m) (piece : Piece) (i : ℕ) (out : IsOut
       let replaced = subst (λ h. Replaced (pool_tree m.nodes) [] piece.task.leaf (Out piece.task.worker piece.task.grant) h place p.new) out.path p.replaced in
       record {
         listed = is_listed m.network p.new nodes all;
-        acts = give_done p.new can replaced (record { reply = refl; world = cc });
+        acts = give_done (record (world_of m).pool { tree = p.new; next = m.next + open_leaves piece.tree; nodes = m.spent + count piece.tree; view = record m.view { seen = m.word } }) can
+            (record { tree = p.new; placed = replaced; left = refl }) (record { reply = refl; world = cc });
       }
 
 -- a piece whose leaf is not out, and a note that is not to be heeded

@@ -6,9 +6,9 @@ use Rattle.std.specs.List.{AllByRecursion}
 use Rattle.cfn_model.specs.Network.{Network, Fits}
 use Rattle.cfn_model.specs.Certificate.{Solution, threshold_of}
 use Rattle.cfn_net.specs.Scoring.{Scoring, IsPriced}
+use Rattle.cfn_machine.specs.Pool.{View, price, cheaper, KeepsFitting}
 use Rattle.cfn_core.specs.declared.seat.Seat.{Seat}
-use Rattle.cfn_core.specs.Pool.{View}
-use Rattle.cfn_core.specs.World.{World, price, cheaper, view_at, KeepsFitting}
+use Rattle.cfn_core.specs.World.{World, view_at}
 use Rattle.cfn_core.specs.Actions.{Reply, Idle, Seen, Noted, Done, Look, Lower, Note, Meet, Answers, Acts, looked, lowered, noted, met}
 use Rattle.cfn_core.specs.Machine.{Machine, world_of, found_of, seat_of, IsSeat, IsOffered, IsSeatOf}
 

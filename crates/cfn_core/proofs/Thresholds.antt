@@ -2,9 +2,9 @@
 use Rattle.std.proofs.Common.{◌≡◌, ℕ, suc, ◌≤◌, List, [], ◌∷◌, refl, sym, ap, ◌∙◌, arith, Option, Some, None}
 use Rattle.std.specs.Prelude.{IfSome}
 use Rattle.cfn_model.specs.Network.{Network}
-use Rattle.cfn_core.specs.Pool.{Task, Piece, View}
+use Rattle.cfn_machine.specs.Pool.{Task, Piece, View}
 use Rattle.cfn_core.specs.World.{World, view_at, note_at, least_price, opening}
-use Rattle.cfn_core.specs.Actions.{Action, Look, Lower, Note, Meet, Take, Give, Back, Recall, Sweep, Reply, Idle, Gone, Done, Answers, Takes, take_idle, take_empty, take_spent, take_again, take_task, Gives, give_idle, give_gone, give_done, Returns, back_idle, back_not, back_done, Acts, Runs, AreActions}
+use Rattle.cfn_core.specs.Actions.{Action, Look, Lower, Note, Meet, Take, Give, Back, Recall, Sweep, Reply, Idle, Gone, Done, Answers, Takes, take_idle, take_none, take_task, Gives, give_idle, give_gone, give_done, Returns, back_idle, back_not, back_done, Acts, Runs, AreActions}
 use Rattle.cfn_core.specs.Laws.{IsWorld, IsAtMost, AreAtMost, EndsAtMost, MeetsAll}
 use Rattle.cfn_core.proofs.Views.{by_option, nothing, price_low}
 use Rattle.cfn_core.proofs.Keeping.{keeps, opens}
@@ -16,20 +16,18 @@ word_left answers = ap (λ (w : World). w.word) answers.world
 -- the word never rises
 takes_falls : (P : Network) (w new : World) (worker want : ℕ) (r : Reply) → Takes P w worker want r new → new.word ≤ w.word
 takes_falls P w new worker want r (take_idle h answers) = omega (arith, word_left answers)
-takes_falls P w new worker want r (take_empty c h answers) = omega (arith, word_left answers)
-takes_falls P w new worker want r (take_spent c h k answers) = omega (arith, word_left answers)
-takes_falls P w new worker want r (take_again c h k l answers) = omega (arith, word_left answers)
-takes_falls P w new worker want r (take_task n path task tree c h k l is at answers) = omega (arith, word_left answers)
+takes_falls P w new worker want r (take_none lack c h answers) = omega (arith, word_left answers)
+takes_falls P w new worker want r (take_task task pool c takes answers) = omega (arith, word_left answers)
 
 gives_falls : (w new : World) (piece : Piece) (note : ℕ) (r : Reply) → Gives w piece note r new → new.word ≤ w.word
 gives_falls w new piece note r (give_idle h answers) = omega (arith, word_left answers)
 gives_falls w new piece note r (give_gone h k answers) = omega (arith, word_left answers)
-gives_falls w new piece note r (give_done tree can at answers) = omega (arith, word_left answers)
+gives_falls w new piece note r (give_done pool can gives answers) = omega (arith, word_left answers)
 
 returns_falls : (w new : World) (task : Task) (r : Reply) → Returns w task r new → new.word ≤ w.word
 returns_falls w new task r (back_idle h answers) = omega (arith, word_left answers)
 returns_falls w new task r (back_not c h answers) = omega (arith, word_left answers)
-returns_falls w new task r (back_done path tree c at answers) = omega (arith, word_left answers)
+returns_falls w new task r (back_done pool c returns answers) = omega (arith, word_left answers)
 
 falls : (P : Network) (w new : World) (action : Action) (r : Reply) → Acts P w action r new → new.word ≤ w.word
 falls P w new (Look i) r acts = by_option (view_at w.views i) acts (λ idle. omega (arith, word_left idle)) (λ view is answers. omega (arith, word_left answers))
@@ -56,7 +54,7 @@ gone_not_done h = cc
 gives_at_most : (P : Network) (w new : World) (piece : Piece) (note : ℕ) (r : Reply) (word : ℕ) → IsWorld P w → word ≤ w.word → Gives w piece note r new → r ≡ Done → word ≤ piece.threshold
 gives_at_most P w new piece note r word world low (give_idle h answers) done = absurd (idle_not_done (sym answers.reply ∙ done))
 gives_at_most P w new piece note r word world low (give_gone h k answers) done = absurd (gone_not_done (sym answers.reply ∙ done))
-gives_at_most P w new piece note r word world low (give_done tree can at answers) done =
+gives_at_most P w new piece note r word world low (give_done pool can gives answers) done =
     by_option (note_at w.notes note) can.1 (λ n. absurd n) (λ seen there upto. omega (arith, low, upto, (world.word.notes note seen there).0))
 
 at_most : (P : Network) (w new : World) (action : Action) (r : Reply) (word : ℕ) → IsWorld P w → word ≤ w.word → Acts P w action r new → IsAtMost word w action r

@@ -1,8 +1,8 @@
 -- What the views keep, and how many shares they have, where one of them changes.
-use Rattle.std.proofs.Common.{◌≡◌, ℕ, zero, suc, ◌+◌, ◌<◌, ◌≤◌, ◌⊎◌, inl, inr, min, List, [], ◌∷◌, ◌++◌, refl, sym, ap, ◌∙◌, arith, true, false, Bool, nat_lt, if◌then◌else◌, Option, Some, None, slice_index_or, slice_set, replicate, MatchOption}
+use Rattle.std.proofs.Common.{◌≡◌, ℕ, zero, suc, ◌+◌, ◌≤◌, ◌⊎◌, inl, inr, min, List, [], ◌∷◌, ◌++◌, refl, sym, ap, ◌∙◌, arith, Option, Some, None, slice_index_or, slice_set, replicate, MatchOption}
 use Rattle.cfn_model.specs.Network.{Network}
-use Rattle.cfn_core.specs.Pool.{View}
-use Rattle.cfn_core.specs.World.{price, cheaper, view_at, price_of, least_price, share_of, shares_of, KeepsFitting}
+use Rattle.cfn_machine.specs.Pool.{View, price}
+use Rattle.cfn_core.specs.World.{view_at, price_of, least_price, share_of, shares_of}
 
 -- by cases on an option that another fact matches
 pub by_option : {X : Type 0} (o : Option X) {A : Type 0} {B : X → Type 0} {C : Type 0} → MatchOption o A B → (A → C) → ((x : X) → o ≡ Some x → B x → C) → C
@@ -31,30 +31,10 @@ nothing h = absurd (cc)
 pub same_some : {X : Type 0} {x y : X} → Some x ≡ Some y → x ≡ y
 same_some h = cc
 
-below : (a b : ℕ) → nat_lt a b ≡ true → a < b
-below a b h = grind arith
-
-not_below : (a b : ℕ) → nat_lt a b ≡ false → b ≤ a
-not_below a b h = grind arith
-
 module _ (P : Network) where
   pub price_low : (best : Option (List ℕ)) → price P best ≤ P.upper
   price_low None = omega arith
   price_low (Some values) = omega arith
-
-  cheaper_by : (b : Bool) (best other : Option (List ℕ)) → nat_lt (price P other) (price P best) ≡ b → price P (if b then other else best) ≡ min (price P best) (price P other)
-  cheaper_by true best other h = omega (arith, below _ _ h)
-  cheaper_by false best other h = omega (arith, not_below _ _ h)
-
-  pub cheaper_price : (best other : Option (List ℕ)) → price P (cheaper P best other) ≡ min (price P best) (price P other)
-  cheaper_price best other = cheaper_by (nat_lt (price P other) (price P best)) best other refl
-
-  keeps_by : (b : Bool) (best other : Option (List ℕ)) → KeepsFitting P best → KeepsFitting P other → KeepsFitting P (if b then other else best)
-  keeps_by true best other h k = k
-  keeps_by false best other h k = h
-
-  pub cheaper_keeps : (best other : Option (List ℕ)) → KeepsFitting P best → KeepsFitting P other → KeepsFitting P (cheaper P best other)
-  cheaper_keeps best other = keeps_by (nat_lt (price P other) (price P best)) best other
 
   pub least_low : (views : List (Option View)) → least_price P views ≤ P.upper
   least_low [] = omega arith

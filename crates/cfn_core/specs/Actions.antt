@@ -1,12 +1,10 @@
 -- What the workers do: each action is one atomic step of one of them. An action that may not be done, or that names a
 -- worker that is not there, by itself or by its task or piece, is answered Idle and changes nothing.
-use Rattle.std.specs.Prelude.{◌≡◌, ◌≢◌, ℕ, ◌+◌, ◌-◌, ◌<◌, ◌≤◌, ◌⊎◌, min, List, [], ◌∷◌, ◌++◌, length, slice_index_or, slice_set, Option, Some, None, MatchOption, filter, not, ◌==◌}
-use Rattle.cfn_model.specs.declared.step.Event.{Event}
+use Rattle.std.specs.Prelude.{◌≡◌, ℕ, ◌<◌, ◌≤◌, min, List, [], ◌∷◌, ◌++◌, length, slice_index_or, slice_set, Option, Some, None, MatchOption, filter, not, ◌==◌}
 use Rattle.cfn_model.specs.Network.{Network}
-use Rattle.cfn_model.specs.Sums.{floor}
-use Rattle.cfn_model.specs.Tree.{count, open_leaves}
-use Rattle.cfn_core.specs.Pool.{Free, Out, PoolTree, Leaf, tree_of, IsLeaf, Replaced, granted, numbered, recalled, swept, Task, Piece, IsPiece, View}
-use Rattle.cfn_core.specs.World.{World, price, cheaper, view_at, note_at, KeepsFitting}
+use Rattle.cfn_machine.specs.Pool.{Task, Piece, IsPiece, View, Pool, price, cheaper, KeepsFitting}
+use Rattle.cfn_machine.specs.Steps.{PoolTakes, Lack, NoneOpen, AllSpent, AllOut, HasNone, IsOut, PoolGives, IsNotOut, PoolReturns, pool_recalled, pool_swept, pool_met}
+use Rattle.cfn_core.specs.World.{World, view_at, note_at}
 
 pub data Action : Type 0 where
   Look : (worker : ℕ) → Action
@@ -82,95 +80,60 @@ lowered P w i found view = record w {
 abbrev pub noted : World → View → World
 noted w view = record w { notes = w.notes ++ Some view.seen ∷ [] }
 
--- A worker's view is joined into the pool's.
-abbrev pub joined : Network → View → View → View
-joined P view other = record { best = cheaper P view.best other.best; seen = min view.seen other.seen; shares = view.shares + other.shares }
-
+-- A worker's view is joined into the pool's, and ends.
 abbrev pub met : Network → World → ℕ → View → World
-met P w i view = record w { pool = record w.pool { view = joined P w.pool.view view }; views = slice_set w.views i None }
+met P w i view = record w { pool = pool_met P w.pool view; views = slice_set w.views i None }
 
 -- A leaf's task is in other hands no more.
 abbrev pub without : ℕ → List Task → List Task
 without n hands = filter (λ (task : Task). not (task.leaf == n)) hands
 
--- A free leaf is handed out: one of least floor, the least number among those.
-pub record IsFirst (P : Network) (tree : PoolTree) (n : ℕ) (path : List Event) : Type 0 where
-  pub leaf : IsLeaf tree [] n Free path
-  pub first : (m : ℕ) (other : List Event) → IsLeaf tree [] m Free other → (floor P path < floor P other) ⊎ ((floor P path ≡ floor P other) × (n ≤ m))
-
+-- A leaf is taken: its task is in hand from then on. Where there is none, the answer says why.
 abbrev pub CanTake : World → ℕ → ℕ → Type 0
 CanTake w worker want = IsThere w worker × (1 ≤ want)
 
--- The task's grant is what it wants, or what the budget has left.
-abbrev pub task_for : Network → World → ℕ → ℕ → ℕ → List Event → Task
-task_for P w worker want n path = record {
-  leaf = n;
-  worker = worker;
-  grant = min want (w.pool.budget - (w.pool.nodes + granted w.pool.tree));
-  floor = floor P path;
-  path = path;
-}
+abbrev pub taken : World → Task → Pool → World
+taken w task pool = record w { pool = pool; hands = task ∷ w.hands }
 
-abbrev pub taken : World → Task → PoolTree → World
-taken w task tree = record w { pool = record w.pool { tree = tree }; hands = task ∷ w.hands }
+abbrev pub none_reply : Lack → Reply
+none_reply NoneOpen = Empty
+none_reply AllSpent = Spent
+none_reply AllOut = Again
 
 pub data Takes (P : Network) (w : World) (worker want : ℕ) (r : Reply) (new : World) : Type 0 where
   take_idle : (CanTake w worker want → ⊥) → Answers Idle w r new → Takes P w worker want r new
-  take_empty : CanTake w worker want → open_leaves (tree_of w.pool.tree) ≡ 0 → Answers Empty w r new → Takes P w worker want r new
-  take_spent : CanTake w worker want → 0 < open_leaves (tree_of w.pool.tree) → w.pool.nodes ≡ w.pool.budget → Answers Spent w r new → Takes P w worker want r new
-  take_again : CanTake w worker want → 0 < open_leaves (tree_of w.pool.tree) → w.pool.nodes ≢ w.pool.budget →
-      (((n : ℕ) (path : List Event) → IsLeaf w.pool.tree [] n Free path → ⊥) ⊎ (w.pool.nodes + granted w.pool.tree ≡ w.pool.budget)) →
-      Answers Again w r new → Takes P w worker want r new
-  take_task : (n : ℕ) (path : List Event) (task : Task) (tree : PoolTree) → CanTake w worker want → w.pool.nodes ≢ w.pool.budget → w.pool.nodes + granted w.pool.tree ≢ w.pool.budget →
-      IsFirst P w.pool.tree n path → task ≡ task_for P w worker want n path →
-      Replaced w.pool.tree [] n Free path (Leaf n (Out worker task.grant)) tree →
-      Answers (Given task) (taken w task tree) r new → Takes P w worker want r new
+  take_none : (lack : Lack) → CanTake w worker want → HasNone w.pool lack → Answers (none_reply lack) w r new → Takes P w worker want r new
+  take_task : (task : Task) (pool : Pool) → CanTake w worker want → PoolTakes P w.pool worker want task pool → Answers (Given task) (taken w task pool) r new → Takes P w worker want r new
 
--- A piece is given: its worker is there, and its note, which has seen at most its threshold. Its leaf has to be out to
--- its worker with its grant, and have its path. The note is heeded, and the pool sees the word.
+-- A piece is given: its worker is there, and its note, which has seen at most its threshold. The note is heeded, and the
+-- pool sees the word.
 abbrev pub CanGive : World → Piece → ℕ → Type 0
 CanGive w piece note = IsThere w piece.task.worker × MatchOption (note_at w.notes note) ⊥ (λ seen. seen ≤ piece.threshold)
 
-abbrev pub IsOut : World → Task → Type 0
-IsOut w task = IsLeaf w.pool.tree [] task.leaf (Out task.worker task.grant) task.path
-
-abbrev pub given : World → Piece → ℕ → PoolTree → World
-given w piece note tree = record w {
-  pool = record w.pool {
-    tree = tree;
-    next = w.pool.next + open_leaves piece.tree;
-    nodes = w.pool.nodes + count piece.tree;
-    view = record w.pool.view { seen = w.word };
-  };
-  notes = slice_set w.notes note None;
-  hands = without piece.task.leaf w.hands;
-}
+abbrev pub given : World → Piece → ℕ → Pool → World
+given w piece note pool = record w { pool = pool; notes = slice_set w.notes note None; hands = without piece.task.leaf w.hands }
 
 pub data Gives (w : World) (piece : Piece) (note : ℕ) (r : Reply) (new : World) : Type 0 where
   give_idle : (CanGive w piece note → ⊥) → Answers Idle w r new → Gives w piece note r new
-  give_gone : CanGive w piece note → (IsOut w piece.task → ⊥) → Answers Gone w r new → Gives w piece note r new
-  give_done : (tree : PoolTree) → CanGive w piece note →
-      Replaced w.pool.tree [] piece.task.leaf (Out piece.task.worker piece.task.grant) piece.task.path (numbered w.pool.next piece.tree) tree →
-      Answers Done (given w piece note tree) r new → Gives w piece note r new
+  give_gone : CanGive w piece note → (IsOut w.pool piece.task → ⊥) → Answers Gone w r new → Gives w piece note r new
+  give_done : (pool : Pool) → CanGive w piece note → PoolGives w.pool w.word piece pool → Answers Done (given w piece note pool) r new → Gives w piece note r new
 
 -- A task is given back: its worker is there, and its leaf is free again, where it is out to that worker with that grant.
-abbrev pub returned : World → Task → PoolTree → World
-returned w task tree = record w { pool = record w.pool { tree = tree }; hands = without task.leaf w.hands }
+abbrev pub returned : World → Task → Pool → World
+returned w task pool = record w { pool = pool; hands = without task.leaf w.hands }
 
 pub data Returns (w : World) (task : Task) (r : Reply) (new : World) : Type 0 where
   back_idle : (IsThere w task.worker → ⊥) → Answers Idle w r new → Returns w task r new
-  back_not : IsThere w task.worker → ((path : List Event) → IsLeaf w.pool.tree [] task.leaf (Out task.worker task.grant) path → ⊥) → Answers NotOut w r new → Returns w task r new
-  back_done : (path : List Event) (tree : PoolTree) → IsThere w task.worker →
-      Replaced w.pool.tree [] task.leaf (Out task.worker task.grant) path (Leaf task.leaf Free) tree →
-      Answers Done (returned w task tree) r new → Returns w task r new
+  back_not : IsThere w task.worker → IsNotOut w.pool task → Answers NotOut w r new → Returns w task r new
+  back_done : (pool : Pool) → IsThere w task.worker → PoolReturns w.pool task pool → Answers Done (returned w task pool) r new → Returns w task r new
 
 -- Every leaf that is out is called back.
 abbrev pub all_back : World → World
-all_back w = record w { pool = record w.pool { tree = recalled w.pool.tree } }
+all_back w = record w { pool = pool_recalled w.pool }
 
 -- The pool sees the word, and closes what need not be searched.
 abbrev pub cleared : Network → World → World
-cleared P w = record w { pool = record w.pool { tree = swept P w.word w.pool.tree []; view = record w.pool.view { seen = w.word } } }
+cleared P w = record w { pool = pool_swept P w.pool w.word }
 
 -- What an action may answer, and the world that it leaves.
 abbrev pub Acts : Network → World → Action → Reply → World → Type 0

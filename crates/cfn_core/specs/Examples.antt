@@ -6,7 +6,7 @@ use Rattle.cfn_model.specs.declared.step.Decision.TheVariants.{Is}
 use Rattle.cfn_model.specs.Network.{Network, IsNetwork}
 use Rattle.cfn_model.specs.Sums.{floor}
 use Rattle.cfn_model.specs.Tree.{Open, Split}
-use Rattle.cfn_core.specs.Pool.{Free, Leaf, Fork, Task, Piece}
+use Rattle.cfn_machine.specs.Pool.{Free, Leaf, Fork, Task, Piece}
 use Rattle.cfn_core.specs.World.{World, opening}
 use Rattle.cfn_core.specs.Actions.{Action, Take, Note, Give, Recall, Given, Noted, Done, Gone, Spent, AreActions, Runs}
 

@@ -1,10 +1,10 @@
 -- What is found in a list of nodes.
 use Rattle.std.specs.Prelude.{◌≡◌, ℕ, ◌+◌, ◌<◌, ◌≤◌, ◌⊎◌, List, [], ◌∷◌, length, slice_index_or, Option, MatchOption}
+use Rattle.cfn_machine.specs.Pool.{Task}
 use Rattle.cfn_core.specs.declared.node.End.{End}
 use Rattle.cfn_core.specs.declared.node.End.TheVariants.{FreeLeaf, OutLeaf, ShutLeaf, Branch}
 use Rattle.cfn_core.specs.declared.node.Node.{Node}
 use Rattle.cfn_core.specs.declared.finding.First.{First}
-use Rattle.cfn_core.specs.Pool.{Task}
 
 -- The node at a place, where there is one.
 abbrev pub no_node : Node

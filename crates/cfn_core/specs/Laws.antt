@@ -1,14 +1,15 @@
 -- What holds of the world, whatever the workers do and in whatever order.
-use Rattle.std.specs.Prelude.{◌≡◌, ◌≢◌, ℕ, ◌+◌, ◌<◌, ◌≤◌, ◌⊎◌, min, List, [], ◌∷◌, None, IfSome, if◌then◌else◌, ◌==◌}
+use Rattle.std.specs.Prelude.{◌≡◌, ◌≢◌, ℕ, ◌<◌, ◌≤◌, ◌⊎◌, min, List, [], ◌∷◌, None, IfSome}
 use Rattle.std.specs.List.{AllByRecursion}
 use Rattle.cfn_model.specs.declared.step.Event.{Event}
 use Rattle.cfn_model.specs.Sums.{floor}
 use Rattle.cfn_model.specs.Network.{Network, IsNetwork, Fits, Least, cost}
 use Rattle.cfn_model.specs.Tree.{Valid, bound, open_leaves}
-use Rattle.cfn_model.specs.Paths.{Agrees}
-use Rattle.cfn_core.specs.Pool.{Mark, Free, Out, PoolTree, Leaf, Shut, Fork, tree_of, IsLeaf, IsAnyLeaf, leaf_of, Task, IsTask, Piece, Pool, IsSound}
-use Rattle.cfn_core.specs.World.{World, HasWordRule, price, view_at, opening}
-use Rattle.cfn_core.specs.Actions.{Action, Look, Lower, Note, Meet, Take, Give, Back, Recall, Sweep, Reply, Idle, Given, Gone, Done, IsAction, IsThere, IsOut, Acts, Runs, AreActions}
+use Rattle.cfn_machine.specs.Pool.{Mark, Free, Out, PoolTree, Leaf, Shut, Fork, tree_of, IsLeaf, leaf_of, Task, IsTask, Piece, IsSound, AreNumbered, price}
+use Rattle.cfn_machine.specs.Steps.{IsOut}
+use Rattle.cfn_machine.specs.Laws.{AgreesOnce}
+use Rattle.cfn_core.specs.World.{World, HasWordRule, view_at, opening}
+use Rattle.cfn_core.specs.Actions.{Action, Look, Lower, Note, Meet, Take, Give, Back, Recall, Sweep, Reply, Idle, Given, Gone, Done, IsAction, IsThere, Acts, Runs, AreActions}
 
 -- The pool is sound, and the word keeps its rule.
 pub record IsWorld (P : Network) (w : World) : Type 0 where
@@ -26,21 +27,10 @@ Keeps = (P : Network) (w new : World) (action : Action) (r : Reply) → IsAction
 abbrev pub opening_bound : Network → ℕ
 opening_bound P = min P.upper (floor P [])
 
--- How many open leaves have a number.
-abbrev pub leaves_with : ℕ → PoolTree → ℕ
-leaves_with n (Leaf number mark) = if number == n then 1 else 0
-leaves_with n (Shut block) = 0
-leaves_with n (Fork block d first second) = leaves_with n first + leaves_with n second
-
 -- A task is in hand.
 abbrev pub IsInHand : Task → List Task → Type 0
 IsInHand task [] = ⊥
 IsInHand task (other ∷ hands) = (task ≡ other) ⊎ IsInHand task hands
-
--- Each open leaf of the pool has a number of its own, and the numbers from next on are fresh.
-pub record AreNumbered (pool : Pool) : Type 0 where
-  pub different : (n : ℕ) → leaves_with n pool.tree ≤ 1
-  pub fresh : (n : ℕ) → pool.next ≤ n → leaves_with n pool.tree ≡ 0
 
 -- The task of each leaf that is out is in hand, and the worker of each task in hand is there.
 pub record IsHanded (P : Network) (w : World) : Type 0 where
@@ -57,15 +47,12 @@ IsCovered P w values (Leaf n (Out worker grant)) =
 IsCovered P w values (Shut block) = w.pool.view.seen ≤ cost P values
 IsCovered P w values (Fork block d first second) = ⊥
 
--- Of all leaves of the tree, closed ones too, exactly one has a path that agrees with an assignment: the assignment's
--- leaf. Where it is out, its task, in hand, has that very path.
-pub record AgreesOnce (P : Network) (w : World) (values : List ℕ) : Type 0 where
-  pub path : List Event
-  pub there : IsAnyLeaf w.pool.tree [] (leaf_of values w.pool.tree) path
-  pub agrees : Agrees values path
-  pub only : (leaf : PoolTree) (other : List Event) → IsAnyLeaf w.pool.tree [] leaf other → Agrees values other → (leaf ≡ leaf_of values w.pool.tree) × (other ≡ path)
+-- Exactly one leaf has a path that agrees with an assignment, and where that leaf is out, its task, in hand, has that
+-- very path.
+pub record AgreesInHand (P : Network) (w : World) (values : List ℕ) : Type 0 where
+  pub once : AgreesOnce w.pool.tree values
   pub out : (n worker grant : ℕ) → leaf_of values w.pool.tree ≡ Leaf n (Out worker grant) →
-      IsInHand (record { leaf = n; worker = worker; grant = grant; floor = floor P path; path = path }) w.hands
+      IsInHand (record { leaf = n; worker = worker; grant = grant; floor = floor P once.path; path = once.path }) w.hands
 
 -- Both hold at the opening, and each action keeps them.
 abbrev pub OpensNumbered : Type 0
@@ -87,7 +74,7 @@ KeepsHanded = (P : Network) (w new : World) (action : Action) (r : Reply) → Ar
 pub record Always (P : Network) (w : World) : Type 0 where
   pub world : IsWorld P w
   pub covered : (values : List ℕ) → Fits P.sizes values → IsCovered P w values (leaf_of values w.pool.tree)
-  pub agreed : (values : List ℕ) → Fits P.sizes values → AgreesOnce P w values
+  pub agreed : (values : List ℕ) → Fits P.sizes values → AgreesInHand P w values
   pub valid : Valid P [] (tree_of w.pool.tree) w.word
   pub bound : (values : List ℕ) → Fits P.sizes values → bound P [] (tree_of w.pool.tree) w.word ≤ cost P values
   pub row : (values : List ℕ) → Fits P.sizes values → opening_bound P ≤ cost P values
@@ -128,7 +115,7 @@ NeverGone = (P : Network) (workers budget : ℕ) (actions : List Action) (replie
 -- Each task in hand is of a leaf that is out. That holds at the opening, where none is in hand, and as long as no leaf is
 -- called back.
 abbrev pub AreOut : World → Type 0
-AreOut w = (task : Task) → IsInHand task w.hands → IsOut w task
+AreOut w = (task : Task) → IsInHand task w.hands → IsOut w.pool task
 
 -- A piece whose task is in hand when it is given is not answered Gone: in one answer, and in all answers to a list.
 abbrev pub IsKept : World → Action → Reply → Type 0

@@ -1,4 +1,3 @@
-pub mod Pool
 pub mod World
 pub mod Actions
 pub mod Laws

@@ -6,16 +6,16 @@ use Rattle.cfn_model.specs.declared.limits.TheConstants.{GREATEST}
 use Rattle.cfn_model.specs.Certificate.{Solution}
 use Rattle.cfn_model.specs.Network.{Network, IsNetwork}
 use Rattle.cfn_net.specs.Scoring.{Scoring}
+use Rattle.cfn_machine.specs.Pool.{Task, View, cheaper, AreNumbered}
 use Rattle.cfn_core.specs.declared.node.Node.{Node}
 use Rattle.cfn_core.specs.declared.seat.Seat.{Seat}
 use Rattle.cfn_core.specs.declared.action.Action.{Action}
 use Rattle.cfn_core.specs.declared.action.Action.TheVariants.{Look, Lower, Note, Meet, Take, Give, Back, Recall, Sweep}
 use Rattle.cfn_core.specs.declared.action.Reply.{Reply}
 use Rattle.cfn_core.specs.declared.action.Reply.TheVariants.{Idle, Seen, Noted, Given, Empty, Spent, Again, Gone, NotOut, Done}
-use Rattle.cfn_core.specs.Pool.{Task, View}
-use Rattle.cfn_core.specs.World.{World, cheaper}
+use Rattle.cfn_core.specs.World.{World}
 use Rattle.cfn_core.specs.Actions as actions
-use Rattle.cfn_core.specs.Laws.{IsWorld, AreNumbered, IsHanded}
+use Rattle.cfn_core.specs.Laws.{IsWorld, IsHanded}
 use Rattle.cfn_core.specs.Nodes.{pool_tree, IsListed}
 use Rattle.cfn_core.specs.Values.{piece_of}
 

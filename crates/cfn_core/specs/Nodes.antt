@@ -8,10 +8,10 @@ use Rattle.cfn_model.specs.declared.step.Event.TheVariants.{Took, Refused}
 use Rattle.cfn_model.specs.Network.{Network}
 use Rattle.cfn_model.specs.Sums.{floor}
 use Rattle.cfn_model.specs.Steps.{after}
+use Rattle.cfn_machine.specs.Pool.{Mark, Free, Out, PoolTree, Leaf, Shut, Fork}
 use Rattle.cfn_core.specs.declared.node.End.{End}
 use Rattle.cfn_core.specs.declared.node.End.TheVariants.{FreeLeaf, OutLeaf, ShutLeaf, Branch}
 use Rattle.cfn_core.specs.declared.node.Node.{Node}
-use Rattle.cfn_core.specs.Pool.{Mark, Free, Out, PoolTree, Leaf, Shut, Fork}
 
 -- A node at the end of a path.
 abbrev pub node : Network → List Event → List Step → End → Node

@@ -4,7 +4,7 @@ use Rattle.cfn_model.specs.declared.limits.TheConstants.{GREATEST}
 use Rattle.cfn_model.specs.Network.{Network}
 use Rattle.cfn_proof.specs.declared.tree.Node.{Node as Branching}
 use Rattle.cfn_proof.specs.Nodes.{tree_of}
-use Rattle.cfn_core.specs.Pool.{Task, Piece, IsPiece}
+use Rattle.cfn_machine.specs.Pool.{Task, Piece, IsPiece}
 
 -- A task of a network.
 pub record TaskValue : Type 0 where

@@ -4,9 +4,9 @@ use Rattle.cfn_model.specs.Network.{Network}
 use Rattle.cfn_model.specs.Tree.{open_leaves}
 use Rattle.cfn_proof.specs.declared.tree.Node.{Node as Branching}
 use Rattle.cfn_proof.specs.Nodes.{tree_at}
+use Rattle.cfn_machine.specs.Pool.{numbered}
 use Rattle.cfn_core.specs.declared.node.Node.{Node}
 use Rattle.cfn_core.specs.declared.walk.Ahead.{Ahead}
-use Rattle.cfn_core.specs.Pool.{numbered}
 use Rattle.cfn_core.specs.Nodes.{nodes_of}
 
 -- The nodes ahead are nodes of the tree.

@@ -1,8 +1,8 @@
 -- The world around the pool: the word, which is the least price that was found, what each worker has seen of it, notes
 -- of what was seen, and the tasks in hand.
-use Rattle.std.specs.Prelude.{◌≡◌, ℕ, ◌+◌, ◌-◌, ◌<◌, ◌≤◌, min, List, [], ◌∷◌, replicate, slice_index_or, Option, Some, None, if◌then◌else◌, nat_lt}
-use Rattle.cfn_model.specs.Network.{Network, Fits, cost}
-use Rattle.cfn_core.specs.Pool.{Free, Leaf, Task, View, Pool}
+use Rattle.std.specs.Prelude.{◌≡◌, ℕ, ◌+◌, ◌-◌, ◌<◌, ◌≤◌, min, List, [], ◌∷◌, replicate, slice_index_or, Option, Some, None}
+use Rattle.cfn_model.specs.Network.{Network}
+use Rattle.cfn_machine.specs.Pool.{Task, View, Pool, price, KeepsFitting, new_view, opening_pool}
 
 pub record World : Type 0 where
   pub pool : Pool
@@ -10,15 +10,6 @@ pub record World : Type 0 where
   pub views : List (Option View)
   pub notes : List (Option ℕ)
   pub hands : List Task
-
--- The price of an assignment is its cost; of none it is the upper bound.
-abbrev pub price : Network → Option (List ℕ) → ℕ
-price P None = P.upper
-price P (Some values) = cost P values
-
--- The cheaper of two, the first where both cost the same.
-abbrev pub cheaper : Network → Option (List ℕ) → Option (List ℕ) → Option (List ℕ)
-cheaper P best other = if nat_lt (price P other) (price P best) then other else best
 
 -- The view of a worker, where it has one that is not met yet, and the threshold of a note that is not heeded yet.
 abbrev pub view_at : List (Option View) → ℕ → Option View
@@ -44,11 +35,6 @@ abbrev pub shares_of : List (Option View) → ℕ
 shares_of [] = 0
 shares_of (view ∷ views) = share_of view + shares_of views
 
--- What is kept where there is one fits the network.
-abbrev pub KeepsFitting : Network → Option (List ℕ) → Type 0
-KeepsFitting P None = Unit {0}
-KeepsFitting P (Some values) = Fits P.sizes values
-
 -- A view has seen no less than the word and no more than the upper bound, and what it keeps is an assignment.
 pub record IsView (P : Network) (word : ℕ) (view : View) : Type 0 where
   pub from : word ≤ view.seen
@@ -66,13 +52,10 @@ pub record HasWordRule (P : Network) (w : World) : Type 0 where
   pub some : 0 < w.pool.view.shares
   pub all : w.pool.view.shares + shares_of w.views ≡ 128
 
--- The opening for workers 0 to workers - 1, and the main thread as one more: one free leaf, and nothing found.
-abbrev pub new_view : Network → ℕ → View
-new_view P shares = record { best = None; seen = P.upper; shares = shares }
-
+-- The opening for workers 0 to workers - 1, and the main thread as one more: the pool's, and nothing found.
 abbrev pub opening : Network → ℕ → ℕ → World
 opening P workers budget = record {
-  pool = record { tree = Leaf 0 Free; next = 1; budget = budget; nodes = 0; view = new_view P (127 - workers) };
+  pool = opening_pool P (127 - workers) budget;
   word = P.upper;
   views = replicate (workers + 1) (Some (new_view P 1));
   notes = [];

@@ -5,7 +5,7 @@ ghost use Rattle.cfn_model.specs.declared.limits.TheConstants.{GREATEST};
 ghost use Rattle.cfn_model.specs.Paths.{Tame};
 ghost use Rattle.cfn_model.specs.Tree.{Valid, Strict, count};
 ghost use Rattle.cfn_proof.specs.Nodes.{tree_of};
-ghost use Rattle.cfn_core.specs.Pool.{IsPiece, HasEmptyOpen};
+ghost use Rattle.cfn_machine.specs.Pool.{IsPiece, HasEmptyOpen};
 ghost use Rattle.cfn_core.specs.Values.{piece_of};
 
 use crate::task::Task;
@@ -25,7 +25,7 @@ pub struct Piece {
 
 impl Model for Piece {
     ghost use Rattle.std.specs.Prelude.{◌≤◌};
-    ghost use Rattle.cfn_core.specs.Pool.{IsPiece};
+    ghost use Rattle.cfn_machine.specs.Pool.{IsPiece};
     ghost use Rattle.cfn_core.specs.Values.{PieceValue, IsPieceValue};
 
     ghost Value = { PieceValue };

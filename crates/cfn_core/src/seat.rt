@@ -3,7 +3,8 @@
 ghost use Rattle.std.specs.Prelude.{◌≡◌, ◌<◌, true, false, length, map, replicate, slice_set, Some, None, IfOk, IsTrue, IsFalse};
 ghost use Rattle.std.specs.List.{AllByRecursion};
 ghost use Rattle.cfn_core.specs.declared.seat.Seat.{Seat};
-ghost use Rattle.cfn_core.specs.World.{cheaper, new_view, view_at};
+ghost use Rattle.cfn_machine.specs.Pool.{cheaper, new_view};
+ghost use Rattle.cfn_core.specs.World.{view_at};
 ghost use Rattle.cfn_core.specs.Machine.{IsOffered, IsSeat, IsSeatOf, found_of, seat_of};
 
 use cfn_net::{Network, Scored};

@@ -1,7 +1,7 @@
 //! A leaf that a worker has in hand.
 
 ghost use Rattle.std.specs.Prelude.{◌≡◌};
-ghost use Rattle.cfn_core.specs.Pool.{IsTask};
+ghost use Rattle.cfn_machine.specs.Pool.{IsTask};
 
 use cfn_net::Network;
 use cfn_proof::Path;
@@ -24,7 +24,7 @@ pub struct Task {
 }
 
 impl Model for Task {
-    ghost use Rattle.cfn_core.specs.Pool.{IsTask};
+    ghost use Rattle.cfn_machine.specs.Pool.{IsTask};
     ghost use Rattle.cfn_core.specs.Values.{TaskValue};
 
     ghost Value = { TaskValue };

@@ -4,7 +4,7 @@ ghost use Rattle.std.specs.Prelude.{◌≡◌, ℕ, ◌+◌, ◌<◌, ◌^◌, L
 ghost use Rattle.cfn_model.specs.Tree.{open_leaves};
 ghost use Rattle.cfn_proof.specs.Nodes.{tree_at, tree_of};
 ghost use Rattle.cfn_core.specs.declared.node.Node.{Node};
-ghost use Rattle.cfn_core.specs.Pool.{numbered};
+ghost use Rattle.cfn_machine.specs.Pool.{numbered};
 ghost use Rattle.cfn_core.specs.Nodes.{nodes_of};
 ghost use Rattle.cfn_core.specs.Walk.{IsOnWay};
 

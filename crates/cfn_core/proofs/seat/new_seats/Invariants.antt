@@ -1,6 +1,6 @@
 use Rattle.std.proofs.Common.{◌≡◌, map, replicate, Some}
 use Rattle.std.specs.List.{AllByRecursion}
-use Rattle.cfn_core.specs.World.{new_view}
+use Rattle.cfn_machine.specs.Pool.{new_view}
 use Rattle.cfn_core.specs.Machine.{IsSeatOf, seat_of}
 use Rattle.cfn_core.proofs.seat.new_seats.Given as goal
 

@@ -1,7 +1,7 @@
 use Rattle.std.proofs.Common.{◌≡◌, ◌+◌, [], length, reverse, ap, arith}
 use Rattle.cfn_proof.specs.Nodes.{tree_of}
 use Rattle.cfn_model.specs.Tree.{open_leaves}
-use Rattle.cfn_core.specs.Pool.{numbered}
+use Rattle.cfn_machine.specs.Pool.{numbered}
 use Rattle.cfn_core.specs.Nodes.{nodes_of}
 use Rattle.cfn_core.proofs.Making.{fewer_left, begun, done, turned, none_there}
 use Rattle.cfn_core.proofs.walk.piece_nodes.Goals as goal

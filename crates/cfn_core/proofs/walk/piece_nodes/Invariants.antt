@@ -1,7 +1,7 @@
 use Rattle.std.proofs.Common.{◌+◌, length, reverse}
 use Rattle.cfn_model.specs.Tree.{open_leaves}
 use Rattle.cfn_proof.specs.Nodes.{tree_of}
-use Rattle.cfn_core.specs.Pool.{numbered}
+use Rattle.cfn_machine.specs.Pool.{numbered}
 use Rattle.cfn_core.specs.Nodes.{nodes_of}
 use Rattle.cfn_core.specs.Walk.{IsOnWay, nodes_left}
 use Rattle.cfn_core.proofs.walk.piece_nodes.Given as goal

@@ -1,5 +1,5 @@
 use Rattle.std.proofs.Common.{◌≤◌, ℕ, refl, sym, ap, ◌∙◌, subst, MatchOption}
-use Rattle.cfn_core.specs.Pool.{Task}
+use Rattle.cfn_machine.specs.Pool.{Task}
 use Rattle.cfn_core.specs.World.{note_at}
 use Rattle.cfn_core.specs.Actions.{Acts, IsThere, CanGive, Give, Gone}
 use Rattle.cfn_core.specs.Finding.{IsOutAt}

@@ -1,9 +1,9 @@
 use Rattle.std.proofs.Common.{◌≡◌, ◌≢◌, ◌+◌, ◌∷◌, length, refl, ap, sym, ◌∙◌, subst}
 use Rattle.std.proofs.lemmas.List.{get_or_read}
 use Rattle.std.specs.Prelude.{slice_set}
+use Rattle.cfn_machine.specs.Pool.{Task, IsTask}
 use Rattle.cfn_core.specs.declared.node.End.TheVariants.{OutLeaf}
 use Rattle.cfn_core.specs.declared.node.Node.{Node}
-use Rattle.cfn_core.specs.Pool.{Task, IsTask}
 use Rattle.cfn_core.specs.Actions.{Acts, CanTake, Take, Given}
 use Rattle.cfn_core.specs.Finding.{no_node, node_at, granted_in, IsFirstFree}
 use Rattle.cfn_core.specs.Machine.{Machine, world_of}

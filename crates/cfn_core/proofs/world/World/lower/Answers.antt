@@ -1,7 +1,7 @@
 use Rattle.std.proofs.Common.{◌≡◌, refl, ap, min, map, sym, ◌∙◌, subst}
 use Rattle.std.specs.List.{AllByRecursion}
+use Rattle.cfn_machine.specs.Pool.{price}
 use Rattle.cfn_core.specs.Actions.{Acts, Lower, Seen}
-use Rattle.cfn_core.specs.World.{price}
 use Rattle.cfn_core.specs.Machine.{Machine, world_of, seat_of, found_of, IsSeatOf}
 use Rattle.cfn_core.proofs.Insides.{value, viewed}
 use Rattle.cfn_core.proofs.Seating.{lower_acts, each_set, each_at, seat_in, price_is, brought}

@@ -1,10 +1,9 @@
 use Rattle.std.proofs.Common.{◌≡◌, ◌+◌, refl, ap, ap₂, min, map, sym, ◌∙◌, subst}
 use Rattle.std.specs.List.{AllByRecursion}
 use Rattle.cfn_model.specs.Network.{Network}
+use Rattle.cfn_machine.specs.Pool.{View, cheaper}
 use Rattle.cfn_core.specs.declared.seat.Seat.{Seat}
-use Rattle.cfn_core.specs.Pool.{View}
 use Rattle.cfn_core.specs.Actions.{Acts, Meet, Done}
-use Rattle.cfn_core.specs.World.{cheaper}
 use Rattle.cfn_core.specs.Machine.{Machine, world_of, seat_of, found_of, IsSeatOf}
 use Rattle.cfn_core.proofs.Insides.{value, viewed}
 use Rattle.cfn_core.proofs.Seating.{meet_acts, each_set, each_at, seat_in, seat_read}

@@ -2,7 +2,7 @@ use Rattle.std.proofs.Common.{◌≡◌, ◌+◌, ◌-◌, None, refl, ap, ap₂
 use Rattle.std.specs.Prelude.{slice_set}
 use Rattle.cfn_model.specs.Tree.{count, open_leaves}
 use Rattle.cfn_proof.specs.Nodes.{tree_of}
-use Rattle.cfn_core.specs.Pool.{Task, IsPiece, numbered}
+use Rattle.cfn_machine.specs.Pool.{Task, IsPiece, numbered}
 use Rattle.cfn_core.specs.Actions.{Acts, CanGive, Give, Done, without}
 use Rattle.cfn_core.specs.Nodes.{nodes_of}
 use Rattle.cfn_core.specs.Finding.{open_in, IsOutAt}

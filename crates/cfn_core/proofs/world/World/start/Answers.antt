@@ -1,6 +1,6 @@
 use Rattle.std.proofs.Common.{◌≡◌, ◌-◌, [], ◌∷◌, ◌++◌, map, refl, ap, ap₂, ◌∙◌}
+use Rattle.cfn_machine.specs.Pool.{Free, Leaf}
 use Rattle.cfn_core.specs.declared.node.End.TheVariants.{FreeLeaf}
-use Rattle.cfn_core.specs.Pool.{Free, Leaf}
 use Rattle.cfn_core.specs.Nodes.{node, nodes_of}
 use Rattle.cfn_core.specs.Machine.{Machine, found_of, seat_of}
 use Rattle.cfn_core.proofs.Machines.{opened, is_opened}

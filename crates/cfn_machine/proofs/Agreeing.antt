@@ -5,13 +5,11 @@ use Rattle.cfn_model.specs.declared.step.Step.{Step}
 use Rattle.cfn_model.specs.declared.step.Decision.{Decision}
 use Rattle.cfn_model.specs.declared.step.Event.{Event}
 use Rattle.cfn_model.specs.declared.step.Event.TheVariants.{Did, Took, Refused}
-use Rattle.cfn_model.specs.Network.{Network}
 use Rattle.cfn_model.specs.Decisions.{holds}
 use Rattle.cfn_model.specs.Steps.{after}
 use Rattle.cfn_model.specs.Paths.{Agrees}
-use Rattle.cfn_core.specs.Pool.{Mark, Out, PoolTree, Leaf, Shut, Fork, IsLeaf, IsAnyLeaf, leaf_of}
-use Rattle.cfn_core.specs.World.{World}
-use Rattle.cfn_core.specs.Laws.{IsHanded, AgreesOnce}
+use Rattle.cfn_machine.specs.Pool.{Mark, PoolTree, Leaf, Shut, Fork, IsLeaf, IsAnyLeaf, leaf_of}
+use Rattle.cfn_machine.specs.Laws.{Agreed}
 
 -- steps say nothing
 agrees_after : (values : List ℕ) (block : List Step) (history : List Event) → Agrees values history → Agrees values (after block history)
@@ -76,19 +74,18 @@ mark_of h = cc
 not_shut : {n : ℕ} {mark : Mark} {block : List Step} → Leaf n mark ≡ Shut block → ⊥
 not_shut h = cc
 
-open_leaf : (tree : PoolTree) (history : List Event) (n : ℕ) (mark : Mark) (path : List Event) → IsAnyLeaf tree history (Leaf n mark) path → IsLeaf tree history n mark path
+pub open_leaf : (tree : PoolTree) (history : List Event) (n : ℕ) (mark : Mark) (path : List Event) → IsAnyLeaf tree history (Leaf n mark) path → IsLeaf tree history n mark path
 open_leaf (Leaf number m) history n mark path at = (number_of at.0, mark_of at.0, at.1)
 open_leaf (Shut block) history n mark path at = absurd (not_shut at.0)
 open_leaf (Fork block d first second) history n mark path (inl at) = inl (open_leaf first (Took d ∷ after block history) n mark path at)
 open_leaf (Fork block d first second) history n mark path (inr at) = inr (open_leaf second (Refused d ∷ after block history) n mark path at)
 
-pub agrees_once : (P : Network) (w : World) (values : List ℕ) → IsHanded P w → AgreesOnce P w values
-agrees_once P w values handed =
-    let own = agreeing values w.pool.tree [] tt in
+pub agreed : Agreed
+agreed tree values =
+    let own = agreeing values tree [] tt in
     record {
       path = own.0;
       there = own.1;
       agrees = own.2;
-      only = λ leaf other at agrees. only_one values w.pool.tree [] (leaf_of values w.pool.tree) own.0 leaf other own.1 own.2 at agrees;
-      out = λ n worker grant is. handed.in_hand n worker grant own.0 (open_leaf w.pool.tree [] n (Out worker grant) own.0 (subst (λ leaf. IsAnyLeaf w.pool.tree [] leaf own.0) is own.1));
+      only = λ leaf other at agrees. only_one values tree [] (leaf_of values tree) own.0 leaf other own.1 own.2 at agrees;
     }

@@ -8,7 +8,7 @@ use Rattle.cfn_model.specs.Sums.{floor}
 use Rattle.cfn_model.specs.Steps.{after}
 use Rattle.cfn_model.specs.Tree.{Tree, Open, Closed, Split, count, splits, open_leaves, Valid, Strict}
 use Rattle.cfn_model.specs.Paths.{Tame}
-use Rattle.cfn_core.specs.Pool.{Mark, Free, Out, PoolTree, Leaf, Shut, Fork, tree_of, Replaced, grant_of, granted, numbered, recalled, swept, HasEmptyOpen}
+use Rattle.cfn_machine.specs.Pool.{Mark, Free, Out, PoolTree, Leaf, Shut, Fork, tree_of, Replaced, grant_of, granted, numbered, recalled, swept, HasEmptyOpen}
 
 -- a tree in the place of one leaf
 module _ (n : ℕ) (mark : Mark) (path : List Event) (place : PoolTree) where

@@ -1,10 +1,10 @@
 -- The pool: a search tree whose open leaves are handed out to workers (branch and bound as in Allouche et al. 2015).
-use Rattle.std.specs.Prelude.{◌≡◌, ℕ, ◌+◌, ◌<◌, ◌≤◌, ◌⊎◌, List, [], ◌∷◌, Option, if◌then◌else◌, nat_le}
+use Rattle.std.specs.Prelude.{◌≡◌, ℕ, ◌+◌, ◌≤◌, ◌⊎◌, List, [], ◌∷◌, Option, Some, None, if◌then◌else◌, nat_le, nat_lt, ◌==◌}
 use Rattle.cfn_model.specs.declared.step.Step.{Step}
 use Rattle.cfn_model.specs.declared.step.Decision.{Decision}
 use Rattle.cfn_model.specs.declared.step.Event.{Event}
 use Rattle.cfn_model.specs.declared.step.Event.TheVariants.{Took, Refused}
-use Rattle.cfn_model.specs.Network.{Network}
+use Rattle.cfn_model.specs.Network.{Network, Fits, cost}
 use Rattle.cfn_model.specs.Sums.{floor}
 use Rattle.cfn_model.specs.Steps.{after}
 use Rattle.cfn_model.specs.Decisions.{holds}
@@ -129,6 +129,20 @@ pub record View : Type 0 where
   pub seen : ℕ
   pub shares : ℕ
 
+-- The price of an assignment is its cost; of none it is the upper bound.
+abbrev pub price : Network → Option (List ℕ) → ℕ
+price P None = P.upper
+price P (Some values) = cost P values
+
+-- The cheaper of two, the first where both cost the same.
+abbrev pub cheaper : Network → Option (List ℕ) → Option (List ℕ) → Option (List ℕ)
+cheaper P best other = if nat_lt (price P other) (price P best) then other else best
+
+-- What is kept where there is one fits the network.
+abbrev pub KeepsFitting : Network → Option (List ℕ) → Type 0
+KeepsFitting P None = Unit {0}
+KeepsFitting P (Some values) = Fits P.sizes values
+
 -- The pool's state. The numbers of leaves are below next.
 pub record Pool : Type 0 where
   pub tree : PoolTree
@@ -147,3 +161,21 @@ pub record IsSound (P : Network) (pool : Pool) : Type 0 where
   pub expanded : splits (tree_of pool.tree) ≤ pool.nodes
   pub counted : pool.nodes ≤ count (tree_of pool.tree)
   pub within : pool.nodes + granted pool.tree ≤ pool.budget
+
+-- How many open leaves have a number.
+abbrev pub leaves_with : ℕ → PoolTree → ℕ
+leaves_with n (Leaf number mark) = if number == n then 1 else 0
+leaves_with n (Shut block) = 0
+leaves_with n (Fork block d first second) = leaves_with n first + leaves_with n second
+
+-- Each open leaf of the pool has a number of its own, and the numbers from next on are fresh.
+pub record AreNumbered (pool : Pool) : Type 0 where
+  pub different : (n : ℕ) → leaves_with n pool.tree ≤ 1
+  pub fresh : (n : ℕ) → pool.next ≤ n → leaves_with n pool.tree ≡ 0
+
+-- The opening: one free leaf, and nothing found.
+abbrev pub new_view : Network → ℕ → View
+new_view P shares = record { best = None; seen = P.upper; shares = shares }
+
+abbrev pub opening_pool : Network → ℕ → ℕ → Pool
+opening_pool P shares budget = record { tree = Leaf 0 Free; next = 1; budget = budget; nodes = 0; view = new_view P shares }

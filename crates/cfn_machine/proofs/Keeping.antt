@@ -1,0 +1,172 @@
+-- Each step keeps the pool sound.
+use Rattle.std.proofs.Common.{◌≡◌, ℕ, ◌+◌, ◌<◌, ◌≤◌, inl, inr, min, List, [], ◌∷◌, refl, sym, ap, subst, arith, Option, ◌^◌}
+use Rattle.std.proofs.lemmas.Int.{ints}
+use Rattle.std.specs.Prelude.{Bool, true, false, if◌then◌else◌, pos, ◌<ℤ◌, nat_lt}
+use Rattle.cfn_model.specs.declared.step.Event.{Event}
+use Rattle.cfn_model.specs.declared.step.Event.TheVariants.{Took, Refused}
+use Rattle.cfn_model.specs.Network.{Network, IsNetwork, arity, entry_at, cell, dims, function_at}
+use Rattle.cfn_model.specs.Sums.{when}
+use Rattle.cfn_model.specs.Steps.{after}
+use Rattle.cfn_model.specs.Tree.{count, splits, Valid, Strict}
+use Rattle.cfn_model.proofs.CallerLemmas.{valid_lower}
+use Rattle.cfn_model.specs.Paths.{HasSmallCosts, Tame}
+use Rattle.cfn_machine.specs.Pool.{Mark, Free, Out, PoolTree, Leaf, Shut, Fork, tree_of, Replaced, grant_of, granted, numbered, Task, Piece, IsPiece, View, Pool, IsSound, price, cheaper, KeepsFitting}
+use Rattle.cfn_machine.specs.Steps.{PoolTakes, PoolGives, PoolReturns, PoolStep, Takes, Gives, Returns, Recalls, Sweeps, Meets, PoolSteps, IsLegal, pool_recalled, pool_swept, joined}
+use Rattle.cfn_machine.specs.Laws.{IsPool, Opens, KeepsSound, Keeps, Holds, Joins}
+use Rattle.cfn_machine.proofs.Placing.{replaced_valid, replaced_strict, replaced_tame, replaced_count, replaced_splits, replaced_granted, numbered_is, numbered_granted, recalled_is, recalled_granted, swept_valid, swept_strict, swept_tame, swept_granted, swept_count, swept_splits, splits_count}
+use Rattle.cfn_machine.proofs.Numbering.{keeps_numbered, opens_numbered}
+
+-- a leaf of a tame tree has small costs
+replaced_small : (P : Network) (n : ℕ) (mark : Mark) (path : List Event) (place tree : PoolTree) (history : List Event) (new : PoolTree) →
+    Replaced tree history n mark path place new → Tame P history (tree_of tree) → HasSmallCosts P path
+replaced_small P n mark path place (Leaf number m) history new at tame = subst (HasSmallCosts P) (sym at.2) tame
+replaced_small P n mark path place (Shut block) history new at tame = absurd at
+replaced_small P n mark path place (Fork block d first second) history new (inl at) tame =
+    replaced_small P n mark path place first (Took d ∷ after block history) at.0 at.1 tame.1
+replaced_small P n mark path place (Fork block d first second) history new (inr at) tame =
+    replaced_small P n mark path place second (Refused d ∷ after block history) at.0 at.1 tame.2
+
+module _ (P : Network) (pool : Pool) (sound : IsSound P pool) where
+  -- the pool's tree stays valid at a smaller threshold
+  seen_kept : (view : View) → view.seen ≤ pool.view.seen → IsSound P (record pool { view = view })
+  seen_kept view low = record {
+    seen = omega (arith, sound.seen);
+    valid = valid_lower P [] (tree_of pool.tree) pool.view.seen view.seen low sound.valid;
+    strict = sound.strict;
+    tame = sound.tame;
+    expanded = sound.expanded;
+    counted = sound.counted;
+    within = sound.within;
+  }
+
+  -- a leaf gets another mark
+  mark_kept : (n : ℕ) (mark other : Mark) (path : List Event) (tree : PoolTree) → Replaced pool.tree [] n mark path (Leaf n other) tree →
+      pool.nodes + granted pool.tree + grant_of other ≤ pool.budget + grant_of mark → IsSound P (record pool { tree = tree })
+  mark_kept n mark other path tree at room = record {
+    seen = sound.seen;
+    valid = replaced_valid n mark path (Leaf n other) P pool.view.seen pool.tree [] tree at tt sound.valid;
+    strict = replaced_strict n mark path (Leaf n other) P pool.tree [] tree at tt sound.strict;
+    tame = replaced_tame n mark path (Leaf n other) P pool.tree [] tree at (replaced_small P n mark path (Leaf n other) pool.tree [] tree at sound.tame) sound.tame;
+    expanded = omega (arith, sound.expanded, replaced_splits n mark path (Leaf n other) pool.tree [] tree at);
+    counted = omega (arith, sound.counted, replaced_count n mark path (Leaf n other) pool.tree [] tree at);
+    within = omega (arith, sound.within, room, replaced_granted n mark path (Leaf n other) pool.tree [] tree at);
+  }
+
+  take_kept : (worker want : ℕ) (task : Task) (new : Pool) → PoolTakes P pool worker want task new → IsSound P new
+  take_kept worker want task new takes =
+      let g = ap (λ (t : Task). t.grant) takes.handed in
+      subst (IsSound P) (sym takes.left) (mark_kept task.leaf Free (Out worker task.grant) task.path takes.tree takes.marked (omega (arith, g, sound.within)))
+
+  return_kept : (task : Task) (new : Pool) → PoolReturns pool task new → IsSound P new
+  return_kept task new returns =
+      subst (IsSound P) (sym returns.left) (mark_kept task.leaf (Out task.worker task.grant) Free returns.path returns.tree returns.freed (omega (arith, sound.within)))
+
+  give_kept : (word : ℕ) (piece : Piece) (new : Pool) → IsLegal P pool word (Gives piece) → PoolGives pool word piece new → IsSound P new
+  give_kept word piece new legal gives =
+      let is : IsPiece P piece = legal.0 in
+      let mark = Out piece.task.worker piece.task.grant in
+      let path = piece.task.path in
+      let place = numbered pool.next piece.tree in
+      let same : tree_of place ≡ piece.tree = numbered_is piece.tree pool.next is.empty in
+      let piece_valid : Valid P path (tree_of place) word = subst (λ t. Valid P path t word) (sym same) (valid_lower P path piece.tree piece.threshold word legal.1 is.valid) in
+      subst (IsSound P) (sym gives.left) (record {
+        seen = omega (arith, legal.2, sound.seen);
+        valid = replaced_valid piece.task.leaf mark path place P word pool.tree [] gives.tree gives.placed piece_valid (valid_lower P [] (tree_of pool.tree) pool.view.seen word legal.2 sound.valid);
+        strict = replaced_strict piece.task.leaf mark path place P pool.tree [] gives.tree gives.placed (subst (Strict P path) (sym same) is.strict) sound.strict;
+        tame = replaced_tame piece.task.leaf mark path place P pool.tree [] gives.tree gives.placed (subst (Tame P path) (sym same) is.tame) sound.tame;
+        expanded = (let c = replaced_splits piece.task.leaf mark path place pool.tree [] gives.tree gives.placed in let d : splits (tree_of place) ≡ splits piece.tree = ap splits same in omega (arith, sound.expanded, c, d, splits_count piece.tree));
+        counted = (let c = replaced_count piece.task.leaf mark path place pool.tree [] gives.tree gives.placed in let d : count (tree_of place) ≡ count piece.tree = ap count same in omega (arith, sound.counted, c, d));
+        within = omega (arith, sound.within, is.few, replaced_granted piece.task.leaf mark path place pool.tree [] gives.tree gives.placed, numbered_granted piece.tree pool.next);
+      })
+
+  recall_kept : IsSound P (pool_recalled pool)
+  recall_kept = record {
+    seen = sound.seen;
+    valid = subst (λ t. Valid P [] t pool.view.seen) (sym (recalled_is pool.tree)) sound.valid;
+    strict = subst (Strict P []) (sym (recalled_is pool.tree)) sound.strict;
+    tame = subst (Tame P []) (sym (recalled_is pool.tree)) sound.tame;
+    expanded = (let c = ap splits (recalled_is pool.tree) in omega (arith, sound.expanded, c));
+    counted = (let c = ap count (recalled_is pool.tree) in omega (arith, sound.counted, c));
+    within = omega (arith, sound.within, recalled_granted pool.tree);
+  }
+
+  sweep_kept : (word : ℕ) → word ≤ pool.view.seen → IsSound P (pool_swept P pool word)
+  sweep_kept word low = record {
+    seen = omega (arith, low, sound.seen);
+    valid = swept_valid P word pool.tree [] (valid_lower P [] (tree_of pool.tree) pool.view.seen word low sound.valid);
+    strict = swept_strict P word pool.tree [] sound.strict;
+    tame = swept_tame P word pool.tree [] sound.tame;
+    expanded = omega (arith, sound.expanded, swept_splits P word pool.tree []);
+    counted = omega (arith, sound.counted, swept_count P word pool.tree []);
+    within = omega (arith, sound.within, swept_granted P word pool.tree []);
+  }
+
+pub keeps_sound : KeepsSound
+keeps_sound P pool new word (Takes worker want task) legal sound step = take_kept P pool sound worker want task new step
+keeps_sound P pool new word (Gives piece) legal sound step = give_kept P pool sound word piece new legal step
+keeps_sound P pool new word (Returns task) legal sound step = return_kept P pool sound task new step
+keeps_sound P pool new word Recalls legal sound step = subst (IsSound P) (sym step) (recall_kept P pool sound)
+keeps_sound P pool new word Sweeps legal sound step = subst (IsSound P) (sym step) (sweep_kept P pool sound word legal)
+keeps_sound P pool new word (Meets view) legal sound step = subst (IsSound P) (sym step) (seen_kept P pool sound (joined P pool.view view) (omega arith))
+
+-- what is kept where a view is joined in
+below : (a b : ℕ) → nat_lt a b ≡ true → a < b
+below a b h = grind arith
+
+not_below : (a b : ℕ) → nat_lt a b ≡ false → b ≤ a
+not_below a b h = grind arith
+
+module _ (P : Network) where
+  cheaper_by : (b : Bool) (best other : Option (List ℕ)) → nat_lt (price P other) (price P best) ≡ b → price P (if b then other else best) ≡ min (price P best) (price P other)
+  cheaper_by true best other h = omega (arith, below _ _ h)
+  cheaper_by false best other h = omega (arith, not_below _ _ h)
+
+  pub cheaper_price : (best other : Option (List ℕ)) → price P (cheaper P best other) ≡ min (price P best) (price P other)
+  cheaper_price best other = cheaper_by (nat_lt (price P other) (price P best)) best other refl
+
+  keeps_by : (b : Bool) (best other : Option (List ℕ)) → KeepsFitting P best → KeepsFitting P other → KeepsFitting P (if b then other else best)
+  keeps_by true best other h k = k
+  keeps_by false best other h k = h
+
+  pub cheaper_keeps : (best other : Option (List ℕ)) → KeepsFitting P best → KeepsFitting P other → KeepsFitting P (cheaper P best other)
+  cheaper_keeps best other = keeps_by (nat_lt (price P other) (price P best)) best other
+
+pub joins : Joins
+joins P view other = record { price = cheaper_price P view.best other.best; seen = refl; shares = refl; keeps = cheaper_keeps P view.best other.best }
+
+best_kept : (P : Network) (pool new : Pool) (word : ℕ) (step : PoolStep) → IsLegal P pool word step → KeepsFitting P pool.view.best → PoolSteps P pool word step new → KeepsFitting P new.view.best
+best_kept P pool new word (Takes worker want task) legal keeps step = subst (λ (p : Pool). KeepsFitting P p.view.best) (sym step.left) keeps
+best_kept P pool new word (Gives piece) legal keeps step = subst (λ (p : Pool). KeepsFitting P p.view.best) (sym step.left) keeps
+best_kept P pool new word (Returns task) legal keeps step = subst (λ (p : Pool). KeepsFitting P p.view.best) (sym step.left) keeps
+best_kept P pool new word Recalls legal keeps step = subst (λ (p : Pool). KeepsFitting P p.view.best) (sym step) keeps
+best_kept P pool new word Sweeps legal keeps step = subst (λ (p : Pool). KeepsFitting P p.view.best) (sym step) keeps
+best_kept P pool new word (Meets view) legal keeps step = subst (λ (p : Pool). KeepsFitting P p.view.best) (sym step) (cheaper_keeps P pool.view.best view.best keeps legal)
+
+pub keeps : Keeps
+keeps P pool new word step legal is steps = record {
+  sound = keeps_sound P pool new word step legal is.sound steps;
+  numbered = keeps_numbered P pool new word step is.numbered steps;
+  keeps = best_kept P pool new word step legal is.keeps steps;
+}
+
+pub holds : Holds
+holds P pool new [] is runs = subst (IsPool P) (sym runs) is
+holds P pool new (move ∷ moves) is runs = holds P runs.0 new moves (keeps P pool runs.0 move.word move.step runs.1 is runs.2) runs.3
+
+-- the opening
+pub opening_small : (P : Network) → IsNetwork P → HasSmallCosts P []
+opening_small P network = record {
+  unary = λ x a is live. omega (arith, ints);
+  residual = λ f tuple there fits live. small (nat_lt 0 (arity P f)) (entry_at P f tuple) (omega (arith, network.upper, (network.functions f there).capped (cell (dims P.sizes (function_at P f).scope) tuple)));
+}
+  where
+    small : (b : Bool) (n : ℕ) → n < 2 ^ 64 → when b (pos n) <ℤ pos (2 ^ 64)
+    small true n h = omega (arith, ints)
+    small false n h = omega (arith, ints)
+
+pub opens : Opens
+opens P shares budget network = record {
+  sound = record { seen = omega arith; valid = tt; strict = tt; tame = opening_small P network; expanded = omega arith; counted = omega arith; within = omega arith };
+  numbered = opens_numbered P shares budget;
+  keeps = tt;
+}

@@ -1,0 +1,10 @@
+pub mod Placing
+pub mod Numbering
+pub mod Keeping
+pub mod Deciding
+pub mod Answering
+pub mod Agreeing
+pub mod Covering
+pub mod Tracing
+pub mod Outgoing
+pub mod CallerLemmas

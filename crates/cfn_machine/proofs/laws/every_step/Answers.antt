@@ -1,0 +1,18 @@
+use Rattle.cfn_machine.proofs.Keeping.{opens, keeps_sound, keeps, holds}
+use Rattle.cfn_machine.proofs.Numbering.{keeps_numbered}
+use Rattle.cfn_machine.proofs.laws.every_step.Goals as goal
+
+pub returns-clause-opens : goal.returns-clause-opens
+returns-clause-opens c = opens
+
+pub returns-clause-sound : goal.returns-clause-sound
+returns-clause-sound c = keeps_sound
+
+pub returns-clause-numbered : goal.returns-clause-numbered
+returns-clause-numbered c = keeps_numbered
+
+pub returns-clause-keeps : goal.returns-clause-keeps
+returns-clause-keeps c = keeps
+
+pub returns-clause-holds : goal.returns-clause-holds
+returns-clause-holds c = holds
