@@ -31,12 +31,12 @@ agreed P w values handed =
     let once = machine.agreed w.pool.tree values in
     record {
       once = once;
-      out = λ n worker grant is. handed.in_hand n worker grant once.path (open_leaf w.pool.tree [] n (Out worker grant) once.path (subst (λ leaf. IsAnyLeaf w.pool.tree [] leaf once.path) is once.there));
+      out = λ n worker grant block is. handed.in_hand n worker grant once.path (open_leaf w.pool.tree [] n (Out worker grant) block once.path (subst (λ leaf. IsAnyLeaf w.pool.tree [] leaf once.path) is once.there));
     }
 
 covered_by : (P : Network) (w : World) (values : List ℕ) (path : List Event) → IsHanded P w → (leaf : PoolTree) → IsAnyLeaf w.pool.tree [] leaf path → parts.IsCovered P w.pool values leaf → IsCovered P w values leaf
-covered_by P w values path handed (Leaf n Free) at covered = tt
-covered_by P w values path handed (Leaf n (Out worker grant)) at covered = (path, handed.in_hand n worker grant path (open_leaf w.pool.tree [] n (Out worker grant) path at))
+covered_by P w values path handed (Leaf n Free block) at covered = tt
+covered_by P w values path handed (Leaf n (Out worker grant) block) at covered = (path, handed.in_hand n worker grant path (open_leaf w.pool.tree [] n (Out worker grant) block path at))
 covered_by P w values path handed (Shut block) at covered = covered
 covered_by P w values path handed (Fork block d first second) at covered = covered
 

@@ -16,7 +16,7 @@ just : {due : Reply} {left : World} → Answers due left due left
 just = record { reply = refl; world = refl }
 
 -- the root is the first of the free leaves where it is the one leaf
-root_first : (P : Network) → IsFirst P (Leaf 0 Free) 0 []
+root_first : (P : Network) → IsFirst P (Leaf 0 Free []) 0 []
 root_first P = record { leaf = (refl, refl, refl); first = λ m other at. inr (ap (floor P) (same at.2), omega arith) }
   where
     same : {X : Type 0} {x y : X} → x ≡ y → y ≡ x
@@ -30,7 +30,6 @@ split_piece P is =
       valid = (tt, record { variable = is.network.some; value = omega (arith, is.values) }, tt, tt);
       strict = (record { first = (0, omega (arith, is.values), refl, refl); second = (1, is.values, refl, refl) }, tt, tt);
       tame = (small, small_took P [] (Is 0 0) small, small_refused P [] (Is 0 0) small);
-      empty = (refl, refl);
       some = omega arith;
       few = omega arith;
     }
@@ -59,19 +58,19 @@ is_splittable = record {
 pub split_spends : SplitSpends
 split_spends P is = (
   (tt, (tt, (split_piece P is, (tt, tt)))),
-  let w1 : World = taken (opening P 1 1) (root_task P) (record (opening P 1 1).pool { tree = Leaf 0 (Out 0 1) }) in
+  let w1 : World = taken (opening P 1 1) (root_task P) (record (opening P 1 1).pool { tree = Leaf 0 (Out 0 1) [] }) in
       let w2 : World = noted w1 (new_view P 1) in
-      let w3 : World = given w2 (root_split P) 0 (record w2.pool { tree = Fork [] (Is 0 0) (Leaf 1 Free) (Leaf 2 Free); next = 3; nodes = 1; view = record w2.pool.view { seen = w2.word } }) in (
+      let w3 : World = given w2 (root_split P) 0 (record w2.pool { tree = Fork [] (Is 0 0) (Leaf 1 Free []) (Leaf 2 Free []); next = 3; nodes = 1; view = record w2.pool.view { seen = w2.word } }) in (
         w3,
         (
           w1,
-          take_task (root_task P) w1.pool (omega arith, omega arith) (record { wants = omega arith; unspent = λ e. omega (arith, e); room = λ e. omega (arith, e); first = root_first P; handed = refl; tree = Leaf 0 (Out 0 1); marked = (refl, refl, refl, refl); left = refl }) just,
+          take_task (root_task P) w1.pool (omega arith, omega arith) (record { wants = omega arith; unspent = λ e. omega (arith, e); room = λ e. omega (arith, e); first = root_first P; handed = refl; tree = Leaf 0 (Out 0 1) []; marked = (refl, refl, refl, refl); left = refl }) just,
           (
             w2,
             just,
             (
               w3,
-              give_done w3.pool (omega arith, is.low) (record { tree = Fork [] (Is 0 0) (Leaf 1 Free) (Leaf 2 Free); placed = (refl, refl, refl, refl); left = refl }) just,
+              give_done w3.pool (omega arith, is.low) (record { tree = Fork [] (Is 0 0) (Leaf 1 Free []) (Leaf 2 Free []); placed = (refl, refl, refl, refl); left = refl }) just,
               (w3, take_none AllSpent (omega arith, omega arith) (omega arith, refl) just, refl),
             ),
           ),
@@ -83,15 +82,15 @@ split_spends P is = (
 pub recall_refuses : RecallRefuses
 recall_refuses P is = (
   (tt, (tt, (tt, (split_piece P is, tt)))),
-  let w1 : World = taken (opening P 1 2) (root_task P) (record (opening P 1 2).pool { tree = Leaf 0 (Out 0 1) }) in
+  let w1 : World = taken (opening P 1 2) (root_task P) (record (opening P 1 2).pool { tree = Leaf 0 (Out 0 1) [] }) in
       let w2 : World = noted w1 (new_view P 1) in
       let w3 : World = all_back w2 in
-      let w4 : World = taken w3 (root_task P) (record w3.pool { tree = Leaf 0 (Out 0 1) }) in (
+      let w4 : World = taken w3 (root_task P) (record w3.pool { tree = Leaf 0 (Out 0 1) [] }) in (
         w3,
         w4,
         (
           w1,
-          take_task (root_task P) w1.pool (omega arith, omega arith) (record { wants = omega arith; unspent = λ e. omega (arith, e); room = λ e. omega (arith, e); first = root_first P; handed = refl; tree = Leaf 0 (Out 0 1); marked = (refl, refl, refl, refl); left = refl }) just,
+          take_task (root_task P) w1.pool (omega arith, omega arith) (record { wants = omega arith; unspent = λ e. omega (arith, e); room = λ e. omega (arith, e); first = root_first P; handed = refl; tree = Leaf 0 (Out 0 1) []; marked = (refl, refl, refl, refl); left = refl }) just,
           (
             w2,
             just,
@@ -103,6 +102,6 @@ recall_refuses P is = (
           ),
         ),
         refl,
-        (w4, take_task (root_task P) w4.pool (omega arith, omega arith) (record { wants = omega arith; unspent = λ e. omega (arith, e); room = λ e. omega (arith, e); first = root_first P; handed = refl; tree = Leaf 0 (Out 0 1); marked = (refl, refl, refl, refl); left = refl }) just, refl),
+        (w4, take_task (root_task P) w4.pool (omega arith, omega arith) (record { wants = omega arith; unspent = λ e. omega (arith, e); room = λ e. omega (arith, e); first = root_first P; handed = refl; tree = Leaf 0 (Out 0 1) []; marked = (refl, refl, refl, refl); left = refl }) just, refl),
       ),
 )

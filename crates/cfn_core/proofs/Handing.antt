@@ -4,6 +4,8 @@ use Rattle.std.proofs.lemmas.List.{length-set}
 use Rattle.cfn_model.specs.declared.step.Event.{Event}
 use Rattle.cfn_model.specs.Network.{Network}
 use Rattle.cfn_model.specs.Sums.{floor}
+use Rattle.cfn_model.specs.Tree.{Open}
+use Rattle.std.proofs.Common.{None}
 use Rattle.cfn_machine.specs.Pool.{Free, Out, IsLeaf, Task, Piece, Pool, AreNumbered}
 use Rattle.cfn_machine.specs.Steps.{PoolTakes, PoolGives, PoolReturns, PoolStep, PoolSteps, pool_recalled, pool_swept, pool_met}
 use Rattle.cfn_machine.specs.Steps.{Takes as Taking, Gives as Giving, Returns as Returning, Recalls, Sweeps, Meets}
@@ -72,7 +74,7 @@ keeps_numbered P w new Recall r numbers acts = left_numbered (machine.keeps_numb
 keeps_numbered P w new Sweep r numbers acts = left_numbered (machine.keeps_numbered P w.pool (pool_swept P w.pool w.word) w.word Sweeps numbers refl) acts
 
 pub opens_numbered : OpensNumbered
-opens_numbered P workers budget = machine.opens_numbered P (127 - workers) budget
+opens_numbered P workers budget = machine.opens_numbered P (127 - workers) budget (Open []) None
 
 -- each action keeps the tasks in hand
 module _ (P : Network) (w : World) (numbers : AreNumbered w.pool) (handed : IsHanded P w) where

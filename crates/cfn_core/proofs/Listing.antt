@@ -1,7 +1,8 @@
 -- A tree and the list of its nodes.
-use Rattle.std.proofs.Common.{◌≡◌, ℕ, ◌+◌, ◌⊎◌, inl, inr, List, [], ◌∷◌, ◌++◌, length, map, refl, sym, ap, ap₂, ◌∙◌, append_assoc, arith, if◌then◌else◌}
+use Rattle.std.proofs.Common.{subst, ◌≡◌, ℕ, ◌+◌, ◌⊎◌, inl, inr, List, [], ◌∷◌, ◌++◌, length, map, refl, sym, ap, ap₂, ◌∙◌, append_assoc, arith, if◌then◌else◌}
 use Rattle.std.proofs.lemmas.List.{append-nil, map-append, length-append}
 use Rattle.std.specs.Prelude.{Bool, true, false, nat_le}
+use Rattle.cfn_model.specs.declared.step.Step.{Step}
 use Rattle.cfn_model.specs.declared.step.Decision.{Decision}
 use Rattle.cfn_model.specs.declared.step.Event.{Event}
 use Rattle.cfn_model.specs.declared.step.Event.TheVariants.{Took, Refused}
@@ -9,19 +10,20 @@ use Rattle.cfn_model.specs.Network.{Network}
 use Rattle.cfn_model.specs.Sums.{floor}
 use Rattle.cfn_model.specs.Steps.{after}
 use Rattle.cfn_model.specs.Tree.{count, open_leaves}
-use Rattle.cfn_machine.specs.Pool.{Mark, Free, Out, PoolTree, Leaf, Shut, Fork, tree_of, IsLeaf, Replaced, granted, recalled, swept}
+use Rattle.cfn_machine.specs.Pool.{Mark, Free, Out, PoolTree, Leaf, Shut, Fork, tree_of, IsLeaf, Replaced, granted, recalled, swept, grant_of, behind}
 use Rattle.cfn_core.specs.declared.node.End.TheVariants.{FreeLeaf, ShutLeaf, Branch}
 use Rattle.cfn_core.specs.declared.node.Node.{Node}
-use Rattle.cfn_core.specs.Nodes.{node, leaf_end, nodes_of, forked, with_end, trees_of, first_of, pool_tree, IsListed, recalled_end, recalled_node, swept_node}
+use Rattle.cfn_machine.proofs.CallerLemmas.{after_append}
+use Rattle.cfn_core.specs.Nodes.{node, leaf_end, nodes_of, led, forked, with_end, trees_of, first_of, pool_tree, IsListed, recalled_end, recalled_node, swept_node}
 use Rattle.cfn_core.specs.Finding.{open_end, open_in, grant_end, granted_in}
 
 -- a tree's nodes read as the tree
-leaf_read : (n : ℕ) (mark : Mark) (trees : List PoolTree) → with_end [] (leaf_end n mark) trees ≡ Leaf n mark ∷ trees
-leaf_read n Free trees = refl
-leaf_read n (Out worker grant) trees = refl
+leaf_read : (n : ℕ) (mark : Mark) (block : List Step) (trees : List PoolTree) → with_end block (leaf_end n mark) trees ≡ Leaf n mark block ∷ trees
+leaf_read n Free block trees = refl
+leaf_read n (Out worker grant) block trees = refl
 
 read : (P : Network) (path : List Event) (tree : PoolTree) (rest : List Node) → trees_of (nodes_of P path tree ++ rest) ≡ tree ∷ trees_of rest
-read P path (Leaf n mark) rest = leaf_read n mark (trees_of rest)
+read P path (Leaf n mark block) rest = leaf_read n mark block (trees_of rest)
 read P path (Shut block) rest = refl
 read P path (Fork block d first second) rest =
     let one = Took d ∷ after block path in
@@ -49,24 +51,24 @@ leaf_open n Free = refl
 leaf_open n (Out worker grant) = refl
 
 pub open_is : (P : Network) (path : List Event) (tree : PoolTree) → open_in (nodes_of P path tree) ≡ open_leaves (tree_of tree)
-open_is P path (Leaf n mark) = omega (arith, leaf_open n mark)
+open_is P path (Leaf n mark block) = omega (arith, leaf_open n mark)
 open_is P path (Shut block) = refl
 open_is P path (Fork block d first second) =
     omega (arith, open_append (nodes_of P (Took d ∷ after block path) first) (nodes_of P (Refused d ∷ after block path) second), open_is P (Took d ∷ after block path) first, open_is P (Refused d ∷ after block path) second)
 
-leaf_granted : (n : ℕ) (mark : Mark) → grant_end (leaf_end n mark) ≡ granted (Leaf n mark)
+leaf_granted : (n : ℕ) (mark : Mark) → grant_end (leaf_end n mark) ≡ grant_of mark
 leaf_granted n Free = refl
 leaf_granted n (Out worker grant) = refl
 
 pub granted_is : (P : Network) (path : List Event) (tree : PoolTree) → granted_in (nodes_of P path tree) ≡ granted tree
-granted_is P path (Leaf n mark) = omega (arith, leaf_granted n mark)
+granted_is P path (Leaf n mark block) = omega (arith, leaf_granted n mark)
 granted_is P path (Shut block) = refl
 granted_is P path (Fork block d first second) =
     omega (arith, granted_append (nodes_of P (Took d ∷ after block path) first) (nodes_of P (Refused d ∷ after block path) second), granted_is P (Took d ∷ after block path) first, granted_is P (Refused d ∷ after block path) second)
 
 -- each node is an open leaf, or counts
 pub length_is : (P : Network) (path : List Event) (tree : PoolTree) → length (nodes_of P path tree) ≡ count (tree_of tree) + open_leaves (tree_of tree)
-length_is P path (Leaf n mark) = refl
+length_is P path (Leaf n mark block) = refl
 length_is P path (Shut block) = refl
 length_is P path (Fork block d first second) =
     omega (arith, length-append (nodes_of P (Took d ∷ after block path) first) (nodes_of P (Refused d ∷ after block path) second), length_is P (Took d ∷ after block path) first, length_is P (Refused d ∷ after block path) second)
@@ -77,24 +79,25 @@ leaf_recalled n Free = refl
 leaf_recalled n (Out worker grant) = refl
 
 pub recalled_are : (P : Network) (path : List Event) (tree : PoolTree) → map recalled_node (nodes_of P path tree) ≡ nodes_of P path (recalled tree)
-recalled_are P path (Leaf n mark) = ap (λ e. node P path [] e ∷ []) (leaf_recalled n mark)
+recalled_are P path (Leaf n mark block) = ap (λ e. node P (after block path) block e ∷ []) (leaf_recalled n mark)
 recalled_are P path (Shut block) = refl
 recalled_are P path (Fork block d first second) =
-    ap (λ l. node P path block (Branch d) ∷ l) (map-append recalled_node (nodes_of P (Took d ∷ after block path) first) (nodes_of P (Refused d ∷ after block path) second)
+    ap (λ l. node P (after block path) block (Branch d) ∷ l) (map-append recalled_node (nodes_of P (Took d ∷ after block path) first) (nodes_of P (Refused d ∷ after block path) second)
     ∙ ap₂ ◌++◌ (recalled_are P (Took d ∷ after block path) first) (recalled_are P (Refused d ∷ after block path) second))
 
 -- free leaves closed
 module _ (P : Network) (k : ℕ) where
-  free_swept : (b : Bool) (n : ℕ) (path : List Event) → node P path [] (if b then ShutLeaf else FreeLeaf n) ∷ [] ≡ nodes_of P path (if b then Shut [] else Leaf n Free)
-  free_swept true n path = refl
-  free_swept false n path = refl
+  free_swept : (b : Bool) (n : ℕ) (block : List Step) (path : List Event) →
+      node P (after block path) block (if b then ShutLeaf else FreeLeaf n) ∷ [] ≡ nodes_of P path (if b then Shut block else Leaf n Free block)
+  free_swept true n block path = refl
+  free_swept false n block path = refl
 
   pub swept_are : (path : List Event) (tree : PoolTree) → map (swept_node k) (nodes_of P path tree) ≡ nodes_of P path (swept P k tree path)
-  swept_are path (Leaf n Free) = free_swept (nat_le k (floor P path)) n path
-  swept_are path (Leaf n (Out worker grant)) = refl
+  swept_are path (Leaf n Free block) = free_swept (nat_le k (floor P (after block path))) n block path
+  swept_are path (Leaf n (Out worker grant) block) = refl
   swept_are path (Shut block) = refl
   swept_are path (Fork block d first second) =
-      ap (λ l. node P path block (Branch d) ∷ l) (map-append (swept_node k) (nodes_of P (Took d ∷ after block path) first) (nodes_of P (Refused d ∷ after block path) second)
+      ap (λ l. node P (after block path) block (Branch d) ∷ l) (map-append (swept_node k) (nodes_of P (Took d ∷ after block path) first) (nodes_of P (Refused d ∷ after block path) second)
       ∙ ap₂ ◌++◌ (swept_are (Took d ∷ after block path) first) (swept_are (Refused d ∷ after block path) second))
 
 -- where a node stands in one list before another
@@ -142,28 +145,39 @@ single [] back is = (refl, head_is is, sym (tail_is is))
 single (f ∷ []) back is = cc
 single (f ∷ g ∷ front) back is = cc
 
+-- the nodes of a tree whose first block is put behind a block
+led_is : (P : Network) (block : List Step) (path : List Event) (tree : PoolTree) → nodes_of P path (behind block tree) ≡ led block (nodes_of P (after block path) tree)
+led_is P block path (Leaf n mark more) = ap (λ h. node P h (block ++ more) (leaf_end n mark) ∷ []) (after_append block more path)
+led_is P block path (Shut more) = ap (λ h. node P h (block ++ more) ShutLeaf ∷ []) (after_append block more path)
+led_is P block path (Fork more d first second) =
+    ap (λ h. node P h (block ++ more) (Branch d) ∷ (nodes_of P (Took d ∷ h) first ++ nodes_of P (Refused d ∷ h) second)) (after_append block more path)
+
 -- another tree in the place of an open leaf
 module _ (P : Network) (n : ℕ) (mark : Mark) (e : Node) (ends : e.end ≡ leaf_end n mark) where
   pub record Put (tree : PoolTree) (path : List Event) (front back : List Node) (place : PoolTree) : Type 0 where
-    pub leaf : e ≡ node P e.path [] (leaf_end n mark)
+    pub leaf : e ≡ node P e.path e.block (leaf_end n mark)
     pub new : PoolTree
     pub replaced : Replaced tree path n mark e.path place new
-    pub nodes : nodes_of P path new ≡ front ++ (nodes_of P e.path place ++ back)
+    pub nodes : nodes_of P path new ≡ front ++ (led e.block (nodes_of P e.path place) ++ back)
 
-  put_leaf : (place : PoolTree) (number : ℕ) (m : Mark) (path : List Event) (front back : List Node) → node P path [] (leaf_end number m) ∷ [] ≡ front ++ e ∷ back → Put (Leaf number m) path front back place
-  put_leaf place number m path front back is =
+  put_leaf : (place : PoolTree) (number : ℕ) (m : Mark) (block : List Step) (path : List Event) (front back : List Node) → node P (after block path) block (leaf_end number m) ∷ [] ≡ front ++ e ∷ back →
+      Put (Leaf number m block) path front back place
+  put_leaf place number m block path front back is =
       let parts = single front back is in
-      let same = same_leaf number n m mark (ap (λ (x : Node). x.end) parts.1 ∙ ends) in
-      let paths : e.path ≡ path = ap (λ (x : Node). x.path) (sym parts.1) in
+      let same_end : leaf_end number m ≡ leaf_end n mark = ap (λ (x : Node). x.end) parts.1 ∙ ends in
+      let same = same_leaf number n m mark same_end in
+      let paths : e.path ≡ after block path = ap (λ (x : Node). x.path) (sym parts.1) in
+      let blocks : e.block ≡ block = ap (λ (x : Node). x.block) (sym parts.1) in
       record {
-        leaf = sym parts.1 ∙ ap₂ (λ h l. node P h [] l) (sym paths) (ap (λ (x : Node). x.end) parts.1 ∙ ends);
-        new = place;
+        leaf = subst (λ (x : Node). x ≡ node P x.path x.block (leaf_end n mark)) parts.1 (ap (node P (after block path) block) same_end);
+        new = behind block place;
         replaced = (same.0, same.1, paths, refl);
-        nodes = sym (append-nil (nodes_of P path place)) ∙ ap₂ (λ h b. nodes_of P h place ++ b) (sym paths) (sym parts.2) ∙ ap (λ f. f ++ (nodes_of P e.path place ++ back)) (sym parts.0);
+        nodes = led_is P block path place ∙ sym (append-nil (led block (nodes_of P (after block path) place)))
+            ∙ ap₂ (λ l b. l ++ b) (ap₂ (λ b h. led b (nodes_of P h place)) (sym blocks) (sym paths)) (sym parts.2) ∙ ap (λ f. f ++ (led e.block (nodes_of P e.path place) ++ back)) (sym parts.0);
       }
 
   pub put : (place tree : PoolTree) (path : List Event) (front back : List Node) → nodes_of P path tree ≡ front ++ e ∷ back → Put tree path front back place
-  put place (Leaf number m) path front back is = put_leaf place number m path front back is
+  put place (Leaf number m block) path front back is = put_leaf place number m block path front back is
   put place (Shut block) path front back is = shut_not n mark (ap (λ (x : Node). x.end) (single front back is).1 ∙ ends)
   put place (Fork block d first second) path [] back is = branch_not n mark (ap (λ (x : Node). x.end) (head_is is) ∙ ends)
   put place (Fork block d first second) path (f ∷ front) back is =
@@ -177,8 +191,8 @@ module _ (P : Network) (n : ℕ) (mark : Mark) (e : Node) (ends : e.end ≡ leaf
               new = Fork block d below.new second;
               replaced = inl (below.new, below.replaced, refl);
               nodes = ap₂ (λ h l. h ∷ (l ++ nodes_of P two second)) (head_is is) below.nodes
-                  ∙ ap (λ l. f ∷ l) (append_assoc front (nodes_of P e.path place ++ here.left) (nodes_of P two second)
-                  ∙ ap (λ l. front ++ l) (append_assoc (nodes_of P e.path place) here.left (nodes_of P two second) ∙ ap (λ b. nodes_of P e.path place ++ b) (sym here.rest)));
+                  ∙ ap (λ l. f ∷ l) (append_assoc front (led e.block (nodes_of P e.path place) ++ here.left) (nodes_of P two second)
+                  ∙ ap (λ l. front ++ l) (append_assoc (led e.block (nodes_of P e.path place)) here.left (nodes_of P two second) ∙ ap (λ b. led e.block (nodes_of P e.path place) ++ b) (sym here.rest)));
             })
         | inr there ↦
             (let below = put place second two there.left back there.is in
@@ -187,13 +201,13 @@ module _ (P : Network) (n : ℕ) (mark : Mark) (e : Node) (ends : e.end ≡ leaf
               new = Fork block d first below.new;
               replaced = inr (below.new, below.replaced, refl);
               nodes = ap₂ (λ h l. h ∷ (nodes_of P one first ++ l)) (head_is is) below.nodes
-                  ∙ ap (λ l. f ∷ l) (sym (append_assoc (nodes_of P one first) there.left (nodes_of P e.path place ++ back)) ∙ ap (λ l. l ++ (nodes_of P e.path place ++ back)) (sym there.before));
+                  ∙ ap (λ l. f ∷ l) (sym (append_assoc (nodes_of P one first) there.left (led e.block (nodes_of P e.path place) ++ back)) ∙ ap (λ l. l ++ (led e.block (nodes_of P e.path place) ++ back)) (sym there.before));
             })
       ]
 
   -- the leaf is there
   pub at_leaf : (tree : PoolTree) (path : List Event) (front back : List Node) → nodes_of P path tree ≡ front ++ e ∷ back → IsLeaf tree path n mark e.path
-  at_leaf (Leaf number m) path front back is =
+  at_leaf (Leaf number m block) path front back is =
       let parts = single front back is in
       let same = same_leaf number n m mark (ap (λ (x : Node). x.end) parts.1 ∙ ends) in
       (same.0, same.1, ap (λ (x : Node). x.path) (sym parts.1))
@@ -211,27 +225,39 @@ pub record Has (nodes : List Node) (e : Node) : Type 0 where
   pub back : List Node
   pub is : nodes ≡ front ++ e ∷ back
 
-pub has_leaf : (P : Network) (n : ℕ) (mark : Mark) (leaf_path : List Event) (tree : PoolTree) (path : List Event) → IsLeaf tree path n mark leaf_path → Has (nodes_of P path tree) (node P leaf_path [] (leaf_end n mark))
-has_leaf P n mark leaf_path (Leaf number m) path at =
-    record { front = []; back = []; is = ap₂ (λ h e. node P h [] e ∷ []) (sym at.2) (ap₂ leaf_end at.0 at.1) }
+pub record HasLeaf (P : Network) (nodes : List Node) (n : ℕ) (mark : Mark) (path : List Event) : Type 0 where
+  pub block : List Step
+  pub has : Has nodes (node P path block (leaf_end n mark))
+
+pub has_leaf : (P : Network) (n : ℕ) (mark : Mark) (leaf_path : List Event) (tree : PoolTree) (path : List Event) → IsLeaf tree path n mark leaf_path → HasLeaf P (nodes_of P path tree) n mark leaf_path
+has_leaf P n mark leaf_path (Leaf number m block) path at = record {
+  block = block;
+  has = record { front = []; back = []; is = ap₂ (λ h e. node P h block e ∷ []) (sym at.2) (ap₂ leaf_end at.0 at.1) };
+}
 has_leaf P n mark leaf_path (Shut block) path at = absurd at
 has_leaf P n mark leaf_path (Fork block d first second) path (inl at) =
     let one = Took d ∷ after block path in
     let two = Refused d ∷ after block path in
     let below = has_leaf P n mark leaf_path first one at in
-    let e = node P leaf_path [] (leaf_end n mark) in
+    let e = node P leaf_path below.block (leaf_end n mark) in
     record {
-      front = node P path block (Branch d) ∷ below.front;
-      back = below.back ++ nodes_of P two second;
-      is = ap (λ l. node P path block (Branch d) ∷ l) (ap (λ l. l ++ nodes_of P two second) below.is ∙ append_assoc below.front (e ∷ below.back) (nodes_of P two second));
+      block = below.block;
+      has = record {
+        front = node P (after block path) block (Branch d) ∷ below.has.front;
+        back = below.has.back ++ nodes_of P two second;
+        is = ap (λ l. node P (after block path) block (Branch d) ∷ l) (ap (λ l. l ++ nodes_of P two second) below.has.is ∙ append_assoc below.has.front (e ∷ below.has.back) (nodes_of P two second));
+      };
     }
 has_leaf P n mark leaf_path (Fork block d first second) path (inr at) =
     let one = Took d ∷ after block path in
     let two = Refused d ∷ after block path in
     let below = has_leaf P n mark leaf_path second two at in
-    let e = node P leaf_path [] (leaf_end n mark) in
+    let e = node P leaf_path below.block (leaf_end n mark) in
     record {
-      front = node P path block (Branch d) ∷ (nodes_of P one first ++ below.front);
-      back = below.back;
-      is = ap (λ l. node P path block (Branch d) ∷ l) (ap (λ l. nodes_of P one first ++ l) below.is ∙ sym (append_assoc (nodes_of P one first) below.front (e ∷ below.back)));
+      block = below.block;
+      has = record {
+        front = node P (after block path) block (Branch d) ∷ (nodes_of P one first ++ below.has.front);
+        back = below.has.back;
+        is = ap (λ l. node P (after block path) block (Branch d) ∷ l) (ap (λ l. nodes_of P one first ++ l) below.has.is ∙ sym (append_assoc (nodes_of P one first) below.has.front (e ∷ below.has.back)));
+      };
     }

@@ -14,19 +14,19 @@ use Rattle.cfn_core.proofs.Handing.{opens_numbered, keeps_numbered, opens_handed
 use Rattle.cfn_core.proofs.Listing.{tree_read, is_listed}
 
 -- the opening
-pub opened : (P : Network) (workers budget : ℕ) (m : Machine) → m.network ≡ P → m.nodes ≡ nodes_of P [] (Leaf 0 Free) → m.next ≡ 1 → m.budget ≡ budget → m.spent ≡ 0 →
+pub opened : (P : Network) (workers budget : ℕ) (m : Machine) → m.network ≡ P → m.nodes ≡ nodes_of P [] (Leaf 0 Free []) → m.next ≡ 1 → m.budget ≡ budget → m.spent ≡ 0 →
     m.view ≡ new_view P (127 - workers) → m.word ≡ P.upper → m.views ≡ replicate (workers + 1) (Some (new_view P 1)) → m.notes ≡ [] → m.hands ≡ [] → world_of m ≡ opening P workers budget
 opened P workers budget m network nodes next allowed spent view word views notes hands =
-    let tree : pool_tree m.nodes ≡ Leaf 0 Free = tree_read P (Leaf 0 Free) m.nodes nodes in cc
+    let tree : pool_tree m.nodes ≡ Leaf 0 Free [] = tree_read P (Leaf 0 Free []) m.nodes nodes in cc
 
-pub is_opened : (P : Network) (workers budget : ℕ) (m : Machine) → m.network ≡ P → m.nodes ≡ nodes_of P [] (Leaf 0 Free) → m.next ≡ 1 → m.budget ≡ budget → m.spent ≡ 0 →
+pub is_opened : (P : Network) (workers budget : ℕ) (m : Machine) → m.network ≡ P → m.nodes ≡ nodes_of P [] (Leaf 0 Free []) → m.next ≡ 1 → m.budget ≡ budget → m.spent ≡ 0 →
     world_of m ≡ opening P workers budget → IsNetwork P → workers ≤ 64 → budget ≤ GREATEST → IsMachine m
 is_opened P workers budget m network nodes next allowed spent world is few small = record {
   network = subst IsNetwork (sym network) is;
   world = subst (λ Q. IsWorld Q (world_of m)) (sym network) (subst (IsWorld P) (sym world) (opens P workers budget is few));
   numbered = subst (λ (w : World). AreNumbered w.pool) (sym world) (opens_numbered P workers budget);
   handed = subst (λ Q. IsHanded Q (world_of m)) (sym network) (subst (IsHanded P) (sym world) (opens_handed P workers budget));
-  listed = subst (λ Q. IsListed Q m.nodes) (sym network) (is_listed P (Leaf 0 Free) m.nodes nodes);
+  listed = subst (λ Q. IsListed Q m.nodes) (sym network) (is_listed P (Leaf 0 Free []) m.nodes nodes);
   budget = omega arith;
   next = omega arith;
 }

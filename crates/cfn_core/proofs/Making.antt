@@ -35,28 +35,30 @@ module _ (P : Network) (tree : List Branching) (linked : IsLinked tree) where
     numbers_at : (t : Tree) → tree_at tree at.id.number ≡ t → number + (open_leaves t + numbers_left tree ahead) ≡ last
     numbers_at t is = subst (λ u. number + (open_leaves u + numbers_left tree ahead) ≡ last) is way.numbers
 
-    pub free_made : at.id.number < length tree → (node_at tree at.id.number).end ≡ Free → IsOnWay P tree whole last (made ++ node P at.path [] (FreeLeaf number) ∷ []) (number + 1) ahead
+    pub free_made : at.id.number < length tree → (node_at tree at.id.number).end ≡ Free →
+        IsOnWay P tree whole last (made ++ node P (after (node_at tree at.id.number).block at.path) (node_at tree at.id.number).block (FreeLeaf number) ∷ []) (number + 1) ahead
     free_made there is =
         let t = is_at at.id.number Free there is in
+        let block = (node_at tree at.id.number).block in
         record {
           there = way.there.1;
-          all = append_assoc made (node P at.path [] (FreeLeaf number) ∷ []) (nodes_left P tree (number + 1) ahead) ∙ all_at (Open (node_at tree at.id.number).block) t;
-          numbers = omega (arith, numbers_at (Open (node_at tree at.id.number).block) t);
+          all = append_assoc made (node P (after block at.path) block (FreeLeaf number) ∷ []) (nodes_left P tree (number + 1) ahead) ∙ all_at (Open block) t;
+          numbers = omega (arith, numbers_at (Open block) t);
         }
 
-    pub shut_made : at.id.number < length tree → (node_at tree at.id.number).end ≡ Shut → IsOnWay P tree whole last (made ++ node P at.path (node_at tree at.id.number).block ShutLeaf ∷ []) number ahead
+    pub shut_made : at.id.number < length tree → (node_at tree at.id.number).end ≡ Shut → IsOnWay P tree whole last (made ++ node P (after (node_at tree at.id.number).block at.path) (node_at tree at.id.number).block ShutLeaf ∷ []) number ahead
     shut_made there is =
         let t = is_at at.id.number Shut there is in
         let block = (node_at tree at.id.number).block in
         let same : nodes_left P tree (number + 0) ahead ≡ nodes_left P tree number ahead = ap (λ n. nodes_left P tree n ahead) (omega arith) in
         record {
           there = way.there.1;
-          all = append_assoc made (node P at.path block ShutLeaf ∷ []) (nodes_left P tree number ahead) ∙ ap (λ rest. made ++ node P at.path block ShutLeaf ∷ rest) (sym same) ∙ all_at (Closed block) t;
+          all = append_assoc made (node P (after block at.path) block ShutLeaf ∷ []) (nodes_left P tree number ahead) ∙ ap (λ rest. made ++ node P (after block at.path) block ShutLeaf ∷ rest) (sym same) ∙ all_at (Closed block) t;
           numbers = omega (arith, numbers_at (Closed block) t);
         }
 
     pub split_made : (d : Decision) (first second : NodeId) → at.id.number < length tree → (node_at tree at.id.number).end ≡ Divides d first second →
-        IsOnWay P tree whole last (made ++ node P at.path (node_at tree at.id.number).block (Branch d) ∷ []) number
+        IsOnWay P tree whole last (made ++ node P (after (node_at tree at.id.number).block at.path) (node_at tree at.id.number).block (Branch d) ∷ []) number
         (record { id = first; path = Took d ∷ after (node_at tree at.id.number).block at.path } ∷ record { id = second; path = Refused d ∷ after (node_at tree at.id.number).block at.path } ∷ ahead)
     split_made d first second there is =
         let t = is_at at.id.number (Divides d first second) there is in
@@ -69,9 +71,9 @@ module _ (P : Network) (tree : List Branching) (linked : IsLinked tree) where
         let same : nodes_left P tree ((number + open_leaves f) + open_leaves s) ahead ≡ nodes_left P tree (number + (open_leaves f + open_leaves s)) ahead = ap (λ n. nodes_left P tree n ahead) (omega arith) in
         record {
           there = (family.first_there, (family.second_there, way.there.1));
-          all = append_assoc made (node P at.path block (Branch d) ∷ []) (one ++ (two ++ nodes_left P tree ((number + open_leaves f) + open_leaves s) ahead))
-              ∙ ap (λ rest. made ++ node P at.path block (Branch d) ∷ (one ++ (two ++ rest))) same
-              ∙ ap (λ rest. made ++ node P at.path block (Branch d) ∷ rest) (sym (append_assoc one two (nodes_left P tree (number + (open_leaves f + open_leaves s)) ahead)))
+          all = append_assoc made (node P (after block at.path) block (Branch d) ∷ []) (one ++ (two ++ nodes_left P tree ((number + open_leaves f) + open_leaves s) ahead))
+              ∙ ap (λ rest. made ++ node P (after block at.path) block (Branch d) ∷ (one ++ (two ++ rest))) same
+              ∙ ap (λ rest. made ++ node P (after block at.path) block (Branch d) ∷ rest) (sym (append_assoc one two (nodes_left P tree (number + (open_leaves f + open_leaves s)) ahead)))
               ∙ all_at (Split block d f s) t;
           numbers = omega (arith, numbers_at (Split block d f s) t);
         }

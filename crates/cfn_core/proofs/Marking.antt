@@ -1,6 +1,6 @@
 -- A leaf that is found in the list of nodes: what takes its place, and which leaf is handed out first.
 use Rattle.std.proofs.Common.{◌≡◌, ◌≢◌, ℕ, suc, ◌+◌, ◌<◌, inl, inr, List, [], ◌∷◌, ◌++◌, length, map, take, drop, set, min, refl, sym, ap, ap₂, ◌∙◌, arith}
-use Rattle.std.proofs.lemmas.List.{take-append-drop, drop_more, set_split, length-append}
+use Rattle.std.proofs.lemmas.List.{append-nil, take-append-drop, drop_more, set_split, length-append}
 use Rattle.std.proofs.lemmas.Bool.{cases_lt}
 use Rattle.std.specs.Prelude.{slice_set}
 use Rattle.cfn_model.specs.Network.{Network}
@@ -48,29 +48,31 @@ module _ (P : Network) (nodes : List Node) (listed : IsListed P nodes) (i n : �
 
   pub record Marked (other : Mark) : Type 0 where
     pub new : PoolTree
-    pub replaced : Replaced (pool_tree nodes) [] n mark (node_at nodes i).path (Leaf n other) new
+    pub replaced : Replaced (pool_tree nodes) [] n mark (node_at nodes i).path (Leaf n other []) new
     pub all : slice_set nodes i (record (node_at nodes i) { end = leaf_end n other }) ≡ nodes_of P [] new
 
   pub marked : (other : Mark) → Marked other
   marked other =
-      let p = put_there (Leaf n other) in
+      let p = put_there (Leaf n other []) in
       record {
         new = p.new;
         replaced = p.replaced;
         all = set_at nodes i (record (node_at nodes i) { end = leaf_end n other }) there
-            ∙ ap (λ (e : Node). take i nodes ++ record e { end = leaf_end n other } ∷ drop (i + 1) nodes) p.leaf ∙ sym p.nodes;
+            ∙ ap (λ (e : Node). take i nodes ++ record e { end = leaf_end n other } ∷ drop (i + 1) nodes) p.leaf
+            ∙ ap (λ b. take i nodes ++ node P (node_at nodes i).path b (leaf_end n other) ∷ drop (i + 1) nodes) (sym (append-nil (node_at nodes i).block)) ∙ sym p.nodes;
       }
 
 -- the first free leaf is the first of the tree
 module _ (P : Network) (nodes : List Node) (listed : IsListed P nodes) (first : First) (is : IsFirstFree nodes (length nodes) first) where
   floor_there : first.floor ≡ floor P (node_at nodes first.place).path
-  floor_there = sym is.floor ∙ ap (λ (e : Node). e.floor) (put_there P nodes listed first.place first.number Free is.there is.free (Leaf 0 Free)).leaf
+  floor_there = sym is.floor ∙ ap (λ (e : Node). e.floor) (put_there P nodes listed first.place first.number Free is.there is.free (Leaf 0 Free [])).leaf
 
   pub is_first : IsFirst P (pool_tree nodes) first.number (node_at nodes first.place).path
   is_first = record {
     leaf = leaf_there P nodes listed first.place first.number Free is.there is.free;
-    first = λ m other at. (let p = placed (nodes_of P [] (pool_tree nodes)) (node P other [] (FreeLeaf m)) (has_leaf P m Free other (pool_tree nodes) [] at) in
-        let here : node_at nodes p.0 ≡ node P other [] (FreeLeaf m) = ap (λ l. node_at l p.0) listed ∙ p.2 in
+    first = λ m other at. (let found = has_leaf P m Free other (pool_tree nodes) [] at in
+        let p = placed (nodes_of P [] (pool_tree nodes)) (node P other found.block (FreeLeaf m)) found.has in
+        let here : node_at nodes p.0 ≡ node P other found.block (FreeLeaf m) = ap (λ l. node_at l p.0) listed ∙ p.2 in
         let floors : (node_at nodes p.0).floor ≡ floor P other = ap (λ (e : Node). e.floor) here in
         elim (is.least p.0 m (omega (arith, ap length listed, p.1)) (ap (λ (e : Node). e.end) here)) [
           | inl less ↦ inl (omega (arith, floor_there, floors, less))
@@ -138,16 +140,18 @@ module _ (m : Machine) (listed : IsListed m.network m.nodes) (worker want : ℕ)
         omega (arith, some, opened),
         unspent,
         inl (λ n path at.
-            (let p = placed (nodes_of m.network [] (pool_tree m.nodes)) (node m.network path [] (FreeLeaf n)) (has_leaf m.network n Free path (pool_tree m.nodes) [] at) in
-            let here : node_at m.nodes p.0 ≡ node m.network path [] (FreeLeaf n) = ap (λ l. node_at l p.0) listed ∙ p.2 in
+            (let found = has_leaf m.network n Free path (pool_tree m.nodes) [] at in
+            let p = placed (nodes_of m.network [] (pool_tree m.nodes)) (node m.network path found.block (FreeLeaf n)) found.has in
+            let here : node_at m.nodes p.0 ≡ node m.network path found.block (FreeLeaf n) = ap (λ l. node_at l p.0) listed ∙ p.2 in
             none p.0 n (omega (arith, ap length listed, p.1)) (ap (λ (e : Node). e.end) here))),
       ) (record { reply = refl; world = refl })
 
 -- a task that is given back
 pub not_out : (m : Machine) (task : Task) → IsListed m.network m.nodes → IsThere (world_of m) task.worker → ((j : ℕ) → IsAt m.nodes j (OutLeaf task.leaf task.worker task.grant) → ⊥) → Acts m.network (world_of m) (Back task) NotOut (world_of m)
 not_out m task listed there none = back_not there (λ path at.
-    (let e = node m.network path [] (OutLeaf task.leaf task.worker task.grant) in
-    let p = placed (nodes_of m.network [] (pool_tree m.nodes)) e (has_leaf m.network task.leaf (Out task.worker task.grant) path (pool_tree m.nodes) [] at) in
+    (let found = has_leaf m.network task.leaf (Out task.worker task.grant) path (pool_tree m.nodes) [] at in
+    let e = node m.network path found.block (OutLeaf task.leaf task.worker task.grant) in
+    let p = placed (nodes_of m.network [] (pool_tree m.nodes)) e found.has in
     let here : node_at m.nodes p.0 ≡ e = ap (λ l. node_at l p.0) listed ∙ p.2 in
     none p.0 (omega (arith, ap length listed, p.1), ap (λ (e : Node). e.end) here))) (record { reply = refl; world = refl })
 

@@ -36,12 +36,12 @@ abbrev pub SplitSpends : Type 0
 SplitSpends = (P : Network) → IsSplittable P → AreActions P (splitting P)
     × ((w : World)
     × Runs P (opening P 1 1) (splitting P) (Given (root_task P) ∷ Noted 0 ∷ Done ∷ Spent ∷ []) w
-    × (w.pool.tree ≡ Fork [] (Is 0 0) (Leaf 1 Free) (Leaf 2 Free)))
+    × (w.pool.tree ≡ Fork [] (Is 0 0) (Leaf 1 Free []) (Leaf 2 Free [])))
 
 -- Where the root was called back before, the split is refused, and the next taker gets the root again.
 abbrev pub RecallRefuses : Type 0
 RecallRefuses = (P : Network) → IsSplittable P → AreActions P (recalling P)
     × ((between w : World)
     × Runs P (opening P 1 2) (recalling P) (Given (root_task P) ∷ Noted 0 ∷ Done ∷ Gone ∷ []) between
-    × (between.pool.tree ≡ Leaf 0 Free)
+    × (between.pool.tree ≡ Leaf 0 Free [])
     × Runs P between (Take 0 1 ∷ []) (Given (root_task P) ∷ []) w)

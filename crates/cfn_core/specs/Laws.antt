@@ -1,6 +1,7 @@
 -- What holds of the world, whatever the workers do and in whatever order.
 use Rattle.std.specs.Prelude.{◌≡◌, ◌≢◌, ℕ, ◌<◌, ◌≤◌, ◌⊎◌, min, List, [], ◌∷◌, None, IfSome}
 use Rattle.std.specs.List.{AllByRecursion}
+use Rattle.cfn_model.specs.declared.step.Step.{Step}
 use Rattle.cfn_model.specs.declared.step.Event.{Event}
 use Rattle.cfn_model.specs.Sums.{floor}
 use Rattle.cfn_model.specs.Network.{Network, IsNetwork, Fits, Least, cost}
@@ -41,8 +42,8 @@ pub record IsHanded (P : Network) (w : World) : Type 0 where
 -- An assignment is covered by its leaf: the leaf is free, or out with its task in hand, or closed and the assignment
 -- costs at least the threshold that the pool has seen.
 abbrev pub IsCovered : Network → World → List ℕ → PoolTree → Type 0
-IsCovered P w values (Leaf n Free) = Unit {0}
-IsCovered P w values (Leaf n (Out worker grant)) =
+IsCovered P w values (Leaf n Free block) = Unit {0}
+IsCovered P w values (Leaf n (Out worker grant) block) =
     (path : List Event) × IsInHand (record { leaf = n; worker = worker; grant = grant; floor = floor P path; path = path }) w.hands
 IsCovered P w values (Shut block) = w.pool.view.seen ≤ cost P values
 IsCovered P w values (Fork block d first second) = ⊥
@@ -51,7 +52,7 @@ IsCovered P w values (Fork block d first second) = ⊥
 -- very path.
 pub record AgreesInHand (P : Network) (w : World) (values : List ℕ) : Type 0 where
   pub once : AgreesOnce w.pool.tree values
-  pub out : (n worker grant : ℕ) → leaf_of values w.pool.tree ≡ Leaf n (Out worker grant) →
+  pub out : (n worker grant : ℕ) (block : List Step) → leaf_of values w.pool.tree ≡ Leaf n (Out worker grant) block →
       IsInHand (record { leaf = n; worker = worker; grant = grant; floor = floor P once.path; path = once.path }) w.hands
 
 -- Both hold at the opening, and each action keeps them.

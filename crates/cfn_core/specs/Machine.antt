@@ -36,7 +36,7 @@ pub record Machine : Type 0 where
 -- The world that it is in.
 abbrev pub world_of : Machine → World
 world_of m = record {
-  pool = record { tree = pool_tree m.nodes; next = m.next; budget = m.budget; nodes = m.spent; view = m.view };
+  pool = record { tree = pool_tree m.nodes; next = m.next; budget = m.budget; begun = 0; nodes = m.spent; view = m.view };
   word = m.word;
   views = m.views;
   notes = m.notes;

@@ -13,7 +13,7 @@ use Rattle.cfn_core.specs.declared.node.End.{End}
 use Rattle.cfn_core.specs.declared.node.End.TheVariants.{FreeLeaf, OutLeaf, ShutLeaf, Branch}
 use Rattle.cfn_core.specs.declared.node.Node.{Node}
 
--- A node at the end of a path.
+-- A node: its path, which ends with its block, the floor there, its block, and its end.
 abbrev pub node : Network → List Event → List Step → End → Node
 node P path block e = record { path = path; floor = floor P path; block = block; end = e }
 
@@ -24,10 +24,15 @@ leaf_end n (Out worker grant) = OutLeaf n worker grant
 
 -- The nodes of a tree behind a path.
 abbrev pub nodes_of : Network → List Event → PoolTree → List Node
-nodes_of P path (Leaf n mark) = node P path [] (leaf_end n mark) ∷ []
-nodes_of P path (Shut block) = node P path block ShutLeaf ∷ []
+nodes_of P path (Leaf n mark block) = node P (after block path) block (leaf_end n mark) ∷ []
+nodes_of P path (Shut block) = node P (after block path) block ShutLeaf ∷ []
 nodes_of P path (Fork block d first second) =
-    node P path block (Branch d) ∷ (nodes_of P (Took d ∷ after block path) first ++ nodes_of P (Refused d ∷ after block path) second)
+    node P (after block path) block (Branch d) ∷ (nodes_of P (Took d ∷ after block path) first ++ nodes_of P (Refused d ∷ after block path) second)
+
+-- A list of nodes whose first block is put behind a block.
+abbrev pub led : List Step → List Node → List Node
+led block [] = []
+led block (node ∷ nodes) = record node { block = block ++ node.block } ∷ nodes
 
 -- A split of the first two of a list of trees, put in their place.
 abbrev pub forked : List Step → Decision → List PoolTree → List PoolTree
@@ -37,8 +42,8 @@ forked block d (first ∷ second ∷ trees) = Fork block d first second ∷ tree
 
 -- A node's tree before the trees that stand behind it.
 abbrev pub with_end : List Step → End → List PoolTree → List PoolTree
-with_end block (FreeLeaf n) trees = Leaf n Free ∷ trees
-with_end block (OutLeaf n worker grant) trees = Leaf n (Out worker grant) ∷ trees
+with_end block (FreeLeaf n) trees = Leaf n Free block ∷ trees
+with_end block (OutLeaf n worker grant) trees = Leaf n (Out worker grant) block ∷ trees
 with_end block ShutLeaf trees = Shut block ∷ trees
 with_end block (Branch d) trees = forked block d trees
 

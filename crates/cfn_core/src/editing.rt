@@ -1,11 +1,12 @@
 //! Changes of a list of nodes.
 
-ghost use Rattle.std.specs.Prelude.{◌≡◌, ◌+◌, ◌<◌, ◌++◌, length, map, take, drop, slice_set, OnOk, OnErr};
-ghost use Rattle.cfn_core.specs.Nodes.{recalled_end, recalled_node, swept_end, swept_node};
+ghost use Rattle.std.specs.Prelude.{◌≡◌, ◌+◌, ◌<◌, ◌++◌, length, map, take, drop, slice_set, IfOk, OnOk, OnErr};
+ghost use Rattle.cfn_core.specs.Nodes.{led, recalled_end, recalled_node, swept_end, swept_node};
 ghost use Rattle.cfn_core.specs.Finding.{node_at};
 
 use crate::node::{End, Node};
-use std::alloc::AllocError;
+use cfn_proof::Block;
+use std::alloc::{AllocError, Global};
 
 /// Gives a node another end. It takes no memory.
 pub(crate) fn set_end(nodes: &mut Vec<Node>, place: usize, end: End)
@@ -55,6 +56,28 @@ fn swept(k: u64, floor: u128, end: End) -> End
         End::FreeLeaf { .. } if k as u128 <= floor => End::ShutLeaf,
         _ => end,
     }
+}
+
+/// Puts the first node's block behind a block. An `Err` is want of memory.
+pub(crate) fn lead(alloc: Global, made: &mut Vec<Node>, block: &Block) -> Result<(), AllocError>
+    requires { 0 < length made.old.items }
+    ensures { OnOk result (made.new.items ≡ led block.now made.old.items) }
+{
+    let whole = joined(alloc, block, &made[0].block)?;
+    made[0].block = whole;
+    Ok(())
+}
+
+/// The steps of one block and then those of another. An `Err` is want of memory.
+fn joined(alloc: Global, block: &Block, more: &Block) -> Result<Block, AllocError>
+    ensures { IfOk result (λ whole. whole ≡ block.now ++ more.now) }
+{
+    let mut whole = block.copy(alloc)?;
+    let steps = more.steps();
+    for step in steps {
+        whole.push(*step)?;
+    }
+    Ok(whole)
 }
 
 /// Puts nodes in the place of one. An `Err`, want of memory, leaves the list as it was.

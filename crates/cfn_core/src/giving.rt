@@ -8,7 +8,7 @@ ghost use Rattle.cfn_core.specs.Machine.{IsReplyOf, reply_of, world_of};
 ghost use Rattle.cfn_core.specs.Values.{piece_of};
 
 use crate::action::Reply;
-use crate::editing::put;
+use crate::editing::{lead, put};
 use crate::finding::{open_count, place_out};
 use crate::hands::let_go;
 use crate::piece::Piece;
@@ -52,9 +52,11 @@ impl World<'_> {
         let alloc = *self.nodes.allocator();
         let network = self.network;
         let task = piece.task();
-        let made = piece_nodes(alloc, network, task.path(), piece.tree(), self.next)?;
+        let mut made = piece_nodes(alloc, network, task.path(), piece.tree(), self.next)?;
         let size = made.len() as u64;
         let opened = open_count(made.as_slice());
+        let node = &self.nodes[place];
+        lead(alloc, &mut made, &node.block)?;
         put(&mut self.nodes, place, made)?;
         self.next += opened;
         self.spent += size - opened;

@@ -30,7 +30,7 @@ pub(crate) enum End {
     },
 }
 
-/// A node: what stands before it, the floor there, the block of steps before its end, and its end.
+/// A node: its path, which is what stands before it and then its own block, the floor there, its block, and its end.
 #[derive(Drop)]
 pub(crate) struct Node {
     pub(crate) path: Path,
@@ -40,7 +40,7 @@ pub(crate) struct Node {
 }
 
 impl Node {
-    /// The node at the end of a path. It takes no memory.
+    /// The node whose path this is, with its block and its end. It takes no memory.
     pub(crate) fn at(network: &Network, path: Path, block: Block, end: End) -> Node
         ensures { result ≡ node network.now path block end }
     {

@@ -5,7 +5,7 @@ ghost use Rattle.cfn_model.specs.declared.limits.TheConstants.{GREATEST};
 ghost use Rattle.cfn_model.specs.Paths.{Tame};
 ghost use Rattle.cfn_model.specs.Tree.{Valid, Strict, count};
 ghost use Rattle.cfn_proof.specs.Nodes.{tree_of};
-ghost use Rattle.cfn_machine.specs.Pool.{IsPiece, HasEmptyOpen};
+ghost use Rattle.cfn_machine.specs.Pool.{IsPiece};
 ghost use Rattle.cfn_core.specs.Values.{piece_of};
 
 use crate::task::Task;
@@ -15,7 +15,7 @@ use std::marker::Model;
 /// A task, the tree that its worker made below its leaf, and the threshold that the tree was made at.
 ///
 /// The tree goes on from the leaf: it is valid there at the threshold, strict, and has small costs all along. It has 1
-/// to `grant` splits and closed leaves, and the blocks of its open leaves are empty.
+/// to `grant` splits and closed leaves.
 #[derive(Drop)]
 pub struct Piece {
     task: Task,
@@ -41,7 +41,6 @@ impl Piece {
         requires valid { Valid task.network task.task.path (tree_of tree) threshold }
         requires strict { Strict task.network task.task.path (tree_of tree) }
         requires tame { Tame task.network task.task.path (tree_of tree) }
-        requires empty { HasEmptyOpen (tree_of tree) }
         requires some { 1 ≤ count (tree_of tree) }
         requires few { count (tree_of tree) ≤ task.task.grant }
         requires threshold { threshold ≤ GREATEST }

@@ -6,20 +6,23 @@ ghost use Rattle.cfn_model.specs.Steps.{after};
 use cfn_proof::{Block, Event, Path};
 use std::alloc::{AllocError, Global};
 
-/// The path to a child: on from a node's path by its block, and then by a decision. An `Err` is want of memory.
-pub(crate) fn child_path(
-    alloc: Global,
-    path: &Path,
-    block: &Block,
-    decision: Event,
-) -> Result<Path, AllocError>
-    ensures { IfOk result (λ child. child ≡ decision ∷ after block.now path.now) }
+/// The path on by a block. An `Err` is want of memory.
+pub(crate) fn block_path(path: Path, block: &Block) -> Result<Path, AllocError>
+    ensures { IfOk result (λ longer. longer ≡ after block.now path) }
 {
-    let mut child = path.copy(alloc)?;
+    let mut longer = path;
     let steps = block.steps();
     for step in steps {
-        child.push(Event::Did(*step))?;
+        longer.push(Event::Did(*step))?;
     }
+    Ok(longer)
+}
+
+/// The path to a child: on by a decision. An `Err` is want of memory.
+pub(crate) fn child_path(alloc: Global, path: &Path, decision: Event) -> Result<Path, AllocError>
+    ensures { IfOk result (λ child. child ≡ decision ∷ path.now) }
+{
+    let mut child = path.copy(alloc)?;
     child.push(decision)?;
     Ok(child)
 }

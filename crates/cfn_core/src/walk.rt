@@ -9,9 +9,9 @@ ghost use Rattle.cfn_core.specs.Nodes.{nodes_of};
 ghost use Rattle.cfn_core.specs.Walk.{IsOnWay};
 
 use crate::node::{End as PoolEnd, Node};
-use crate::trail::child_path;
+use crate::trail::{block_path, child_path};
 use cfn_net::Network;
-use cfn_proof::{Block, End, Event, NodeId, Path, Tree};
+use cfn_proof::{End, Event, NodeId, Path, Tree};
 use std::alloc::{AllocError, Global};
 
 /// A node of the piece's tree that the walk has still to come to, and what stands before it.
@@ -86,26 +86,26 @@ fn visit(
     tree.linked();
     let Ahead { id, path } = at;
     let node = tree.node(id);
+    let here = block_path(path, &node.block)?;
+    let block = node.block.copy(alloc)?;
     match node.end {
         End::Free => {
             let number = walk.number;
             let end = PoolEnd::FreeLeaf { number };
-            walk.made
-                .push(Node::at(network, path, Block::new(alloc), end))?;
+            walk.made.push(Node::at(network, here, block, end))?;
             walk.number += 1;
         }
         End::Shut => {
-            let block = node.block.copy(alloc)?;
             walk.made
-                .push(Node::at(network, path, block, PoolEnd::ShutLeaf))?;
+                .push(Node::at(network, here, block, PoolEnd::ShutLeaf))?;
         }
         End::Split {
             decision,
             first,
             second,
         } => {
-            let took = child_path(alloc, &path, &node.block, Event::Took(decision))?;
-            let refused = child_path(alloc, &path, &node.block, Event::Refused(decision))?;
+            let took = child_path(alloc, &here, Event::Took(decision))?;
+            let refused = child_path(alloc, &here, Event::Refused(decision))?;
             walk.ahead.push(Ahead {
                 id: second,
                 path: refused,
@@ -114,9 +114,8 @@ fn visit(
                 id: first,
                 path: took,
             })?;
-            let block = node.block.copy(alloc)?;
             let end = PoolEnd::Branch { decision };
-            walk.made.push(Node::at(network, path, block, end))?;
+            walk.made.push(Node::at(network, here, block, end))?;
         }
     }
     Ok(())

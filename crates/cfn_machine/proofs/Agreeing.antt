@@ -22,8 +22,8 @@ agrees_before values (step ∷ block) history agrees = agrees_before values bloc
 
 -- what agrees with a leaf's path agrees with what stands before the tree
 agrees_above : (values : List ℕ) (tree : PoolTree) (history : List Event) (leaf : PoolTree) (path : List Event) → IsAnyLeaf tree history leaf path → Agrees values path → Agrees values history
-agrees_above values (Leaf number mark) history leaf path at agrees = subst (Agrees values) at.1 agrees
-agrees_above values (Shut block) history leaf path at agrees = subst (Agrees values) at.1 agrees
+agrees_above values (Leaf number mark block) history leaf path at agrees = agrees_before values block history (subst (Agrees values) at.1 agrees)
+agrees_above values (Shut block) history leaf path at agrees = agrees_before values block history (subst (Agrees values) at.1 agrees)
 agrees_above values (Fork block d first second) history leaf path (inl at) agrees =
     agrees_before values block history (agrees_above values first (Took d ∷ after block history) leaf path at agrees).1
 agrees_above values (Fork block d first second) history leaf path (inr at) agrees =
@@ -40,8 +40,8 @@ agreeing_by values block d first second history true f s test one two = let r = 
 agreeing_by values block d first second history false f s test one two = let r = two test in (r.0, inr r.1, r.2)
 
 agreeing : (values : List ℕ) (tree : PoolTree) (history : List Event) → Agrees values history → HasAgreeing values tree history (leaf_of values tree)
-agreeing values (Leaf number mark) history agrees = (history, (refl, refl), agrees)
-agreeing values (Shut block) history agrees = (history, (refl, refl), agrees)
+agreeing values (Leaf number mark block) history agrees = (after block history, (refl, refl), agrees_after values block history agrees)
+agreeing values (Shut block) history agrees = (after block history, (refl, refl), agrees_after values block history agrees)
 agreeing values (Fork block d first second) history agrees =
     agreeing_by values block d first second history (holds d values) (leaf_of values first) (leaf_of values second) refl
     (λ is. agreeing values first (Took d ∷ after block history) (is, agrees_after values block history agrees))
@@ -53,7 +53,7 @@ holds_once h k = cc
 -- no other leaf's path does
 only_one : (values : List ℕ) (tree : PoolTree) (history : List Event) (leaf : PoolTree) (path : List Event) (other : PoolTree) (another : List Event) →
     IsAnyLeaf tree history leaf path → Agrees values path → IsAnyLeaf tree history other another → Agrees values another → (other ≡ leaf) × (another ≡ path)
-only_one values (Leaf number mark) history leaf path other another at agrees there too = (there.0 ∙ sym at.0, there.1 ∙ sym at.1)
+only_one values (Leaf number mark block) history leaf path other another at agrees there too = (there.0 ∙ sym at.0, there.1 ∙ sym at.1)
 only_one values (Shut block) history leaf path other another at agrees there too = (there.0 ∙ sym at.0, there.1 ∙ sym at.1)
 only_one values (Fork block d first second) history leaf path other another (inl at) agrees (inl there) too =
     only_one values first (Took d ∷ after block history) leaf path other another at agrees there too
@@ -65,20 +65,20 @@ only_one values (Fork block d first second) history leaf path other another (inr
     only_one values second (Refused d ∷ after block history) leaf path other another at agrees there too
 
 -- an open leaf
-number_of : {n m : ℕ} {mark other : Mark} → Leaf n mark ≡ Leaf m other → m ≡ n
+number_of : {n m : ℕ} {mark other : Mark} {block more : List Step} → Leaf n mark block ≡ Leaf m other more → m ≡ n
 number_of h = cc
 
-mark_of : {n m : ℕ} {mark other : Mark} → Leaf n mark ≡ Leaf m other → other ≡ mark
+mark_of : {n m : ℕ} {mark other : Mark} {block more : List Step} → Leaf n mark block ≡ Leaf m other more → other ≡ mark
 mark_of h = cc
 
-not_shut : {n : ℕ} {mark : Mark} {block : List Step} → Leaf n mark ≡ Shut block → ⊥
+not_shut : {n : ℕ} {mark : Mark} {own block : List Step} → Leaf n mark own ≡ Shut block → ⊥
 not_shut h = cc
 
-pub open_leaf : (tree : PoolTree) (history : List Event) (n : ℕ) (mark : Mark) (path : List Event) → IsAnyLeaf tree history (Leaf n mark) path → IsLeaf tree history n mark path
-open_leaf (Leaf number m) history n mark path at = (number_of at.0, mark_of at.0, at.1)
-open_leaf (Shut block) history n mark path at = absurd (not_shut at.0)
-open_leaf (Fork block d first second) history n mark path (inl at) = inl (open_leaf first (Took d ∷ after block history) n mark path at)
-open_leaf (Fork block d first second) history n mark path (inr at) = inr (open_leaf second (Refused d ∷ after block history) n mark path at)
+pub open_leaf : (tree : PoolTree) (history : List Event) (n : ℕ) (mark : Mark) (own : List Step) (path : List Event) → IsAnyLeaf tree history (Leaf n mark own) path → IsLeaf tree history n mark path
+open_leaf (Leaf number m block) history n mark own path at = (number_of at.0, mark_of at.0, at.1)
+open_leaf (Shut block) history n mark own path at = absurd (not_shut at.0)
+open_leaf (Fork block d first second) history n mark own path (inl at) = inl (open_leaf first (Took d ∷ after block history) n mark own path at)
+open_leaf (Fork block d first second) history n mark own path (inr at) = inr (open_leaf second (Refused d ∷ after block history) n mark own path at)
 
 pub agreed : Agreed
 agreed tree values =

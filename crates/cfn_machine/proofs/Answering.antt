@@ -15,7 +15,7 @@ use Rattle.cfn_machine.proofs.Numbering.{leaf_counts, replaced_leaf}
 -- one leaf has a number, and one tree comes of it where another takes its place
 pub one_path : (n : ℕ) (mark other_mark : Mark) (path other : List Event) (tree : PoolTree) (history : List Event) → leaves_with n tree ≤ 1 →
     IsLeaf tree history n mark path → IsLeaf tree history n other_mark other → (mark ≡ other_mark) × (path ≡ other)
-one_path n mark other_mark path other (Leaf number m) history one at here = (sym at.1 ∙ here.1, at.2 ∙ sym here.2)
+one_path n mark other_mark path other (Leaf number m block) history one at here = (sym at.1 ∙ here.1, at.2 ∙ sym here.2)
 one_path n mark other_mark path other (Shut block) history one at here = absurd at
 one_path n mark other_mark path other (Fork block d first second) history one (inl at) (inl here) = one_path n mark other_mark path other first (Took d ∷ after block history) (omega (arith, one)) at here
 one_path n mark other_mark path other (Fork block d first second) history one (inr at) (inr here) = one_path n mark other_mark path other second (Refused d ∷ after block history) (omega (arith, one)) at here
@@ -26,7 +26,7 @@ one_path n mark other_mark path other (Fork block d first second) history one (i
 
 pub one_tree : (n : ℕ) (mark : Mark) (path : List Event) (place : PoolTree) (tree : PoolTree) (history : List Event) (new other : PoolTree) → leaves_with n tree ≤ 1 →
     Replaced tree history n mark path place new → Replaced tree history n mark path place other → new ≡ other
-one_tree n mark path place (Leaf number m) history new other one at here = at.3 ∙ sym here.3
+one_tree n mark path place (Leaf number m block) history new other one at here = at.3 ∙ sym here.3
 one_tree n mark path place (Shut block) history new other one at here = absurd at
 one_tree n mark path place (Fork block d first second) history new other one (inl at) (inl here) =
     at.2 ∙ ap (λ t. Fork block d t second) (one_tree n mark path place first (Took d ∷ after block history) at.0 here.0 (omega (arith, one)) at.1 here.1) ∙ sym here.2
@@ -40,7 +40,7 @@ one_tree n mark path place (Fork block d first second) history new other one (in
     let d = leaf_counts first (Took d ∷ after block history) n mark path (replaced_leaf n mark path place first (Took d ∷ after block history) here.0 here.1) in omega (arith, one, c, d))
 
 pub leaf_open : (tree : PoolTree) (history : List Event) (n : ℕ) (mark : Mark) (path : List Event) → IsLeaf tree history n mark path → 0 < open_leaves (tree_of tree)
-leaf_open (Leaf number m) history n mark path at = omega arith
+leaf_open (Leaf number m block) history n mark path at = omega arith
 leaf_open (Shut block) history n mark path at = absurd at
 leaf_open (Fork block d first second) history n mark path (inl at) = omega (arith, leaf_open first (Took d ∷ after block history) n mark path at)
 leaf_open (Fork block d first second) history n mark path (inr at) = omega (arith, leaf_open second (Refused d ∷ after block history) n mark path at)
@@ -57,7 +57,7 @@ takes_or_none P pool worker want wants = elim (cases_lt 0 (open_leaves (tree_of 
         | inr none_free ↦ inr (AllOut, (some, unspent, inl none_free))
         | inl found ↦
             (let task = task_for P pool worker want found.0 found.1 in
-            let r = can_replace (Leaf found.0 (Out worker task.grant)) pool.tree [] found.0 Free found.1 found.2.leaf in
+            let r = can_replace (Leaf found.0 (Out worker task.grant) []) pool.tree [] found.0 Free found.1 found.2.leaf in
             inl (
               task,
               record pool { tree = r.0 },
@@ -114,13 +114,13 @@ pub returns_or_not : ReturnsOrNot
 returns_or_not pool task = elim (find_some pool.tree [] task.leaf (Out task.worker task.grant)) [
   | inr never ↦ inr never
   | inl out ↦
-      (let r = can_replace (Leaf task.leaf Free) pool.tree [] task.leaf (Out task.worker task.grant) out.0 out.1 in
+      (let r = can_replace (Leaf task.leaf Free []) pool.tree [] task.leaf (Out task.worker task.grant) out.0 out.1 in
       inl (record pool { tree = r.0 }, record { path = out.0; tree = r.0; freed = r.1; left = refl }))
 ]
 
 pub returns_out : ReturnsOut
 returns_out pool new task returns never =
-    never returns.path (replaced_leaf task.leaf (Out task.worker task.grant) returns.path (Leaf task.leaf Free) pool.tree [] returns.tree returns.freed)
+    never returns.path (replaced_leaf task.leaf (Out task.worker task.grant) returns.path (Leaf task.leaf Free []) pool.tree [] returns.tree returns.freed)
 
 -- one task is handed out
 both_first : (P : Network) (n m : ℕ) (path other : List Event) → Precedes P n path m other → Precedes P m other n path → n ≡ m
@@ -135,9 +135,9 @@ one_task P pool new another worker want task other own a b =
     let leaf : IsLeaf pool.tree [] task.leaf Free other.path = subst (λ x. IsLeaf pool.tree [] x Free other.path) numbers b.first.leaf in
     let paths : other.path ≡ task.path = (one_path task.leaf Free Free other.path task.path pool.tree [] (own.different task.leaf) leaf a.first.leaf).1 in
     let tasks : other ≡ task = b.handed ∙ ap (λ x. task_for P pool worker want x other.path) numbers ∙ ap (task_for P pool worker want task.leaf) paths ∙ sym a.handed in
-    let moved : Replaced pool.tree [] task.leaf Free task.path (Leaf task.leaf (Out worker task.grant)) b.tree =
-    subst (λ (t : Task). Replaced pool.tree [] t.leaf Free t.path (Leaf t.leaf (Out worker t.grant)) b.tree) tasks b.marked in
-    let trees : b.tree ≡ a.tree = one_tree task.leaf Free task.path (Leaf task.leaf (Out worker task.grant)) pool.tree [] b.tree a.tree (own.different task.leaf) moved a.marked in
+    let moved : Replaced pool.tree [] task.leaf Free task.path (Leaf task.leaf (Out worker task.grant) []) b.tree =
+    subst (λ (t : Task). Replaced pool.tree [] t.leaf Free t.path (Leaf t.leaf (Out worker t.grant) []) b.tree) tasks b.marked in
+    let trees : b.tree ≡ a.tree = one_tree task.leaf Free task.path (Leaf task.leaf (Out worker task.grant) []) pool.tree [] b.tree a.tree (own.different task.leaf) moved a.marked in
     (sym tasks, a.left ∙ ap (λ t. record pool { tree = t }) (sym trees) ∙ sym b.left)
 
 one_given : (pool new another : Pool) (word : ℕ) (piece : Piece) → AreNumbered pool → PoolGives pool word piece new → PoolGives pool word piece another → new ≡ another
@@ -149,9 +149,9 @@ one_returned : (pool new another : Pool) (task : Task) → AreNumbered pool → 
 one_returned pool new another task own a b =
     let mark = Out task.worker task.grant in
     let paths : b.path ≡ a.path = (one_path task.leaf mark mark b.path a.path pool.tree [] (own.different task.leaf)
-    (replaced_leaf task.leaf mark b.path (Leaf task.leaf Free) pool.tree [] b.tree b.freed) (replaced_leaf task.leaf mark a.path (Leaf task.leaf Free) pool.tree [] a.tree a.freed)).1 in
-    let trees = one_tree task.leaf mark a.path (Leaf task.leaf Free) pool.tree [] a.tree b.tree (own.different task.leaf) a.freed
-    (subst (λ p. Replaced pool.tree [] task.leaf mark p (Leaf task.leaf Free) b.tree) paths b.freed) in
+    (replaced_leaf task.leaf mark b.path (Leaf task.leaf Free []) pool.tree [] b.tree b.freed) (replaced_leaf task.leaf mark a.path (Leaf task.leaf Free []) pool.tree [] a.tree a.freed)).1 in
+    let trees = one_tree task.leaf mark a.path (Leaf task.leaf Free []) pool.tree [] a.tree b.tree (own.different task.leaf) a.freed
+    (subst (λ p. Replaced pool.tree [] task.leaf mark p (Leaf task.leaf Free []) b.tree) paths b.freed) in
     a.left ∙ ap (λ t. record pool { tree = t }) trees ∙ sym b.left
 
 pub one_pool : OnePool

@@ -1,6 +1,6 @@
 -- What the crates above cite of the proofs here.
-pub use Rattle.cfn_machine.proofs.Placing.{numbered_is}
-pub use Rattle.cfn_machine.proofs.Keeping.{opens, keeps_sound, opening_small, cheaper_price, cheaper_keeps}
+pub use Rattle.cfn_machine.proofs.Placing.{after_append, numbered_is}
+pub use Rattle.cfn_machine.proofs.Keeping.{opens, opens_with, keeps_sound, opening_small, cheaper_price, cheaper_keeps}
 pub use Rattle.cfn_machine.proofs.Numbering.{keeps_numbered, opens_numbered}
 pub use Rattle.cfn_machine.proofs.Agreeing.{agreed, open_leaf}
 pub use Rattle.cfn_machine.proofs.Covering.{covered, rises}

@@ -20,7 +20,7 @@ after_rises P [] history = omega arith
 after_rises P (step ∷ block) history = omega (arith, after_rises P block (Did step ∷ history))
 
 leaf_rises : (P : Network) (tree : PoolTree) (history : List Event) (n : ℕ) (mark : Mark) (path : List Event) → IsLeaf tree history n mark path → floor P history ≤ floor P path
-leaf_rises P (Leaf number m) history n mark path at = (let e = ap (floor P) at.2 in omega (arith, e))
+leaf_rises P (Leaf number m block) history n mark path at = (let e = ap (floor P) at.2 in omega (arith, e, after_rises P block history))
 leaf_rises P (Shut block) history n mark path at = absurd at
 leaf_rises P (Fork block d first second) history n mark path (inl at) = omega (arith, after_rises P block history, leaf_rises P first (Took d ∷ after block history) n mark path at)
 leaf_rises P (Fork block d first second) history n mark path (inr at) = omega (arith, after_rises P block history, leaf_rises P second (Refused d ∷ after block history) n mark path at)
@@ -35,9 +35,9 @@ chosen true Q f s first second closed in_first in_second = in_first closed
 chosen false Q f s first second closed in_first in_second = in_second closed
 
 leaf_cases : (values : List ℕ) (Q : PoolTree → Type 0) (tree : PoolTree) (history : List Event) →
-    ((n : ℕ) (mark : Mark) (path : List Event) → IsLeaf tree history n mark path → Q (Leaf n mark)) →
+    ((n : ℕ) (mark : Mark) (path : List Event) → IsLeaf tree history n mark path → (block : List Step) → Q (Leaf n mark block)) →
     (IsClosed (leaf values (tree_of tree)) → (block : List Step) → Q (Shut block)) → Q (leaf_of values tree)
-leaf_cases values Q (Leaf number m) history open_leaf closed = open_leaf number m history (refl, refl, refl)
+leaf_cases values Q (Leaf number m block) history open_leaf closed = open_leaf number m (after block history) (refl, refl, refl) block
 leaf_cases values Q (Shut block) history open_leaf closed = closed tt block
 leaf_cases values Q (Fork block d first second) history open_leaf closed =
     chosen (holds d values) Q (leaf_of values first) (leaf_of values second) (leaf values (tree_of first)) (leaf values (tree_of second)) closed
@@ -45,7 +45,7 @@ leaf_cases values Q (Fork block d first second) history open_leaf closed =
     (λ c. leaf_cases values Q second (Refused d ∷ after block history) (λ n mark path at. open_leaf n mark path (inr at)) c)
 
 pub covered : Covered
-covered P pool values network sound fits = leaf_cases values (IsCovered P pool values) pool.tree [] (λ n mark path at. tt) at_closed
+covered P pool values network sound fits = leaf_cases values (IsCovered P pool values) pool.tree [] (λ n mark path at block. tt) at_closed
   where
     at_closed : IsClosed (leaf values (tree_of pool.tree)) → (block : List Step) → pool.view.seen ≤ cost P values
     at_closed closed block = elim (cases_lt (cost P values) pool.view.seen) [
@@ -57,14 +57,15 @@ covered P pool values network sound fits = leaf_cases values (IsCovered P pool v
 short : (k f : ℕ) → nat_le k f ≡ false → f < k
 short k f h = grind arith
 
-leaf_below : (P : Network) (k : ℕ) (b : Bool) (n : ℕ) (history : List Event) → nat_le k (floor P history) ≡ b → OpenBelow P history (tree_of (if b then Shut [] else Leaf n Free)) k
-leaf_below P k true n history test = tt
-leaf_below P k false n history test = short _ _ test
+leaf_below : (P : Network) (k : ℕ) (b : Bool) (n : ℕ) (block : List Step) (history : List Event) → nat_le k (floor P (after block history)) ≡ b →
+    OpenBelow P history (tree_of (if b then Shut block else Leaf n Free block)) k
+leaf_below P k true n block history test = tt
+leaf_below P k false n block history test = short _ _ test
 
 swept_below : (P : Network) (k : ℕ) (tree : PoolTree) (history : List Event) → ((n worker grant : ℕ) (path : List Event) → IsLeaf tree history n (Out worker grant) path → ⊥) →
     OpenBelow P history (tree_of (swept P k tree history)) k
-swept_below P k (Leaf n Free) history none = leaf_below P k (nat_le k (floor P history)) n history refl
-swept_below P k (Leaf n (Out worker grant)) history none = absurd (none n worker grant history (refl, refl, refl))
+swept_below P k (Leaf n Free block) history none = leaf_below P k (nat_le k (floor P (after block history))) n block history refl
+swept_below P k (Leaf n (Out worker grant) block) history none = absurd (none n worker grant (after block history) (refl, refl, refl))
 swept_below P k (Shut block) history none = tt
 swept_below P k (Fork block d first second) history none = (
   swept_below P k first (Took d ∷ after block history) (λ n worker grant path at. none n worker grant path (inl at)),

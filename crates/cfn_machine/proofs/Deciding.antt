@@ -8,7 +8,7 @@ use Rattle.cfn_model.specs.declared.step.Event.TheVariants.{Did, Took, Refused}
 use Rattle.cfn_model.specs.Network.{Network}
 use Rattle.cfn_model.specs.Sums.{floor}
 use Rattle.cfn_model.specs.Steps.{after}
-use Rattle.cfn_machine.specs.Pool.{Mark, Free, Out, PoolTree, Leaf, Shut, Fork, IsLeaf, Replaced}
+use Rattle.cfn_machine.specs.Pool.{Mark, Free, Out, PoolTree, Leaf, Shut, Fork, IsLeaf, behind, Replaced}
 
 -- an event as numbers, and back
 data Numbers : Type 0 where
@@ -109,9 +109,9 @@ same_mark (Out w g) (Out v h) = elim (cases_eq w v) [
 -- whether a leaf is there, on some path and on this one
 pub find_some : (tree : PoolTree) (history : List Event) (n : ℕ) (mark : Mark) →
     ((path : List Event) × IsLeaf tree history n mark path) ⊎ ((path : List Event) → IsLeaf tree history n mark path → ⊥)
-find_some (Leaf number m) history n mark = elim (cases_eq number n) [
+find_some (Leaf number m block) history n mark = elim (cases_eq number n) [
   | inr other ↦ inr (λ path at. other at.0)
-  | inl numbers ↦ elim (same_mark m mark) [ inr other ↦ inr (λ path at. other at.1) | inl marks ↦ inl (history, (numbers, marks, refl)) ]
+  | inl numbers ↦ elim (same_mark m mark) [ inr other ↦ inr (λ path at. other at.1) | inl marks ↦ inl (after block history, (numbers, marks, refl)) ]
 ]
 find_some (Shut block) history n mark = inr (λ path at. at)
 find_some (Fork block d first second) history n mark = elim (find_some first (Took d ∷ after block history) n mark) [
@@ -123,11 +123,11 @@ find_some (Fork block d first second) history n mark = elim (find_some first (To
 ]
 
 pub find_this : (tree : PoolTree) (history : List Event) (n : ℕ) (mark : Mark) (path : List Event) → IsLeaf tree history n mark path ⊎ (IsLeaf tree history n mark path → ⊥)
-find_this (Leaf number m) history n mark path = elim (cases_eq number n) [
+find_this (Leaf number m block) history n mark path = elim (cases_eq number n) [
   | inr other ↦ inr (λ at. other at.0)
   | inl numbers ↦ elim (same_mark m mark) [
     | inr other ↦ inr (λ at. other at.1)
-    | inl marks ↦ elim (same_path path history) [ inr other ↦ inr (λ at. other at.2) | inl paths ↦ inl (numbers, marks, paths) ]
+    | inl marks ↦ elim (same_path path (after block history)) [ inr other ↦ inr (λ at. other at.2) | inl paths ↦ inl (numbers, marks, paths) ]
   ]
 ]
 find_this (Shut block) history n mark path = inr (λ at. at)
@@ -142,7 +142,7 @@ find_this (Fork block d first second) history n mark path = elim (find_this firs
 -- another tree can take the place of a leaf
 pub can_replace : (place tree : PoolTree) (history : List Event) (n : ℕ) (mark : Mark) (path : List Event) → IsLeaf tree history n mark path →
     (new : PoolTree) × Replaced tree history n mark path place new
-can_replace place (Leaf number m) history n mark path at = (place, (at.0, at.1, at.2, refl))
+can_replace place (Leaf number m block) history n mark path at = (behind block place, (at.0, at.1, at.2, refl))
 can_replace place (Shut block) history n mark path at = absurd at
 can_replace place (Fork block d first second) history n mark path (inl at) =
     let below = can_replace place first (Took d ∷ after block history) n mark path at in (Fork block d below.0 second, inl (below.0, below.1, refl))
@@ -174,15 +174,15 @@ precedes_then P n m l path other last (inr h) (inr k) = inr (h.0 ∙ k.0, omega 
 
 pub find_first : (P : Network) (tree : PoolTree) (history : List Event) →
     ((n : ℕ) × (path : List Event) × IsFirstOf P tree history n path) ⊎ ((n : ℕ) (path : List Event) → IsLeaf tree history n Free path → ⊥)
-find_first P (Leaf number Free) history = inl (
+find_first P (Leaf number Free block) history = inl (
   number,
-  history,
+  after block history,
   record {
     leaf = (refl, refl, refl);
     first = λ m other at. inr (ap (floor P) (sym at.2), omega (arith, at.0));
   },
 )
-find_first P (Leaf number (Out w g)) history = inr (λ n path at. (let e = at.1 in cc))
+find_first P (Leaf number (Out w g) block) history = inr (λ n path at. (let e = at.1 in cc))
 find_first P (Shut block) history = inr (λ n path at. at)
 find_first P (Fork block d first second) history = elim (find_first P first (Took d ∷ after block history)) [
   | inr none ↦ elim (find_first P second (Refused d ∷ after block history)) [

@@ -1,25 +1,31 @@
 -- Each step keeps the pool sound.
 use Rattle.std.proofs.Common.{◌≡◌, ℕ, ◌+◌, ◌<◌, ◌≤◌, inl, inr, min, List, [], ◌∷◌, refl, sym, ap, subst, arith, Option, ◌^◌}
+use Rattle.std.proofs.Common.{Some, None}
 use Rattle.std.proofs.lemmas.Int.{ints}
 use Rattle.std.specs.Prelude.{Bool, true, false, if◌then◌else◌, pos, ◌<ℤ◌, nat_lt}
+use Rattle.cfn_model.specs.declared.step.Step.{Step}
 use Rattle.cfn_model.specs.declared.step.Event.{Event}
-use Rattle.cfn_model.specs.declared.step.Event.TheVariants.{Took, Refused}
+use Rattle.cfn_model.specs.declared.step.Event.TheVariants.{Did, Took, Refused}
 use Rattle.cfn_model.specs.Network.{Network, IsNetwork, arity, entry_at, cell, dims, function_at}
 use Rattle.cfn_model.specs.Sums.{when}
 use Rattle.cfn_model.specs.Steps.{after}
-use Rattle.cfn_model.specs.Tree.{count, splits, Valid, Strict}
+use Rattle.cfn_model.specs.Tree.{Open, count, splits, Valid, Strict}
 use Rattle.cfn_model.proofs.CallerLemmas.{valid_lower}
-use Rattle.cfn_model.specs.Paths.{HasSmallCosts, Tame}
+use Rattle.cfn_model.specs.Paths.{HasSmallCosts, TameBlock, Tame}
 use Rattle.cfn_machine.specs.Pool.{Mark, Free, Out, PoolTree, Leaf, Shut, Fork, tree_of, Replaced, grant_of, granted, numbered, Task, Piece, IsPiece, View, Pool, IsSound, price, cheaper, KeepsFitting}
 use Rattle.cfn_machine.specs.Steps.{PoolTakes, PoolGives, PoolReturns, PoolStep, Takes, Gives, Returns, Recalls, Sweeps, Meets, PoolSteps, IsLegal, pool_recalled, pool_swept, joined}
-use Rattle.cfn_machine.specs.Laws.{IsPool, Opens, KeepsSound, Keeps, Holds, Joins}
+use Rattle.cfn_machine.specs.Laws.{IsPool, Opens, OpensWith, KeepsSound, Keeps, Holds, Joins}
 use Rattle.cfn_machine.proofs.Placing.{replaced_valid, replaced_strict, replaced_tame, replaced_count, replaced_splits, replaced_granted, numbered_is, numbered_granted, recalled_is, recalled_granted, swept_valid, swept_strict, swept_tame, swept_granted, swept_count, swept_splits, splits_count}
 use Rattle.cfn_machine.proofs.Numbering.{keeps_numbered, opens_numbered}
 
 -- a leaf of a tame tree has small costs
+block_end : (P : Network) (block : List Step) (history : List Event) → TameBlock P history block → HasSmallCosts P (after block history)
+block_end P [] history tame = tame
+block_end P (step ∷ block) history tame = block_end P block (Did step ∷ history) tame.1
+
 replaced_small : (P : Network) (n : ℕ) (mark : Mark) (path : List Event) (place tree : PoolTree) (history : List Event) (new : PoolTree) →
     Replaced tree history n mark path place new → Tame P history (tree_of tree) → HasSmallCosts P path
-replaced_small P n mark path place (Leaf number m) history new at tame = subst (HasSmallCosts P) (sym at.2) tame
+replaced_small P n mark path place (Leaf number m block) history new at tame = subst (HasSmallCosts P) (sym at.2) (block_end P block history tame)
 replaced_small P n mark path place (Shut block) history new at tame = absurd at
 replaced_small P n mark path place (Fork block d first second) history new (inl at) tame =
     replaced_small P n mark path place first (Took d ∷ after block history) at.0 at.1 tame.1
@@ -40,16 +46,16 @@ module _ (P : Network) (pool : Pool) (sound : IsSound P pool) where
   }
 
   -- a leaf gets another mark
-  mark_kept : (n : ℕ) (mark other : Mark) (path : List Event) (tree : PoolTree) → Replaced pool.tree [] n mark path (Leaf n other) tree →
+  mark_kept : (n : ℕ) (mark other : Mark) (path : List Event) (tree : PoolTree) → Replaced pool.tree [] n mark path (Leaf n other []) tree →
       pool.nodes + granted pool.tree + grant_of other ≤ pool.budget + grant_of mark → IsSound P (record pool { tree = tree })
   mark_kept n mark other path tree at room = record {
     seen = sound.seen;
-    valid = replaced_valid n mark path (Leaf n other) P pool.view.seen pool.tree [] tree at tt sound.valid;
-    strict = replaced_strict n mark path (Leaf n other) P pool.tree [] tree at tt sound.strict;
-    tame = replaced_tame n mark path (Leaf n other) P pool.tree [] tree at (replaced_small P n mark path (Leaf n other) pool.tree [] tree at sound.tame) sound.tame;
-    expanded = omega (arith, sound.expanded, replaced_splits n mark path (Leaf n other) pool.tree [] tree at);
-    counted = omega (arith, sound.counted, replaced_count n mark path (Leaf n other) pool.tree [] tree at);
-    within = omega (arith, sound.within, room, replaced_granted n mark path (Leaf n other) pool.tree [] tree at);
+    valid = replaced_valid n mark path (Leaf n other []) P pool.view.seen pool.tree [] tree at tt sound.valid;
+    strict = replaced_strict n mark path (Leaf n other []) P pool.tree [] tree at tt sound.strict;
+    tame = replaced_tame n mark path (Leaf n other []) P pool.tree [] tree at (replaced_small P n mark path (Leaf n other []) pool.tree [] tree at sound.tame) sound.tame;
+    expanded = omega (arith, sound.expanded, replaced_splits n mark path (Leaf n other []) pool.tree [] tree at);
+    counted = omega (arith, sound.counted, replaced_count n mark path (Leaf n other []) pool.tree [] tree at);
+    within = omega (arith, sound.within, room, replaced_granted n mark path (Leaf n other []) pool.tree [] tree at);
   }
 
   take_kept : (worker want : ℕ) (task : Task) (new : Pool) → PoolTakes P pool worker want task new → IsSound P new
@@ -67,7 +73,7 @@ module _ (P : Network) (pool : Pool) (sound : IsSound P pool) where
       let mark = Out piece.task.worker piece.task.grant in
       let path = piece.task.path in
       let place = numbered pool.next piece.tree in
-      let same : tree_of place ≡ piece.tree = numbered_is piece.tree pool.next is.empty in
+      let same : tree_of place ≡ piece.tree = numbered_is piece.tree pool.next in
       let piece_valid : Valid P path (tree_of place) word = subst (λ t. Valid P path t word) (sym same) (valid_lower P path piece.tree piece.threshold word legal.1 is.valid) in
       subst (IsSound P) (sym gives.left) (record {
         seen = omega (arith, legal.2, sound.seen);
@@ -164,9 +170,28 @@ opening_small P network = record {
     small true n h = omega (arith, ints)
     small false n h = omega (arith, ints)
 
+price_low : (P : Network) (best : Option (List ℕ)) → price P best ≤ P.upper
+price_low P None = omega arith
+price_low P (Some values) = omega arith
+
+pub opens_with : OpensWith
+opens_with P shares budget tree best kept =
+    let same : tree_of (numbered 0 tree) ≡ tree = numbered_is tree 0 in
+    let counts = ap count same in
+    let parts = ap splits same in
+    record {
+      sound = record {
+        seen = price_low P best;
+        valid = subst (λ t. Valid P [] t (price P best)) (sym same) kept.valid;
+        strict = subst (Strict P []) (sym same) kept.strict;
+        tame = subst (Tame P []) (sym same) kept.tame;
+        expanded = omega (arith, parts, splits_count tree);
+        counted = omega (arith, counts);
+        within = omega (arith, numbered_granted tree 0);
+      };
+      numbered = opens_numbered P shares budget tree best;
+      keeps = kept.fits;
+    }
+
 pub opens : Opens
-opens P shares budget network = record {
-  sound = record { seen = omega arith; valid = tt; strict = tt; tame = opening_small P network; expanded = omega arith; counted = omega arith; within = omega arith };
-  numbered = opens_numbered P shares budget;
-  keeps = tt;
-}
+opens P shares budget network = opens_with P shares budget (Open []) None (record { valid = tt; strict = tt; tame = opening_small P network; fits = tt })

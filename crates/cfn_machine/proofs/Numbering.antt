@@ -1,18 +1,20 @@
 -- Numbers of open leaves stay different.
-use Rattle.std.proofs.Common.{◌≡◌, ◌≢◌, ℕ, ◌+◌, ◌<◌, ◌≤◌, ◌⊎◌, inl, inr, List, [], ◌∷◌, refl, sym, ap₂, ◌∙◌, subst, arith, true, false, Bool, nat_le, if◌then◌else◌, ◌==◌, eq-eqb}
+use Rattle.std.proofs.Common.{◌≡◌, ◌≢◌, ℕ, ◌+◌, ◌<◌, ◌≤◌, ◌⊎◌, inl, inr, List, [], ◌∷◌, refl, sym, ap₂, ◌∙◌, subst, arith, true, false, Bool, nat_le, if◌then◌else◌, ◌==◌, eq-eqb, Option}
 use Rattle.std.proofs.lemmas.Bool.{cases_lt}
+use Rattle.cfn_model.specs.declared.step.Step.{Step}
 use Rattle.cfn_model.specs.declared.step.Event.{Event}
 use Rattle.cfn_model.specs.declared.step.Event.TheVariants.{Took, Refused}
 use Rattle.cfn_model.specs.Network.{Network}
 use Rattle.cfn_model.specs.Sums.{floor}
 use Rattle.cfn_model.specs.Steps.{after}
 use Rattle.cfn_model.specs.Tree.{Tree, Open, Closed, Split, open_leaves}
-use Rattle.cfn_machine.specs.Pool.{Mark, Free, Out, PoolTree, Leaf, Shut, Fork, IsLeaf, Replaced, numbered, recalled, swept, Piece, View, Pool, leaves_with, AreNumbered, opening_pool}
+use Rattle.cfn_machine.specs.Pool.{Mark, Free, Out, PoolTree, Leaf, Shut, Fork, IsLeaf, Replaced, numbered, recalled, swept, Piece, View, Pool, leaves_with, AreNumbered, behind, opening_with}
 use Rattle.cfn_machine.specs.Steps.{PoolGives, Takes, Gives, Returns, Recalls, Sweeps, Meets, pool_recalled, pool_swept}
 use Rattle.cfn_machine.specs.Laws.{KeepsNumbered}
+use Rattle.cfn_machine.proofs.Placing.{after_append}
 
 -- a leaf counts under its number
-one_at : (a b : ℕ) → a ≡ b → leaves_with b (Leaf a Free) ≡ 1
+one_at : (a b : ℕ) → a ≡ b → leaves_with b (Leaf a Free []) ≡ 1
 one_at a b h = let e : (a == b) ≡ true = eq-eqb a b h in rw e refl
 
 same_by : (a b : ℕ) → (a == b) ≡ true → a ≡ b
@@ -26,7 +28,7 @@ unfolding one_or_none
 none_by true a b h other = absurd (other (same_by a b h))
 none_by false a b h other = refl
 
-none_at : (a b : ℕ) → a ≢ b → leaves_with b (Leaf a Free) ≡ 0
+none_at : (a b : ℕ) → a ≢ b → leaves_with b (Leaf a Free []) ≡ 0
 unfolding one_or_none
 none_at a b other = none_by (a == b) a b refl other
 
@@ -35,22 +37,38 @@ few_by true = omega arith
 few_by false = omega arith
 
 pub leaf_counts : (tree : PoolTree) (history : List Event) (n : ℕ) (mark : Mark) (path : List Event) → IsLeaf tree history n mark path → 1 ≤ leaves_with n tree
-leaf_counts (Leaf number m) history n mark path at = omega (arith, one_at number n at.0)
+leaf_counts (Leaf number m block) history n mark path at = omega (arith, one_at number n at.0)
 leaf_counts (Shut block) history n mark path at = absurd at
 leaf_counts (Fork block d first second) history n mark path (inl at) = omega (arith, leaf_counts first (Took d ∷ after block history) n mark path at)
 leaf_counts (Fork block d first second) history n mark path (inr at) = omega (arith, leaf_counts second (Refused d ∷ after block history) n mark path at)
 
+-- a tree behind a block has the leaves that it had
+behind_numbers : (block : List Step) (m : ℕ) (tree : PoolTree) → leaves_with m (behind block tree) ≡ leaves_with m tree
+behind_numbers block m (Leaf n mark more) = refl
+behind_numbers block m (Shut more) = refl
+behind_numbers block m (Fork more d first second) = refl
+
+leaf_behind : (block : List Step) (history : List Event) (m : ℕ) (k : Mark) (p : List Event) (tree : PoolTree) → IsLeaf tree (after block history) m k p → IsLeaf (behind block tree) history m k p
+leaf_behind block history m k p (Leaf n mark more) at = (at.0, at.1, at.2 ∙ sym (after_append block more history))
+leaf_behind block history m k p (Shut more) at = at
+leaf_behind block history m k p (Fork more d first second) at = subst (λ h. IsLeaf first (Took d ∷ h) m k p ⊎ IsLeaf second (Refused d ∷ h) m k p) (sym (after_append block more history)) at
+
+leaf_before : (block : List Step) (history : List Event) (m : ℕ) (k : Mark) (p : List Event) (tree : PoolTree) → IsLeaf (behind block tree) history m k p → IsLeaf tree (after block history) m k p
+leaf_before block history m k p (Leaf n mark more) at = (at.0, at.1, at.2 ∙ after_append block more history)
+leaf_before block history m k p (Shut more) at = at
+leaf_before block history m k p (Fork more d first second) at = subst (λ h. IsLeaf first (Took d ∷ h) m k p ⊎ IsLeaf second (Refused d ∷ h) m k p) (after_append block more history) at
+
 -- a tree in the place of one leaf
 module _ (n : ℕ) (mark : Mark) (path : List Event) (place : PoolTree) where
   pub replaced_leaf : (tree : PoolTree) (history : List Event) (new : PoolTree) → Replaced tree history n mark path place new → IsLeaf tree history n mark path
-  replaced_leaf (Leaf number m) history new at = (at.0, at.1, at.2)
+  replaced_leaf (Leaf number m block) history new at = (at.0, at.1, at.2)
   replaced_leaf (Shut block) history new at = absurd at
   replaced_leaf (Fork block d first second) history new (inl at) = inl (replaced_leaf first (Took d ∷ after block history) at.0 at.1)
   replaced_leaf (Fork block d first second) history new (inr at) = inr (replaced_leaf second (Refused d ∷ after block history) at.0 at.1)
 
   pub replaced_numbers : (m : ℕ) (tree : PoolTree) (history : List Event) (new : PoolTree) → Replaced tree history n mark path place new →
       leaves_with m new + (if n == m then 1 else 0) ≡ leaves_with m tree + leaves_with m place
-  replaced_numbers m (Leaf number k) history new at = rw at.3 (rw at.0 (omega arith))
+  replaced_numbers m (Leaf number k block) history new at = rw at.3 (rw at.0 (omega (arith, behind_numbers block m place)))
   replaced_numbers m (Shut block) history new at = absurd at
   replaced_numbers m (Fork block d first second) history new (inl at) =
       let below = replaced_numbers m first (Took d ∷ after block history) at.0 at.1 in rw at.2 (omega (arith, below))
@@ -60,8 +78,8 @@ module _ (n : ℕ) (mark : Mark) (path : List Event) (place : PoolTree) where
   -- a leaf that is there afterwards is of the new part, or was there under another number
   pub replaced_back : (m : ℕ) (k : Mark) (p : List Event) (tree : PoolTree) (history : List Event) (new : PoolTree) → Replaced tree history n mark path place new →
       leaves_with n tree ≤ 1 → IsLeaf new history m k p → IsLeaf place path m k p ⊎ (IsLeaf tree history m k p × (m ≢ n))
-  replaced_back m k p (Leaf number l) history new at one leaf =
-      inl (subst (λ h. IsLeaf place h m k p) (sym at.2) (subst (λ t. IsLeaf t history m k p) at.3 leaf))
+  replaced_back m k p (Leaf number l block) history new at one leaf =
+      inl (subst (λ h. IsLeaf place h m k p) (sym at.2) (leaf_before block history m k p place (subst (λ t. IsLeaf t history m k p) at.3 leaf)))
   replaced_back m k p (Shut block) history new at one leaf = absurd at
   replaced_back m k p (Fork block d first second) history new (inl at) one leaf =
       let there = leaf_counts first (Took d ∷ after block history) n mark path (replaced_leaf first (Took d ∷ after block history) at.0 at.1) in
@@ -81,7 +99,7 @@ module _ (n : ℕ) (mark : Mark) (path : List Event) (place : PoolTree) where
   -- a leaf of the new part is there afterwards
   pub replaced_in : (m : ℕ) (k : Mark) (p : List Event) (tree : PoolTree) (history : List Event) (new : PoolTree) → Replaced tree history n mark path place new →
       IsLeaf place path m k p → IsLeaf new history m k p
-  replaced_in m k p (Leaf number l) history new at leaf = subst (λ t. IsLeaf t history m k p) (sym at.3) (subst (λ h. IsLeaf place h m k p) at.2 leaf)
+  replaced_in m k p (Leaf number l block) history new at leaf = subst (λ t. IsLeaf t history m k p) (sym at.3) (leaf_behind block history m k p place (subst (λ h. IsLeaf place h m k p) at.2 leaf))
   replaced_in m k p (Shut block) history new at leaf = absurd at
   replaced_in m k p (Fork block d first second) history new (inl at) leaf =
       subst (λ t. IsLeaf t history m k p) (sym at.2) (inl (replaced_in m k p first (Took d ∷ after block history) at.0 at.1 leaf))
@@ -91,7 +109,7 @@ module _ (n : ℕ) (mark : Mark) (path : List Event) (place : PoolTree) where
   -- another leaf stays
   pub replaced_stays : (m : ℕ) (k : Mark) (p : List Event) (tree : PoolTree) (history : List Event) (new : PoolTree) → Replaced tree history n mark path place new →
       IsLeaf tree history m k p → ((m ≡ n) × (k ≡ mark)) ⊎ IsLeaf new history m k p
-  replaced_stays m k p (Leaf number l) history new at leaf = inl (sym leaf.0 ∙ at.0, sym leaf.1 ∙ at.1)
+  replaced_stays m k p (Leaf number l block) history new at leaf = inl (sym leaf.0 ∙ at.0, sym leaf.1 ∙ at.1)
   replaced_stays m k p (Shut block) history new at leaf = absurd at
   replaced_stays m k p (Fork block d first second) history new (inl at) (inl leaf) =
       elim (replaced_stays m k p first (Took d ∷ after block history) at.0 at.1 leaf) [ inl same ↦ inl same | inr stays ↦ inr (subst (λ t. IsLeaf t history m k p) (sym at.2) (inl stays)) ]
@@ -136,43 +154,43 @@ numbered_free (Split block d first second) next m history worker grant path (inr
 
 -- leaves that are called back
 pub recalled_numbers : (tree : PoolTree) (m : ℕ) → leaves_with m (recalled tree) ≡ leaves_with m tree
-recalled_numbers (Leaf number mark) m = refl
+recalled_numbers (Leaf number mark block) m = refl
 recalled_numbers (Shut block) m = refl
 recalled_numbers (Fork block d first second) m = ap₂ (λ f s. f + s) (recalled_numbers first m) (recalled_numbers second m)
 
 pub recalled_free : (tree : PoolTree) (m : ℕ) (history : List Event) (worker grant : ℕ) (path : List Event) → IsLeaf (recalled tree) history m (Out worker grant) path → ⊥
-recalled_free (Leaf number mark) m history worker grant path at = free_not_out at.1
+recalled_free (Leaf number mark block) m history worker grant path at = free_not_out at.1
 recalled_free (Shut block) m history worker grant path at = at
 recalled_free (Fork block d first second) m history worker grant path (inl at) = recalled_free first m (Took d ∷ after block history) worker grant path at
 recalled_free (Fork block d first second) m history worker grant path (inr at) = recalled_free second m (Refused d ∷ after block history) worker grant path at
 
 -- free leaves that are closed
 module _ (P : Network) (k : ℕ) where
-  fewer_by : (t : Bool) (n m : ℕ) → leaves_with m (if t then Shut [] else Leaf n Free) ≤ leaves_with m (Leaf n Free)
-  fewer_by true n m = omega arith
-  fewer_by false n m = omega arith
+  fewer_by : (t : Bool) (n m : ℕ) (block : List Step) → leaves_with m (if t then Shut block else Leaf n Free block) ≤ leaves_with m (Leaf n Free block)
+  fewer_by true n m block = omega arith
+  fewer_by false n m block = omega arith
 
   pub swept_numbers : (tree : PoolTree) (m : ℕ) (history : List Event) → leaves_with m (swept P k tree history) ≤ leaves_with m tree
-  swept_numbers (Leaf n Free) m history = fewer_by (nat_le k (floor P history)) n m
-  swept_numbers (Leaf n (Out w g)) m history = omega arith
+  swept_numbers (Leaf n Free block) m history = fewer_by (nat_le k (floor P (after block history))) n m block
+  swept_numbers (Leaf n (Out w g) block) m history = omega arith
   swept_numbers (Shut block) m history = omega arith
   swept_numbers (Fork block d first second) m history =
       omega (arith, swept_numbers first m (Took d ∷ after block history), swept_numbers second m (Refused d ∷ after block history))
 
-  no_leaf_by : (t : Bool) (n m : ℕ) (history : List Event) (worker grant : ℕ) (path : List Event) → IsLeaf (if t then Shut [] else Leaf n Free) history m (Out worker grant) path → ⊥
-  no_leaf_by true n m history worker grant path at = at
-  no_leaf_by false n m history worker grant path at = free_not_out at.1
+  no_leaf_by : (t : Bool) (n m : ℕ) (block : List Step) (history : List Event) (worker grant : ℕ) (path : List Event) → IsLeaf (if t then Shut block else Leaf n Free block) history m (Out worker grant) path → ⊥
+  no_leaf_by true n m block history worker grant path at = at
+  no_leaf_by false n m block history worker grant path at = free_not_out at.1
 
   pub swept_back : (tree : PoolTree) (m : ℕ) (history : List Event) (worker grant : ℕ) (path : List Event) → IsLeaf (swept P k tree history) history m (Out worker grant) path → IsLeaf tree history m (Out worker grant) path
-  swept_back (Leaf n Free) m history worker grant path at = absurd (no_leaf_by (nat_le k (floor P history)) n m history worker grant path at)
-  swept_back (Leaf n (Out w g)) m history worker grant path at = at
+  swept_back (Leaf n Free block) m history worker grant path at = absurd (no_leaf_by (nat_le k (floor P (after block history))) n m block history worker grant path at)
+  swept_back (Leaf n (Out w g) block) m history worker grant path at = at
   swept_back (Shut block) m history worker grant path at = at
   swept_back (Fork block d first second) m history worker grant path (inl at) = inl (swept_back first m (Took d ∷ after block history) worker grant path at)
   swept_back (Fork block d first second) m history worker grant path (inr at) = inr (swept_back second m (Refused d ∷ after block history) worker grant path at)
 
   pub swept_stays : (tree : PoolTree) (m : ℕ) (history : List Event) (worker grant : ℕ) (path : List Event) → IsLeaf tree history m (Out worker grant) path → IsLeaf (swept P k tree history) history m (Out worker grant) path
-  swept_stays (Leaf n Free) m history worker grant path at = free_not_out at.1
-  swept_stays (Leaf n (Out w g)) m history worker grant path at = at
+  swept_stays (Leaf n Free block) m history worker grant path at = free_not_out at.1
+  swept_stays (Leaf n (Out w g) block) m history worker grant path at = at
   swept_stays (Shut block) m history worker grant path at = at
   swept_stays (Fork block d first second) m history worker grant path (inl at) = inl (swept_stays first m (Took d ∷ after block history) worker grant path at)
   swept_stays (Fork block d first second) m history worker grant path (inr at) = inr (swept_stays second m (Refused d ∷ after block history) worker grant path at)
@@ -180,9 +198,9 @@ module _ (P : Network) (k : ℕ) where
 -- each step keeps the numbers of the leaves
 module _ (pool : Pool) (numbers : AreNumbered pool) where
   -- a leaf gets another mark
-  mark_numbered : (n : ℕ) (mark other : Mark) (path : List Event) (tree : PoolTree) → Replaced pool.tree [] n mark path (Leaf n other) tree → AreNumbered (record pool { tree = tree })
+  mark_numbered : (n : ℕ) (mark other : Mark) (path : List Event) (tree : PoolTree) → Replaced pool.tree [] n mark path (Leaf n other []) tree → AreNumbered (record pool { tree = tree })
   mark_numbered n mark other path tree at =
-      let same : (m : ℕ) → leaves_with m tree ≡ leaves_with m pool.tree = λ m. (let e = replaced_numbers n mark path (Leaf n other) m pool.tree [] tree at in omega (arith, e)) in
+      let same : (m : ℕ) → leaves_with m tree ≡ leaves_with m pool.tree = λ m. (let e = replaced_numbers n mark path (Leaf n other []) m pool.tree [] tree at in omega (arith, e)) in
       record {
         different = λ m. omega (arith, same m, numbers.different m);
         fresh = λ m h. omega (arith, same m, numbers.fresh m h);
@@ -227,8 +245,8 @@ keeps_numbered P pool new word Recalls numbers step = subst AreNumbered (sym ste
 keeps_numbered P pool new word Sweeps numbers step = subst AreNumbered (sym step) (sweep_numbered pool numbers P word)
 keeps_numbered P pool new word (Meets view) numbers step = subst AreNumbered (sym step) (view_numbered pool numbers _)
 
-pub opens_numbered : (P : Network) (shares budget : ℕ) → AreNumbered (opening_pool P shares budget)
-opens_numbered P shares budget = record {
-  different = λ m. few_by (0 == m);
-  fresh = λ m h. none_at 0 m (λ e. omega (arith, e, h));
+pub opens_numbered : (P : Network) (shares budget : ℕ) (tree : Tree) (best : Option (List ℕ)) → AreNumbered (opening_with P shares budget tree best)
+opens_numbered P shares budget tree best = record {
+  different = λ m. numbered_once tree 0 m;
+  fresh = λ m h. numbered_behind tree 0 m (omega (arith, h));
 }

@@ -20,13 +20,13 @@ other_stays pool n mark path place tree task at out other =
 pub stays_out : StaysOut
 stays_out P pool new word (Takes worker want taken) task step out free =
     subst (λ (p : Pool). IsOut p task) (sym step.left)
-    (other_stays pool taken.leaf Free taken.path (Leaf taken.leaf (Out worker taken.grant)) step.tree task step.marked out (λ it. free_not_out (sym it.1)))
+    (other_stays pool taken.leaf Free taken.path (Leaf taken.leaf (Out worker taken.grant) []) step.tree task step.marked out (λ it. free_not_out (sym it.1)))
 stays_out P pool new word (Gives piece) task step out free =
     subst (λ (p : Pool). IsOut p task) (sym step.left)
     (other_stays pool piece.task.leaf (Out piece.task.worker piece.task.grant) piece.task.path (numbered pool.next piece.tree) step.tree task step.placed out (λ it. free (sym it.0)))
 stays_out P pool new word (Returns back) task step out free =
     subst (λ (p : Pool). IsOut p task) (sym step.left)
-    (other_stays pool back.leaf (Out back.worker back.grant) step.path (Leaf back.leaf Free) step.tree task step.freed out (λ it. free (sym it.0)))
+    (other_stays pool back.leaf (Out back.worker back.grant) step.path (Leaf back.leaf Free []) step.tree task step.freed out (λ it. free (sym it.0)))
 stays_out P pool new word Recalls task step out free = absurd (free tt)
 stays_out P pool new word Sweeps task step out free =
     subst (λ (p : Pool). IsOut p task) (sym step) (swept_stays P word pool.tree task.leaf [] task.worker task.grant task.path out)
@@ -34,7 +34,7 @@ stays_out P pool new word (Meets view) task step out free = subst (λ (p : Pool)
 
 -- the task of a leaf that was just handed out
 new_task : (P : Network) (pool new : Pool) (worker want : ℕ) (taken task : Task) → PoolTakes P pool worker want taken new → task.floor ≡ floor P task.path →
-    IsLeaf (Leaf taken.leaf (Out worker taken.grant)) taken.path task.leaf (Out task.worker task.grant) task.path → task ≡ taken
+    IsLeaf (Leaf taken.leaf (Out worker taken.grant) []) taken.path task.leaf (Out task.worker task.grant) task.path → task ≡ taken
 new_task P pool new worker want taken task takes floors here =
     let leaves : task.leaf ≡ taken.leaf = sym here.0 in
     let workers : task.worker ≡ taken.worker = sym (same_worker here.1) ∙ sym (ap (λ (t : Task). t.worker) takes.handed) in
@@ -47,7 +47,7 @@ new_task P pool new worker want taken task takes floors here =
 
 pub was_out : WasOut
 was_out P pool new word (Takes worker want taken) task own step out floors =
-    elim (replaced_back taken.leaf Free taken.path (Leaf taken.leaf (Out worker taken.grant)) task.leaf (Out task.worker task.grant) task.path pool.tree [] step.tree step.marked (own.different taken.leaf)
+    elim (replaced_back taken.leaf Free taken.path (Leaf taken.leaf (Out worker taken.grant) []) task.leaf (Out task.worker task.grant) task.path pool.tree [] step.tree step.marked (own.different taken.leaf)
     (subst (λ (p : Pool). IsOut p task) step.left out)) [
       | inl here ↦ inr (new_task P pool new worker want taken task step floors here)
       | inr old ↦ inl (old.0, λ ends. ends)
@@ -59,7 +59,7 @@ was_out P pool new word (Gives piece) task own step out floors =
       | inr old ↦ inl (old.0, λ ends. old.1 (sym ends))
     ]
 was_out P pool new word (Returns back) task own step out floors =
-    elim (replaced_back back.leaf (Out back.worker back.grant) step.path (Leaf back.leaf Free) task.leaf (Out task.worker task.grant) task.path pool.tree [] step.tree step.freed (own.different back.leaf)
+    elim (replaced_back back.leaf (Out back.worker back.grant) step.path (Leaf back.leaf Free []) task.leaf (Out task.worker task.grant) task.path pool.tree [] step.tree step.freed (own.different back.leaf)
     (subst (λ (p : Pool). IsOut p task) step.left out)) [
       | inl here ↦ free_not_out here.1
       | inr old ↦ inl (old.0, λ ends. old.1 (sym ends))

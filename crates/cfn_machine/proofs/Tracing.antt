@@ -18,7 +18,7 @@ after_runs P (step ∷ block) history k along run = after_runs P block (Did step
 
 leaf_runs : (P : Network) (k : ℕ) (tree : PoolTree) (history : List Event) (n : ℕ) (mark : Mark) (path : List Event) → IsLeaf tree history n mark path →
     RunsAlong P history k → Valid P history (tree_of tree) k → RunsAlong P path k
-leaf_runs P k (Leaf number m) history n mark path at along valid = subst (λ h. RunsAlong P h k) (sym at.2) along
+leaf_runs P k (Leaf number m block) history n mark path at along valid = subst (λ h. RunsAlong P h k) (sym at.2) (after_runs P block history k along valid)
 leaf_runs P k (Shut block) history n mark path at along valid = absurd at
 leaf_runs P k (Fork block d first second) history n mark path (inl at) along valid =
     leaf_runs P k first (Took d ∷ after block history) n mark path at (valid.1, after_runs P block history k along valid.0) valid.2
@@ -40,7 +40,7 @@ after_tame P (step ∷ block) history along tame = after_tame P block (Did step 
 
 leaf_tame : (P : Network) (tree : PoolTree) (history : List Event) (n : ℕ) (mark : Mark) (path : List Event) → IsLeaf tree history n mark path →
     TameAlong P history → Tame P history (tree_of tree) → TameAlong P path
-leaf_tame P (Leaf number m) history n mark path at along tame = subst (TameAlong P) (sym at.2) along
+leaf_tame P (Leaf number m block) history n mark path at along tame = subst (TameAlong P) (sym at.2) (after_tame P block history along tame)
 leaf_tame P (Shut block) history n mark path at along tame = absurd at
 leaf_tame P (Fork block d first second) history n mark path (inl at) along tame =
     leaf_tame P first (Took d ∷ after block history) n mark path at (tree_small P (tree_of first) (Took d ∷ after block history) tame.1, after_tame P block history along tame.0) tame.1
@@ -60,5 +60,5 @@ hands_out P pool new worker want task sound takes =
 pub takes_out : TakesOut
 takes_out P pool new worker want task takes =
     subst (λ (p : Pool). IsOut p task) (sym takes.left)
-    (replaced_in task.leaf Free task.path (Leaf task.leaf (Out worker task.grant)) task.leaf (Out task.worker task.grant) task.path pool.tree [] takes.tree takes.marked
+    (replaced_in task.leaf Free task.path (Leaf task.leaf (Out worker task.grant) []) task.leaf (Out task.worker task.grant) task.path pool.tree [] takes.tree takes.marked
     (refl, ap (λ k. Out k task.grant) (sym (ap (λ (t : Task). t.worker) takes.handed)), refl))

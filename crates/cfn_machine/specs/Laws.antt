@@ -1,11 +1,11 @@
 -- What holds of the pool, whatever steps are done and in whatever order.
-use Rattle.std.specs.Prelude.{◌≡◌, ℕ, ◌+◌, ◌≤◌, ◌⊎◌, min, List, []}
+use Rattle.std.specs.Prelude.{◌≡◌, ℕ, ◌+◌, ◌≤◌, ◌⊎◌, min, List, [], Option}
 use Rattle.cfn_model.specs.declared.step.Event.{Event}
 use Rattle.cfn_model.specs.Sums.{floor}
 use Rattle.cfn_model.specs.Network.{Network, IsNetwork, Fits, cost}
-use Rattle.cfn_model.specs.Tree.{OpenBelow}
+use Rattle.cfn_model.specs.Tree.{Tree, OpenBelow}
 use Rattle.cfn_model.specs.Paths.{Agrees}
-use Rattle.cfn_machine.specs.Pool.{Mark, Out, PoolTree, Leaf, Shut, Fork, tree_of, IsLeaf, IsAnyLeaf, leaf_of, Task, IsTask, Piece, View, Pool, IsSound, AreNumbered, price, KeepsFitting, opening_pool}
+use Rattle.cfn_machine.specs.Pool.{Mark, Out, PoolTree, Leaf, Shut, Fork, tree_of, IsLeaf, IsAnyLeaf, leaf_of, Task, IsTask, Piece, View, Pool, IsSound, AreNumbered, price, KeepsFitting, IsKept, opening_with, opening_pool}
 use Rattle.cfn_machine.specs.Steps.{PoolTakes, Lack, HasNone, IsOut, PoolGives, IsNotOut, PoolReturns, PoolSweeps, joined, PoolStep, Takes, Gives, Returns, Recalls, Sweeps, Meets, PoolSteps, IsLegal, Move, PoolRuns}
 
 -- The pool is sound, its leaves have numbers of their own, and what it keeps fits.
@@ -17,6 +17,9 @@ pub record IsPool (P : Network) (pool : Pool) : Type 0 where
 -- It holds at the opening, each legal step keeps it, and so does every list of them.
 abbrev pub Opens : Type 0
 Opens = (P : Network) (shares budget : ℕ) → IsNetwork P → IsPool P (opening_pool P shares budget)
+
+abbrev pub OpensWith : Type 0
+OpensWith = (P : Network) (shares budget : ℕ) (tree : Tree) (best : Option (List ℕ)) → IsKept P tree best → IsPool P (opening_with P shares budget tree best)
 
 abbrev pub KeepsSound : Type 0
 KeepsSound = (P : Network) (pool new : Pool) (word : ℕ) (step : PoolStep) → IsLegal P pool word step → IsSound P pool → PoolSteps P pool word step new → IsSound P new
@@ -44,7 +47,7 @@ Agreed = (tree : PoolTree) (values : List ℕ) → AgreesOnce tree values
 -- An assignment is covered by its leaf: the leaf is open, free or out, or it is closed and the assignment costs at least
 -- the threshold that the pool has seen.
 abbrev pub IsCovered : Network → Pool → List ℕ → PoolTree → Type 0
-IsCovered P pool values (Leaf n mark) = Unit {0}
+IsCovered P pool values (Leaf n mark block) = Unit {0}
 IsCovered P pool values (Shut block) = pool.view.seen ≤ cost P values
 IsCovered P pool values (Fork block d first second) = ⊥
 

@@ -30,7 +30,7 @@ pub record PoolTakes (P : Network) (pool : Pool) (worker want : ℕ) (task : Tas
   pub first : IsFirst P pool.tree task.leaf task.path
   pub handed : task ≡ task_for P pool worker want task.leaf task.path
   pub tree : PoolTree
-  pub marked : Replaced pool.tree [] task.leaf Free task.path (Leaf task.leaf (Out worker task.grant)) tree
+  pub marked : Replaced pool.tree [] task.leaf Free task.path (Leaf task.leaf (Out worker task.grant) []) tree
   pub left : new ≡ record pool { tree = tree }
 
 -- Why there is no leaf to take: none is open; the budget is spent; all open leaves are out, or all that the budget has
@@ -50,7 +50,8 @@ HasNone pool AllOut = (0 < open_leaves (tree_of pool.tree)) × (pool.nodes ≢ p
 abbrev pub IsOut : Pool → Task → Type 0
 IsOut pool task = IsLeaf pool.tree [] task.leaf (Out task.worker task.grant) task.path
 
--- A piece is given: it takes the place of its task's leaf, which has to be out, and the pool sees the word.
+-- A piece is given: it takes the place of its task's leaf, which has to be out, behind the leaf's own block, and the pool
+-- sees the word.
 pub record PoolGives (pool : Pool) (word : ℕ) (piece : Piece) (new : Pool) : Type 0 where
   pub tree : PoolTree
   pub placed : Replaced pool.tree [] piece.task.leaf (Out piece.task.worker piece.task.grant) piece.task.path (numbered pool.next piece.tree) tree
@@ -68,7 +69,7 @@ IsNotOut pool task = (path : List Event) → IsLeaf pool.tree [] task.leaf (Out 
 pub record PoolReturns (pool : Pool) (task : Task) (new : Pool) : Type 0 where
   pub path : List Event
   pub tree : PoolTree
-  pub freed : Replaced pool.tree [] task.leaf (Out task.worker task.grant) path (Leaf task.leaf Free) tree
+  pub freed : Replaced pool.tree [] task.leaf (Out task.worker task.grant) path (Leaf task.leaf Free []) tree
   pub left : new ≡ record pool { tree = tree }
 
 -- Every leaf that is out is called back.

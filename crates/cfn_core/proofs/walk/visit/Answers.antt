@@ -18,7 +18,10 @@ pub returns-in_ok-push-in-Free-clause-on_way : goal.returns-in_ok-push-in-Free-c
 returns-in_ok-push-in-Free-clause-on_way c = λ (whole : List Node) (last : ℕ) way.
     let P = c.args.network.now in
     let is = ap (λ n. n.end) (sym c.node-node.ensures) ∙ c.in-Free.is in
-    let made : c.at.result ≡ node P c.args.at.path [] (FreeLeaf c.args.walk.now.number) = c.at.ensures ∙ ap (λ b. node P c.args.at.path b (FreeLeaf c.args.walk.now.number)) c.new.ensures in
+    let same_block : c.node-node.result.now.block ≡ (node_at c.args.tree.now c.args.at.id.number).block = ap (λ n. n.block) c.node-node.ensures in
+    let block = c.in_ok-block.ensures ∙ same_block in
+    let here = c.in_ok-here.ensures ∙ ap (λ b. after b c.args.at.path) same_block in
+    let made : c.at.result ≡ node P (after (node_at c.args.tree.now c.args.at.id.number).block c.args.at.path) (node_at c.args.tree.now c.args.at.id.number).block (FreeLeaf c.args.walk.now.number) = c.at.ensures ∙ ap₂ (λ h b. node P h b (FreeLeaf c.args.walk.now.number)) here block in
     let items = c.in_ok-push-in-Free.ensures.items ∙ ap (λ n. c.args.walk.now.made.items ++ n ∷ []) made in
     subst (λ l. IsOnWay P c.args.tree.now whole last l (c.args.walk.now.number + 1) (reverse c.args.walk.now.ahead.items)) (sym items)
     (free_made P c.args.tree.now c.linked.ensures.linked whole last c.args.walk.now.made.items c.args.walk.now.number (reverse c.args.walk.now.ahead.items) c.args.at way c.requires.there is)
@@ -27,8 +30,10 @@ pub returns-in_ok-push-in-Shut-clause-on_way : goal.returns-in_ok-push-in-Shut-c
 returns-in_ok-push-in-Shut-clause-on_way c = λ (whole : List Node) (last : ℕ) way.
     let P = c.args.network.now in
     let is = ap (λ n. n.end) (sym c.node-node.ensures) ∙ c.in-Shut.is in
-    let block = c.in_ok-block-in-Shut.ensures ∙ ap (λ n. n.block) c.node-node.ensures in
-    let made : c.at-in-Shut.result ≡ node P c.args.at.path (node_at c.args.tree.now c.args.at.id.number).block ShutLeaf = c.at-in-Shut.ensures ∙ ap (λ b. node P c.args.at.path b ShutLeaf) block in
+    let same_block : c.node-node.result.now.block ≡ (node_at c.args.tree.now c.args.at.id.number).block = ap (λ n. n.block) c.node-node.ensures in
+    let block = c.in_ok-block.ensures ∙ same_block in
+    let here = c.in_ok-here.ensures ∙ ap (λ b. after b c.args.at.path) same_block in
+    let made : c.at-in-Shut.result ≡ node P (after (node_at c.args.tree.now c.args.at.id.number).block c.args.at.path) (node_at c.args.tree.now c.args.at.id.number).block ShutLeaf = c.at-in-Shut.ensures ∙ ap₂ (λ h b. node P h b ShutLeaf) here block in
     let items = c.in_ok-push-in-Shut.ensures.items ∙ ap (λ n. c.args.walk.now.made.items ++ n ∷ []) made in
     subst (λ l. IsOnWay P c.args.tree.now whole last l c.args.walk.now.number (reverse c.args.walk.now.ahead.items)) (sym items)
     (shut_made P c.args.tree.now c.linked.ensures.linked whole last c.args.walk.now.made.items c.args.walk.now.number (reverse c.args.walk.now.ahead.items) c.args.at way c.requires.there is)
@@ -39,11 +44,12 @@ returns-in_ok-push-in-Split-3-clause-on_way c = λ (whole : List Node) (last : �
     let d = c.in-Split.decision in
     let is = ap (λ n. n.end) (sym c.node-node.ensures) ∙ c.in-Split.is in
     let same_block : c.node-node.result.now.block ≡ (node_at c.args.tree.now c.args.at.id.number).block = ap (λ n. n.block) c.node-node.ensures in
-    let block = c.in_ok-block-in-Split.ensures ∙ same_block in
-    let made : c.at-in-Split.result ≡ node P c.args.at.path (node_at c.args.tree.now c.args.at.id.number).block (Branch d) = c.at-in-Split.ensures ∙ ap (λ b. node P c.args.at.path b (Branch d)) block in
+    let block = c.in_ok-block.ensures ∙ same_block in
+    let here = c.in_ok-here.ensures ∙ ap (λ b. after b c.args.at.path) same_block in
+    let made : c.at-in-Split.result ≡ node P (after (node_at c.args.tree.now c.args.at.id.number).block c.args.at.path) (node_at c.args.tree.now c.args.at.id.number).block (Branch d) = c.at-in-Split.ensures ∙ ap₂ (λ h b. node P h b (Branch d)) here block in
     let items = c.in_ok-push-in-Split-3.ensures.items ∙ ap (λ n. c.args.walk.now.made.items ++ n ∷ []) made in
-    let second = c.in_ok-refused-in-Split.ensures ∙ ap (λ b. Refused d ∷ after b c.args.at.path) same_block in
-    let first = c.in_ok-took-in-Split.ensures ∙ ap (λ b. Took d ∷ after b c.args.at.path) same_block in
+    let second = c.in_ok-refused-in-Split.ensures ∙ ap (λ h. Refused d ∷ h) here in
+    let first = c.in_ok-took-in-Split.ensures ∙ ap (λ h. Took d ∷ h) here in
     let one : Ahead = record { id = c.in-Split.first; path = c.in_ok-took-in-Split.took } in
     let two : Ahead = record { id = c.in-Split.second; path = c.in_ok-refused-in-Split.refused } in
     let ahead : c.push-in-Split-2.new.self.items ≡ (c.args.walk.now.ahead.items ++ two ∷ []) ++ one ∷ [] = c.in_ok-push-in-Split-2.ensures.items ∙ ap (λ l. l ++ one ∷ []) c.in_ok-push-in-Split.ensures.items in
@@ -52,5 +58,5 @@ returns-in_ok-push-in-Split-3-clause-on_way c = λ (whole : List Node) (last : �
     let parts : reverse c.push-in-Split-2.new.self.items ≡ record { id = c.in-Split.first; path = Took d ∷ after (node_at c.args.tree.now c.args.at.id.number).block c.args.at.path } ∷ record { id = c.in-Split.second; path = Refused d ∷ after (node_at c.args.tree.now c.args.at.id.number).block c.args.at.path } ∷ reverse c.args.walk.now.ahead.items =
     turned ∙ ap₂ (λ p q. record { id = c.in-Split.first; path = p } ∷ record { id = c.in-Split.second; path = q } ∷ reverse c.args.walk.now.ahead.items) first second in
     subst (λ l. IsOnWay P c.args.tree.now whole last l c.args.walk.now.number (reverse c.push-in-Split-2.new.self.items)) (sym items)
-    (subst (λ l. IsOnWay P c.args.tree.now whole last (c.args.walk.now.made.items ++ node P c.args.at.path (node_at c.args.tree.now c.args.at.id.number).block (Branch d) ∷ []) c.args.walk.now.number l) (sym parts)
+    (subst (λ l. IsOnWay P c.args.tree.now whole last (c.args.walk.now.made.items ++ node P (after (node_at c.args.tree.now c.args.at.id.number).block c.args.at.path) (node_at c.args.tree.now c.args.at.id.number).block (Branch d) ∷ []) c.args.walk.now.number l) (sym parts)
     (split_made P c.args.tree.now c.linked.ensures.linked whole last c.args.walk.now.made.items c.args.walk.now.number (reverse c.args.walk.now.ahead.items) c.args.at way d c.in-Split.first c.in-Split.second c.requires.there is))

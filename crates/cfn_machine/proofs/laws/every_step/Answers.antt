@@ -1,4 +1,4 @@
-use Rattle.cfn_machine.proofs.Keeping.{opens, keeps_sound, keeps, holds}
+use Rattle.cfn_machine.proofs.Keeping.{opens, opens_with, keeps_sound, keeps, holds}
 use Rattle.cfn_machine.proofs.Numbering.{keeps_numbered}
 use Rattle.cfn_machine.proofs.laws.every_step.Goals as goal
 
@@ -16,3 +16,6 @@ returns-clause-keeps c = keeps
 
 pub returns-clause-holds : goal.returns-clause-holds
 returns-clause-holds c = holds
+
+pub returns-clause-opens_with : goal.returns-clause-opens_with
+returns-clause-opens_with c = opens_with

@@ -10,7 +10,7 @@ pub invariant_of-result : goal.invariant_of-result
 invariant_of-result c =
     let P = c.args.network.now in
     let root : c.at-root.result ≡ node P [] [] (FreeLeaf 0) = c.at-root.ensures ∙ ap₂ (λ p b. node P p b (FreeLeaf 0)) c.new.ensures c.new-2.ensures in
-    let nodes : c.push.new.self.items ≡ nodes_of P [] (Leaf 0 Free) = c.in_ok-push.ensures.items ∙ ap₂ (λ l n. l ++ n ∷ []) c.new-nodes.ensures.items root in
+    let nodes : c.push.new.self.items ≡ nodes_of P [] (Leaf 0 Free []) = c.in_ok-push.ensures.items ∙ ap₂ (λ l n. l ++ n ∷ []) c.new-nodes.ensures.items root in
     let scored = c.in_ok-empty.ensures in
     let m : Machine = record {
       network = P;
