@@ -200,11 +200,15 @@ fn part_answers(
     line: &str,
     said: &[u8],
 ) -> Result<bool, AllocError> {
-    let mut lines = Vec::from_slice(rt.alloc(), &PART)?;
-    if let Some(other) = lines.get_mut(place.saturating_sub(1)) {
-        *other = line;
+    let mut certificate = Vec::new(rt.alloc());
+    for (before, other) in PART.iter().enumerate() {
+        if before.saturating_add(1) == place {
+            add_line(&mut certificate, line)?;
+        } else {
+            add_line(&mut certificate, other)?;
+        }
     }
-    let certificate = text_of(rt.alloc(), lines.as_slice())?;
+    add_line(&mut certificate, "end")?;
     let status = if said.starts_with(b"verified") { 0 } else { 7 };
     check_answers(rt, TINY, certificate.as_slice(), status, said)
 }
