@@ -137,7 +137,7 @@ PoolSteps P pool word (Meets view) new = PoolMeets P pool view new
 PoolSteps P pool word Notes new = PoolNotes P pool new
 
 -- What a step brings is of the network: a piece is one, with a threshold of at least the word, and what a view keeps
--- fits. A word that the pool is shown is at most what it has seen.
+-- fits. A word that the pool is shown is at most what it has seen. A row is noted of what is a network.
 abbrev pub IsLegal : Network → Pool → ℕ → PoolStep → Type 0
 IsLegal P pool word (Takes worker want task) = Unit {0}
 IsLegal P pool word (Gives piece) = IsPiece P piece × (word ≤ piece.threshold) × (word ≤ pool.view.seen)
