@@ -1,12 +1,13 @@
 -- What contracts see of the machine that runs: its network, and the world as the definitions have it, with the pool's
 -- tree as the list of its nodes.
-use Rattle.std.specs.Prelude.{◌≡◌, ℕ, ◌+◌, ◌*◌, ◌<◌, ◌≤◌, List, length, slice_index_or, Option, Some, None, if◌then◌else◌}
+use Rattle.std.specs.Prelude.{◌≡◌, ℕ, ◌+◌, ◌*◌, ◌<◌, ◌≤◌, List, [], ◌∷◌, length, slice_index_or, Option, Some, None, if◌then◌else◌}
 use Rattle.std.specs.List.{AllByRecursion}
 use Rattle.cfn_model.specs.declared.limits.TheConstants.{GREATEST}
 use Rattle.cfn_model.specs.Certificate.{Solution}
 use Rattle.cfn_model.specs.Network.{Network, IsNetwork}
+use Rattle.cfn_model.specs.Tree.{Open}
 use Rattle.cfn_net.specs.Scoring.{Scoring}
-use Rattle.cfn_machine.specs.Pool.{Task, View, cheaper, AreNumbered}
+use Rattle.cfn_machine.specs.Pool.{row_of, Task, View, cheaper, AreNumbered}
 use Rattle.cfn_core.specs.declared.node.Node.{Node}
 use Rattle.cfn_core.specs.declared.seat.Seat.{Seat}
 use Rattle.cfn_core.specs.declared.action.Action.{Action}
@@ -36,7 +37,7 @@ pub record Machine : Type 0 where
 -- The world that it is in.
 abbrev pub world_of : Machine → World
 world_of m = record {
-  pool = record { tree = pool_tree m.nodes; next = m.next; budget = m.budget; begun = 0; nodes = m.spent; view = m.view };
+  pool = record { tree = pool_tree m.nodes; next = m.next; budget = m.budget; begun = 0; nodes = m.spent; rows = row_of m.network (Open []) m.network.upper ∷ []; view = m.view };
   word = m.word;
   views = m.views;
   notes = m.notes;

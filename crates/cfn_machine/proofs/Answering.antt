@@ -8,6 +8,7 @@ use Rattle.cfn_model.specs.Steps.{after}
 use Rattle.cfn_model.specs.Tree.{count, open_leaves}
 use Rattle.cfn_machine.specs.Pool.{Mark, Free, Out, PoolTree, Leaf, Shut, Fork, tree_of, IsLeaf, Replaced, granted, numbered, Task, Piece, Pool, leaves_with, AreNumbered}
 use Rattle.cfn_machine.specs.Steps.{task_for, NoneOpen, AllSpent, AllOut, PoolGives, PoolReturns, Takes, Gives, Returns, Recalls, Sweeps, Meets}
+use Rattle.cfn_machine.specs.Steps.{Notes}
 use Rattle.cfn_machine.specs.Laws.{TakesOrNone, NeverBoth, OneLack, GivesOrNot, GivesOut, ReturnsOrNot, ReturnsOut, OneTask, OnePool}
 use Rattle.cfn_machine.proofs.Deciding.{Precedes, find_some, find_this, can_replace, find_first}
 use Rattle.cfn_machine.proofs.Numbering.{leaf_counts, replaced_leaf}
@@ -161,3 +162,4 @@ one_pool P pool new another word (Returns task) own a b = one_returned pool new 
 one_pool P pool new another word Recalls own a b = a ∙ sym b
 one_pool P pool new another word Sweeps own a b = a ∙ sym b
 one_pool P pool new another word (Meets view) own a b = a ∙ sym b
+one_pool P pool new another word Notes own a b = a ∙ sym b

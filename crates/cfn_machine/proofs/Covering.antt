@@ -19,7 +19,7 @@ after_rises : (P : Network) (block : List Step) (history : List Event) → floor
 after_rises P [] history = omega arith
 after_rises P (step ∷ block) history = omega (arith, after_rises P block (Did step ∷ history))
 
-leaf_rises : (P : Network) (tree : PoolTree) (history : List Event) (n : ℕ) (mark : Mark) (path : List Event) → IsLeaf tree history n mark path → floor P history ≤ floor P path
+pub leaf_rises : (P : Network) (tree : PoolTree) (history : List Event) (n : ℕ) (mark : Mark) (path : List Event) → IsLeaf tree history n mark path → floor P history ≤ floor P path
 leaf_rises P (Leaf number m block) history n mark path at = (let e = ap (floor P) at.2 in omega (arith, e, after_rises P block history))
 leaf_rises P (Shut block) history n mark path at = absurd at
 leaf_rises P (Fork block d first second) history n mark path (inl at) = omega (arith, after_rises P block history, leaf_rises P first (Took d ∷ after block history) n mark path at)

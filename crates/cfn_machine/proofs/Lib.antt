@@ -8,3 +8,4 @@ pub mod Covering
 pub mod Tracing
 pub mod Outgoing
 pub mod CallerLemmas
+pub mod Rows

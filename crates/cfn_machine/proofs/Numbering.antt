@@ -8,8 +8,11 @@ use Rattle.cfn_model.specs.Network.{Network}
 use Rattle.cfn_model.specs.Sums.{floor}
 use Rattle.cfn_model.specs.Steps.{after}
 use Rattle.cfn_model.specs.Tree.{Tree, Open, Closed, Split, open_leaves}
-use Rattle.cfn_machine.specs.Pool.{Mark, Free, Out, PoolTree, Leaf, Shut, Fork, IsLeaf, Replaced, numbered, recalled, swept, Piece, View, Pool, leaves_with, AreNumbered, behind, opening_with}
+use Rattle.cfn_machine.specs.Pool.{Mark, Free, Out, PoolTree, Leaf, Shut, Fork, IsLeaf, Replaced, numbered, recalled, swept, Piece, View, Pool, leaves_with, AreNumbered, behind, opening_with, tree_of, row_of}
 use Rattle.cfn_machine.specs.Steps.{PoolGives, Takes, Gives, Returns, Recalls, Sweeps, Meets, pool_recalled, pool_swept}
+use Rattle.cfn_machine.specs.Steps.{Notes, is_last, pool_noted}
+use Rattle.std.proofs.Common.{◌++◌, length, nat_lt}
+use Rattle.cfn_model.specs.declared.report.Row.{Row}
 use Rattle.cfn_machine.specs.Laws.{KeepsNumbered}
 use Rattle.cfn_machine.proofs.Placing.{after_append}
 
@@ -53,7 +56,7 @@ leaf_behind block history m k p (Leaf n mark more) at = (at.0, at.1, at.2 ∙ sy
 leaf_behind block history m k p (Shut more) at = at
 leaf_behind block history m k p (Fork more d first second) at = subst (λ h. IsLeaf first (Took d ∷ h) m k p ⊎ IsLeaf second (Refused d ∷ h) m k p) (sym (after_append block more history)) at
 
-leaf_before : (block : List Step) (history : List Event) (m : ℕ) (k : Mark) (p : List Event) (tree : PoolTree) → IsLeaf (behind block tree) history m k p → IsLeaf tree (after block history) m k p
+pub leaf_before : (block : List Step) (history : List Event) (m : ℕ) (k : Mark) (p : List Event) (tree : PoolTree) → IsLeaf (behind block tree) history m k p → IsLeaf tree (after block history) m k p
 leaf_before block history m k p (Leaf n mark more) at = (at.0, at.1, at.2 ∙ after_append block more history)
 leaf_before block history m k p (Shut more) at = at
 leaf_before block history m k p (Fork more d first second) at = subst (λ h. IsLeaf first (Took d ∷ h) m k p ⊎ IsLeaf second (Refused d ∷ h) m k p) (after_append block more history) at
@@ -235,6 +238,18 @@ module _ (pool : Pool) (numbers : AreNumbered pool) where
   view_numbered : (view : View) → AreNumbered (record pool { view = view })
   view_numbered view = record { different = numbers.different; fresh = numbers.fresh }
 
+-- a row is noted, or nothing is done
+by_tests : (P : Network) (pool : Pool) (Q : Pool → Type 0) (a b : Bool) (row : Row) → Q pool → Q (record pool { rows = pool.rows ++ row ∷ [] }) →
+    Q (if a then (if b then pool else record pool { rows = pool.rows ++ row ∷ [] }) else pool)
+by_tests P pool Q true true row same more = same
+by_tests P pool Q true false row same more = more
+by_tests P pool Q false b row same more = same
+
+pub by_noted : (P : Network) (pool : Pool) (Q : Pool → Type 0) → Q pool → Q (record pool { rows = pool.rows ++ row_of P (tree_of pool.tree) pool.view.seen ∷ [] }) → Q (pool_noted P pool)
+by_noted P pool Q same more =
+    let row = row_of P (tree_of pool.tree) pool.view.seen in
+    by_tests P pool Q (nat_lt (length pool.rows) 256) (is_last row pool.rows) row same more
+
 pub keeps_numbered : KeepsNumbered
 keeps_numbered P pool new word (Takes worker want task) numbers step =
     subst AreNumbered (sym step.left) (mark_numbered pool numbers task.leaf Free (Out worker task.grant) task.path step.tree step.marked)
@@ -243,6 +258,8 @@ keeps_numbered P pool new word (Returns task) numbers step =
     subst AreNumbered (sym step.left) (mark_numbered pool numbers task.leaf (Out task.worker task.grant) Free step.path step.tree step.freed)
 keeps_numbered P pool new word Recalls numbers step = subst AreNumbered (sym step) (recall_numbered pool numbers)
 keeps_numbered P pool new word Sweeps numbers step = subst AreNumbered (sym step) (sweep_numbered pool numbers P word)
+keeps_numbered P pool new word Notes numbers step =
+    subst AreNumbered (sym step) (by_noted P pool AreNumbered numbers (record { different = numbers.different; fresh = numbers.fresh }))
 keeps_numbered P pool new word (Meets view) numbers step = subst AreNumbered (sym step) (view_numbered pool numbers _)
 
 pub opens_numbered : (P : Network) (shares budget : ℕ) (tree : Tree) (best : Option (List ℕ)) → AreNumbered (opening_with P shares budget tree best)

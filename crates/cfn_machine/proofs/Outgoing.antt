@@ -5,8 +5,9 @@ use Rattle.cfn_model.specs.Network.{Network}
 use Rattle.cfn_model.specs.Sums.{floor}
 use Rattle.cfn_machine.specs.Pool.{Mark, Free, Out, PoolTree, Leaf, IsLeaf, Replaced, numbered, Task, Pool}
 use Rattle.cfn_machine.specs.Steps.{PoolTakes, IsOut, Takes, Gives, Returns, Recalls, Sweeps, Meets}
+use Rattle.cfn_machine.specs.Steps.{Notes}
 use Rattle.cfn_machine.specs.Laws.{StaysOut, WasOut}
-use Rattle.cfn_machine.proofs.Numbering.{replaced_stays, replaced_back, numbered_free, recalled_free, swept_stays, swept_back, free_not_out, same_worker, same_grant}
+use Rattle.cfn_machine.proofs.Numbering.{by_noted, replaced_stays, replaced_back, numbered_free, recalled_free, swept_stays, swept_back, free_not_out, same_worker, same_grant}
 
 -- another leaf stays out
 other_stays : (pool : Pool) (n : ℕ) (mark : Mark) (path : List Event) (place tree : PoolTree) (task : Task) → Replaced pool.tree [] n mark path place tree → IsOut pool task →
@@ -31,6 +32,7 @@ stays_out P pool new word Recalls task step out free = absurd (free tt)
 stays_out P pool new word Sweeps task step out free =
     subst (λ (p : Pool). IsOut p task) (sym step) (swept_stays P word pool.tree task.leaf [] task.worker task.grant task.path out)
 stays_out P pool new word (Meets view) task step out free = subst (λ (p : Pool). IsOut p task) (sym step) out
+stays_out P pool new word Notes task step out free = subst (λ (p : Pool). IsOut p task) (sym step) (by_noted P pool (λ p. IsOut p task) out out)
 
 -- the task of a leaf that was just handed out
 new_task : (P : Network) (pool new : Pool) (worker want : ℕ) (taken task : Task) → PoolTakes P pool worker want taken new → task.floor ≡ floor P task.path →
@@ -69,3 +71,5 @@ was_out P pool new word Recalls task own step out floors =
 was_out P pool new word Sweeps task own step out floors =
     inl (swept_back P word pool.tree task.leaf [] task.worker task.grant task.path (subst (λ (p : Pool). IsOut p task) step out), λ ends. ends)
 was_out P pool new word (Meets view) task own step out floors = inl (subst (λ (p : Pool). IsOut p task) step out, λ ends. ends)
+was_out P pool new word Notes task own step out floors =
+    inl (by_noted P pool (λ p. IsOut p task → IsOut pool task) (λ there. there) (λ there. there) (subst (λ (p : Pool). IsOut p task) step out), λ ends. ends)

@@ -1,12 +1,12 @@
 -- What holds of the pool, whatever steps are done and in whatever order.
-use Rattle.std.specs.Prelude.{◌≡◌, ℕ, ◌+◌, ◌≤◌, ◌⊎◌, min, List, [], Option}
+use Rattle.std.specs.Prelude.{◌≡◌, ℕ, ◌+◌, ◌<◌, ◌≤◌, ◌⊎◌, min, List, [], ◌∷◌, ◌++◌, length, Option}
 use Rattle.cfn_model.specs.declared.step.Event.{Event}
 use Rattle.cfn_model.specs.Sums.{floor}
 use Rattle.cfn_model.specs.Network.{Network, IsNetwork, Fits, cost}
 use Rattle.cfn_model.specs.Tree.{Tree, OpenBelow}
 use Rattle.cfn_model.specs.Paths.{Agrees}
-use Rattle.cfn_machine.specs.Pool.{Mark, Out, PoolTree, Leaf, Shut, Fork, tree_of, IsLeaf, IsAnyLeaf, leaf_of, Task, IsTask, Piece, View, Pool, IsSound, AreNumbered, price, KeepsFitting, IsKept, opening_with, opening_pool}
-use Rattle.cfn_machine.specs.Steps.{PoolTakes, Lack, HasNone, IsOut, PoolGives, IsNotOut, PoolReturns, PoolSweeps, joined, PoolStep, Takes, Gives, Returns, Recalls, Sweeps, Meets, PoolSteps, IsLegal, Move, PoolRuns}
+use Rattle.cfn_machine.specs.Pool.{Mark, Out, PoolTree, Leaf, Shut, Fork, tree_of, IsLeaf, IsAnyLeaf, leaf_of, Task, IsTask, Piece, View, Pool, IsSound, AreNumbered, price, KeepsFitting, IsKept, opening_with, opening_pool, row_of}
+use Rattle.cfn_machine.specs.Steps.{PoolTakes, Lack, HasNone, IsOut, PoolGives, IsNotOut, PoolReturns, PoolSweeps, joined, PoolStep, Takes, Gives, Returns, Recalls, Sweeps, Meets, Notes, PoolSteps, IsLegal, Move, PoolRuns}
 
 -- The pool is sound, its leaves have numbers of their own, and what it keeps fits.
 pub record IsPool (P : Network) (pool : Pool) : Type 0 where
@@ -19,7 +19,7 @@ abbrev pub Opens : Type 0
 Opens = (P : Network) (shares budget : ℕ) → IsNetwork P → IsPool P (opening_pool P shares budget)
 
 abbrev pub OpensWith : Type 0
-OpensWith = (P : Network) (shares budget : ℕ) (tree : Tree) (best : Option (List ℕ)) → IsKept P tree best → IsPool P (opening_with P shares budget tree best)
+OpensWith = (P : Network) (shares budget : ℕ) (tree : Tree) (best : Option (List ℕ)) → IsNetwork P → IsKept P tree best → IsPool P (opening_with P shares budget tree best)
 
 abbrev pub KeepsSound : Type 0
 KeepsSound = (P : Network) (pool new : Pool) (word : ℕ) (step : PoolStep) → IsLegal P pool word step → IsSound P pool → PoolSteps P pool word step new → IsSound P new
@@ -32,6 +32,11 @@ Keeps = (P : Network) (pool new : Pool) (word : ℕ) (step : PoolStep) → IsLeg
 
 abbrev pub Holds : Type 0
 Holds = (P : Network) (pool new : Pool) (moves : List Move) → IsPool P pool → PoolRuns P pool moves new → IsPool P new
+
+-- The rows that are there stay, in their order, and so the opening's is the first; each step adds one at most.
+abbrev pub KeepsRows : Type 0
+KeepsRows = (P : Network) (pool new : Pool) (word : ℕ) (step : PoolStep) → PoolSteps P pool word step new →
+    (new.rows ≡ pool.rows) ⊎ ((step ≡ Notes) × (length pool.rows < 256) × (new.rows ≡ pool.rows ++ row_of P (tree_of pool.tree) pool.view.seen ∷ []))
 
 -- Of all leaves of the tree, closed ones too, exactly one has a path that agrees with an assignment: the assignment's
 -- leaf.
@@ -80,6 +85,7 @@ Ends (Returns task) n = task.leaf ≡ n
 Ends Recalls n = Unit {0}
 Ends Sweeps n = ⊥
 Ends (Meets view) n = ⊥
+Ends Notes n = ⊥
 
 abbrev pub StaysOut : Type 0
 StaysOut = (P : Network) (pool new : Pool) (word : ℕ) (step : PoolStep) (task : Task) → PoolSteps P pool word step new → IsOut pool task → (Ends step task.leaf → ⊥) → IsOut new task
@@ -92,6 +98,7 @@ IsTaken (Returns task) other = ⊥
 IsTaken Recalls other = ⊥
 IsTaken Sweeps other = ⊥
 IsTaken (Meets view) other = ⊥
+IsTaken Notes other = ⊥
 
 abbrev pub WasOut : Type 0
 WasOut = (P : Network) (pool new : Pool) (word : ℕ) (step : PoolStep) (task : Task) → AreNumbered pool → PoolSteps P pool word step new → IsOut new task → task.floor ≡ floor P task.path →

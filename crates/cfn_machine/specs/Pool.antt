@@ -1,14 +1,16 @@
 -- The pool: a search tree whose open leaves are handed out to workers (branch and bound as in Allouche et al. 2015).
-use Rattle.std.specs.Prelude.{◌≡◌, ℕ, ◌+◌, ◌≤◌, ◌⊎◌, List, [], ◌∷◌, ◌++◌, Option, Some, None, if◌then◌else◌, nat_le, nat_lt, ◌==◌}
+use Rattle.std.specs.Prelude.{◌≡◌, ℕ, ◌+◌, ◌<◌, ◌≤◌, ◌⊎◌, List, [], ◌∷◌, ◌++◌, Option, Some, None, IfSome, if◌then◌else◌, nat_le, nat_lt, ◌==◌}
 use Rattle.cfn_model.specs.declared.step.Step.{Step}
 use Rattle.cfn_model.specs.declared.step.Decision.{Decision}
 use Rattle.cfn_model.specs.declared.step.Event.{Event}
 use Rattle.cfn_model.specs.declared.step.Event.TheVariants.{Took, Refused}
+use Rattle.cfn_model.specs.declared.report.Row.{Row}
+use Rattle.std.specs.List.{AllByRecursion}
 use Rattle.cfn_model.specs.Network.{Network, Fits, cost}
 use Rattle.cfn_model.specs.Sums.{floor}
 use Rattle.cfn_model.specs.Steps.{after}
 use Rattle.cfn_model.specs.Decisions.{holds}
-use Rattle.cfn_model.specs.Tree.{Tree, Open, Closed, Split, count, splits, open_leaves, Valid, Strict}
+use Rattle.cfn_model.specs.Tree.{Tree, Open, Closed, Split, bound, count, splits, open_leaves, Valid, Strict}
 use Rattle.cfn_model.specs.Paths.{RunsAlong, Tame, TameAlong}
 
 -- An open leaf is free, or out: handed to a worker, who may make that many nodes.
@@ -143,6 +145,10 @@ abbrev pub KeepsFitting : Network → Option (List ℕ) → Type 0
 KeepsFitting P None = Unit {0}
 KeepsFitting P (Some values) = Fits P.sizes values
 
+-- The row of bounds that a tree has at a threshold: its bound there, and the threshold where it is below the upper bound.
+abbrev pub row_of : Network → Tree → ℕ → Row
+row_of P tree seen = record { lower = bound P [] tree seen; upper = if nat_lt seen P.upper then Some seen else None }
+
 -- The pool's state. The numbers of leaves are below next. The tree that it began with had so many splits and closed leaves
 -- as begun says, and nodes are those that were made since.
 pub record Pool : Type 0 where
@@ -151,10 +157,19 @@ pub record Pool : Type 0 where
   pub budget : ℕ
   pub begun : ℕ
   pub nodes : ℕ
+  pub rows : List Row
   pub view : View
 
+-- What a row of bounds keeps: its lower number is at most every cost and at most the floor of each open leaf; its upper
+-- number, where it has one, is below the upper bound and at least the threshold that the pool has seen.
+pub record IsRow (P : Network) (tree : PoolTree) (seen : ℕ) (row : Row) : Type 0 where
+  pub costs : (values : List ℕ) → Fits P.sizes values → row.lower ≤ cost P values
+  pub floors : (n : ℕ) (mark : Mark) (path : List Event) → IsLeaf tree [] n mark path → row.lower ≤ floor P path
+  pub upper : IfSome row.upper (λ u. (u < P.upper) × (seen ≤ u))
+
 -- A sound pool: its tree is valid, strict and tame at the threshold seen; besides those that it began with each split is
--- counted, and no more nodes are counted than the tree has; and the nodes keep to the budget.
+-- counted, and no more nodes are counted than the tree has; the nodes keep to the
+-- budget; and each row keeps what rows keep.
 pub record IsSound (P : Network) (pool : Pool) : Type 0 where
   pub seen : pool.view.seen ≤ P.upper
   pub valid : Valid P [] (tree_of pool.tree) pool.view.seen
@@ -163,6 +178,7 @@ pub record IsSound (P : Network) (pool : Pool) : Type 0 where
   pub expanded : splits (tree_of pool.tree) ≤ pool.begun + pool.nodes
   pub counted : pool.begun + pool.nodes ≤ count (tree_of pool.tree)
   pub within : pool.nodes + granted pool.tree ≤ pool.budget
+  pub rows : AllByRecursion (IsRow P pool.tree pool.view.seen) pool.rows
 
 -- How many open leaves have a number.
 abbrev pub leaves_with : ℕ → PoolTree → ℕ
@@ -176,7 +192,8 @@ pub record AreNumbered (pool : Pool) : Type 0 where
   pub fresh : (n : ℕ) → pool.next ≤ n → leaves_with n pool.tree ≡ 0
 
 -- The opening with a kept tree and what is kept of assignments: every open leaf of the tree is free, with numbers in the
--- order of its text, and no node is made yet. What was seen is the price of the best that is kept.
+-- order of its text, and no node is made yet. What was seen is the price of the best that is kept, and the first
+-- row is of that.
 abbrev pub opening_with : Network → ℕ → ℕ → Tree → Option (List ℕ) → Pool
 opening_with P shares budget tree best = record {
   tree = numbered 0 tree;
@@ -184,6 +201,7 @@ opening_with P shares budget tree best = record {
   budget = budget;
   begun = count tree;
   nodes = 0;
+  rows = row_of P tree (price P best) ∷ [];
   view = record { best = best; seen = price P best; shares = shares };
 }
 

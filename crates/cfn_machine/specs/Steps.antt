@@ -1,11 +1,12 @@
 -- What is done to the pool, each a step that leaves another pool. The word, the least price that was found, is none of
 -- the pool's: a step that shows it to the pool has its value as an argument.
-use Rattle.std.specs.Prelude.{◌≡◌, ◌≢◌, ℕ, ◌+◌, ◌-◌, ◌<◌, ◌≤◌, ◌⊎◌, min, List, [], ◌∷◌}
+use Rattle.std.specs.Prelude.{◌≡◌, ◌≢◌, ℕ, ◌+◌, ◌-◌, ◌<◌, ◌≤◌, ◌⊎◌, min, List, [], ◌∷◌, ◌++◌, length, Option, Some, None, Bool, true, false, if◌then◌else◌, nat_lt, ◌==◌}
 use Rattle.cfn_model.specs.declared.step.Event.{Event}
-use Rattle.cfn_model.specs.Network.{Network}
+use Rattle.cfn_model.specs.declared.report.Row.{Row}
+use Rattle.cfn_model.specs.Network.{Network, IsNetwork}
 use Rattle.cfn_model.specs.Sums.{floor}
 use Rattle.cfn_model.specs.Tree.{count, open_leaves}
-use Rattle.cfn_machine.specs.Pool.{Free, Out, PoolTree, Leaf, tree_of, IsLeaf, Replaced, granted, numbered, recalled, swept, Task, Piece, IsPiece, View, Pool, cheaper, KeepsFitting}
+use Rattle.cfn_machine.specs.Pool.{Free, Out, PoolTree, Leaf, tree_of, IsLeaf, Replaced, granted, numbered, recalled, swept, Task, Piece, IsPiece, View, Pool, cheaper, KeepsFitting, row_of}
 
 -- A free leaf is handed out: one of least floor, the least number among those.
 pub record IsFirst (P : Network) (tree : PoolTree) (n : ℕ) (path : List Event) : Type 0 where
@@ -96,6 +97,26 @@ pool_met P pool view = record pool { view = joined P pool.view view }
 abbrev pub PoolMeets : Network → Pool → View → Pool → Type 0
 PoolMeets P pool view new = new ≡ pool_met P pool view
 
+-- The row of now is kept, where it differs from the last one and there are fewer than 256.
+abbrev pub is_same_upper : Option ℕ → Option ℕ → Bool
+is_same_upper None None = true
+is_same_upper None (Some v) = false
+is_same_upper (Some u) None = false
+is_same_upper (Some u) (Some v) = u == v
+
+abbrev pub is_last : Row → List Row → Bool
+is_last row [] = false
+is_last row (last ∷ []) = if row.lower == last.lower then is_same_upper row.upper last.upper else false
+is_last row (other ∷ (next ∷ rows)) = is_last row (next ∷ rows)
+
+abbrev pub pool_noted : Network → Pool → Pool
+pool_noted P pool =
+    let row = row_of P (tree_of pool.tree) pool.view.seen in
+    if nat_lt (length pool.rows) 256 then (if is_last row pool.rows then pool else record pool { rows = pool.rows ++ row ∷ [] }) else pool
+
+abbrev pub PoolNotes : Network → Pool → Pool → Type 0
+PoolNotes P pool new = new ≡ pool_noted P pool
+
 -- A step by its name, with what it brings or hands out.
 pub data PoolStep : Type 0 where
   Takes : (worker want : ℕ) (task : Task) → PoolStep
@@ -104,6 +125,7 @@ pub data PoolStep : Type 0 where
   Recalls : PoolStep
   Sweeps : PoolStep
   Meets : (view : View) → PoolStep
+  Notes : PoolStep
 
 abbrev pub PoolSteps : Network → Pool → ℕ → PoolStep → Pool → Type 0
 PoolSteps P pool word (Takes worker want task) new = PoolTakes P pool worker want task new
@@ -112,9 +134,10 @@ PoolSteps P pool word (Returns task) new = PoolReturns pool task new
 PoolSteps P pool word Recalls new = PoolRecalls pool new
 PoolSteps P pool word Sweeps new = PoolSweeps P pool word new
 PoolSteps P pool word (Meets view) new = PoolMeets P pool view new
+PoolSteps P pool word Notes new = PoolNotes P pool new
 
 -- What a step brings is of the network: a piece is one, with a threshold of at least the word, and what a view keeps
--- fits. A word that the pool is shown is at most what it has seen.
+-- fits. A word that the pool is shown is at most what it has seen. A row is noted of what is a network.
 abbrev pub IsLegal : Network → Pool → ℕ → PoolStep → Type 0
 IsLegal P pool word (Takes worker want task) = Unit {0}
 IsLegal P pool word (Gives piece) = IsPiece P piece × (word ≤ piece.threshold) × (word ≤ pool.view.seen)
@@ -122,6 +145,7 @@ IsLegal P pool word (Returns task) = Unit {0}
 IsLegal P pool word Recalls = Unit {0}
 IsLegal P pool word Sweeps = word ≤ pool.view.seen
 IsLegal P pool word (Meets view) = KeepsFitting P view.best
+IsLegal P pool word Notes = IsNetwork P
 
 -- A list of legal steps from a pool on, each with the word at its time.
 pub record Move : Type 0 where

@@ -1,15 +1,16 @@
 //! What holds of the pool's steps, each the contract of a function with nothing to do.
 
-ghost use Rattle.cfn_machine.specs.Laws.{Opens, OpensWith, KeepsSound, KeepsNumbered, Keeps, Holds, Agreed, Covered, Rises, SweepsAll, HandsOutTasks, TakesOut, StaysOut, WasOut, TakesOrNone, NeverBoth, OneLack, GivesOrNot, GivesOut, ReturnsOrNot, ReturnsOut, OneTask, OnePool, Joins};
+ghost use Rattle.cfn_machine.specs.Laws.{Opens, OpensWith, KeepsSound, KeepsNumbered, KeepsRows, Keeps, Holds, Agreed, Covered, Rises, SweepsAll, HandsOutTasks, TakesOut, StaysOut, WasOut, TakesOrNone, NeverBoth, OneLack, GivesOrNot, GivesOut, ReturnsOrNot, ReturnsOut, OneTask, OnePool, Joins};
 
 /// The pool at the opening, also one with a kept tree, is sound, its leaves have numbers of their own, and what it keeps
-/// fits. Each legal step keeps
-/// that, and so does every list of legal steps, in whatever order they come.
+/// fits. Each legal step keeps that, and so does every list of legal steps, in whatever order they come. The rows of
+/// bounds that are there stay.
 pub fn every_step()
     ensures opens { Opens }
     ensures opens_with { OpensWith }
     ensures sound { KeepsSound }
     ensures numbered { KeepsNumbered }
+    ensures rows { KeepsRows }
     ensures keeps { Keeps }
     ensures holds { Holds }
 {}

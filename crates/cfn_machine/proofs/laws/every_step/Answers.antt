@@ -1,4 +1,4 @@
-use Rattle.cfn_machine.proofs.Keeping.{opens, opens_with, keeps_sound, keeps, holds}
+use Rattle.cfn_machine.proofs.Keeping.{keeps_rows, opens, opens_with, keeps_sound, keeps, holds}
 use Rattle.cfn_machine.proofs.Numbering.{keeps_numbered}
 use Rattle.cfn_machine.proofs.laws.every_step.Goals as goal
 
@@ -19,3 +19,6 @@ returns-clause-holds c = holds
 
 pub returns-clause-opens_with : goal.returns-clause-opens_with
 returns-clause-opens_with c = opens_with
+
+pub returns-clause-rows : goal.returns-clause-rows
+returns-clause-rows c = keeps_rows
