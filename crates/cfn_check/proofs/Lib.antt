@@ -1,5 +1,5 @@
 pub mod Arities
-pub mod Cells
+pub mod Slots
 pub mod Amounts
 pub mod Live
 pub mod Verifying
@@ -7,7 +7,7 @@ pub mod BestValues
 pub mod Lines
 pub mod Telling
 pub mod Walking
-pub mod Projecting
+pub mod Probing
 pub mod Walks
 pub mod Shifted
 pub mod Saying

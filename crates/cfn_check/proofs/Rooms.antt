@@ -1,16 +1,16 @@
 -- Sums over a trail stay far within 128 bits.
-use Rattle.std.proofs.Common.{ℕ, suc, ◌+◌, ◌*◌, ◌<◌, ◌≤◌, ◌^◌, List, [], ◌∷◌, length, get_or, sym, ap, ◌∙◌, arith}
+use Rattle.std.proofs.Common.{ℕ, suc, ◌+◌, ◌*◌, ◌<◌, ◌≤◌, ◌^◌, List, [], ◌∷◌, length, get_or, arith}
 use Rattle.std.proofs.lemmas.Int.{ints}
 use Rattle.std.proofs.lemmas.List.Sums.{sum_by-cons}
-use Rattle.std.specs.Prelude.{Bool, true, false, if◌then◌else◌, ℤ, pos, neg_ℤ, ◌≤ℤ◌, sum_by, slice_index, nat_lt}
+use Rattle.std.specs.Prelude.{Bool, true, false, if◌then◌else◌, ℤ, pos, neg_ℤ, ◌≤ℤ◌, sum_by, slice_index}
 use Rattle.cfn_model.specs.declared.step.Step.TheVariants.{Project, Extend, Lift, CutValue, CutTuple}
 use Rattle.cfn_model.specs.declared.step.Event.{Event}
 use Rattle.cfn_model.specs.declared.step.Event.TheVariants.{Did, Took, Refused}
-use Rattle.cfn_model.specs.Network.{Function, Network, IsNetwork, cell, dims_at, entry_at, arity, function_at, no_function}
-use Rattle.cfn_model.specs.Sums.{when, lifted, constant, constant_of, floor, unary_by, unary, residual_by, residual, removes}
-use Rattle.cfn_net.proofs.CallerLemmas.{tuple_of, tuple_of-numbered}
+use Rattle.cfn_model.specs.Network.{Function, Network, IsNetwork, function_at, no_function}
+use Rattle.cfn_model.specs.Sums.{when, lifted, constant, constant_of, floor, unary_by, unary, removes}
 use Rattle.cfn_check.specs.declared.entry.Entry.{Entry}
-use Rattle.cfn_check.specs.Tables.{Tables, HasRoom, takers, residual_at}
+use Rattle.cfn_check.specs.Slots.{shifted_by, shifted}
+use Rattle.cfn_check.specs.Tables.{Tables, HasRoom, IsSlight, takers}
 use Rattle.cfn_check.specs.Standing.{IsPossible, IsTrail, IsLedger, events_of}
 
 pub record Within (n : ℕ) (z : ℤ) : Type 0 where
@@ -39,14 +39,14 @@ unary_by_within P (Did (CutTuple f c)) x a h = nothing (2 ^ 64)
 unary_by_within P (Took d) x a h = nothing (2 ^ 64)
 unary_by_within P (Refused d) x a h = nothing (2 ^ 64)
 
-residual_by_within : (P : Network) (event : Event) (f : ℕ) (tuple : List ℕ) → IsPossible P event → Within (2 ^ 64) (residual_by event f tuple)
-residual_by_within P (Did (Project g i b m)) f tuple h = within_when (2 ^ 64) _ (neg_ℤ (pos m)) (down (2 ^ 64) m (omega (arith, h.1)))
-residual_by_within P (Did (Extend g i b m)) f tuple h = within_when (2 ^ 64) _ (pos m) (up (2 ^ 64) m (omega (arith, h.1)))
-residual_by_within P (Did (Lift y m)) f tuple h = nothing (2 ^ 64)
-residual_by_within P (Did (CutValue y b)) f tuple h = nothing (2 ^ 64)
-residual_by_within P (Did (CutTuple g c)) f tuple h = nothing (2 ^ 64)
-residual_by_within P (Took d) f tuple h = nothing (2 ^ 64)
-residual_by_within P (Refused d) f tuple h = nothing (2 ^ 64)
+shifted_by_within : (P : Network) (event : Event) (f n : ℕ) → IsPossible P event → Within (2 ^ 64) (shifted_by P event f n)
+shifted_by_within P (Did (Project g i b m)) f n h = within_when (2 ^ 64) _ (pos m) (up (2 ^ 64) m (omega (arith, h.1)))
+shifted_by_within P (Did (Extend g i b m)) f n h = within_when (2 ^ 64) _ (neg_ℤ (pos m)) (down (2 ^ 64) m (omega (arith, h.1)))
+shifted_by_within P (Did (Lift y m)) f n h = nothing (2 ^ 64)
+shifted_by_within P (Did (CutValue y b)) f n h = nothing (2 ^ 64)
+shifted_by_within P (Did (CutTuple g c)) f n h = nothing (2 ^ 64)
+shifted_by_within P (Took d) f n h = nothing (2 ^ 64)
+shifted_by_within P (Refused d) f n h = nothing (2 ^ 64)
 
 lifted_small : (P : Network) (event : Event) → IsPossible P event → lifted event ≤ 2 ^ 64
 lifted_small P (Did (Project f i b m)) h = omega arith
@@ -64,12 +64,27 @@ unary_within P (entry ∷ entries) x a trail =
     let rest = unary_within P entries x a trail.2 in
     record { low = omega (arith, ints, one.low, rest.low); high = omega (arith, ints, one.high, rest.high) }
 
-residual_within : (P : Network) (entries : List Entry) (f : ℕ) (tuple : List ℕ) → entry_at P f tuple < 2 ^ 63 → IsTrail P entries → Within (2 ^ 64 * length entries + 2 ^ 63) (residual P (events_of entries) f tuple)
-residual_within P [] f tuple small trail = within_when (2 ^ 64 * 0 + 2 ^ 63) (nat_lt 0 (arity P f)) (pos (entry_at P f tuple)) (up (2 ^ 64 * 0 + 2 ^ 63) (entry_at P f tuple) (omega arith))
-residual_within P (entry ∷ entries) f tuple small trail =
-    let one = residual_by_within P entry.event f tuple trail.0 in
-    let rest = residual_within P entries f tuple small trail.2 in
+shifted_within : (P : Network) (entries : List Entry) (f n : ℕ) → IsTrail P entries → Within (2 ^ 64 * length entries) (shifted P (events_of entries) f n)
+shifted_within P [] f n trail = record { low = omega (arith, ints); high = omega (arith, ints) }
+shifted_within P (entry ∷ entries) f n trail =
+    let one = shifted_by_within P entry.event f n trail.0 in
+    let rest = shifted_within P entries f n trail.2 in
     record { low = omega (arith, ints, one.low, rest.low); high = omega (arith, ints, one.high, rest.high) }
+
+-- an entry, or nothing in its place
+pub record IsCost (z : ℤ) : Type 0 where
+  pub low : pos 0 ≤ℤ z
+  pub high : z ≤ℤ pos (2 ^ 63)
+
+pub first_cost : (b : Bool) (m : ℕ) → m ≤ 2 ^ 63 → IsCost (when b (pos m))
+first_cost true m h = record { low = omega (arith, ints); high = omega (arith, ints) }
+first_cost false m h = record { low = omega (arith, ints); high = omega (arith, ints) }
+
+-- what was shifted at a slot leaves room for sums along a tuple
+pub slight : (P : Network) (t : Tables) (entries : List Entry) (f n : ℕ) → IsLedger P t entries → IsSlight (shifted P (events_of entries) f n)
+slight P t entries f n ledger =
+    let w = shifted_within P entries f n ledger.trail in
+    record { low = omega (arith, ints, w.low, ledger.short); high = omega (arith, ints, w.high, ledger.short) }
 
 floor_within : (P : Network) (entries : List Entry) → IsTrail P entries → floor P (events_of entries) ≤ 2 ^ 64 * length entries + floor P []
 floor_within P [] trail = omega arith
@@ -103,10 +118,5 @@ room P t entries network ledger =
       floor = let f = floor_within P entries ledger.trail in let k = constants_small P.functions (2 ^ 63) (λ i l. constant_small (function_at P i).scope (function_at P i).entries (2 ^ 63) (let c = (network.functions i l).capped 0 in omega (arith, c, network.upper))) in omega (arith, f, k, says.floor, network.few_functions, ledger.short);
       unary = λ x a l m. (let e = says.unary x a l m in let w = unary_within P entries x a ledger.trail in record { low = omega (arith, ints, e, w.low, ledger.short); high = omega (arith, ints, e, w.high, ledger.short) });
       takers = λ x a l m. (let e = says.takers x a l m in let w = takers_within entries x a in omega (arith, e, w, ledger.short));
-      residual = λ f c l m. (let n = tuple_of-numbered (dims_at P f) c m in
-          let tuple = tuple_of (dims_at P f) c in
-          let e = sym (ap (residual_at t f) n.number) ∙ says.residual f tuple l n.fits in
-          let k = (network.functions f l).capped (cell (dims_at P f) tuple) in
-          let w = residual_within P entries f tuple (omega (arith, k, network.upper)) ledger.trail in
-          record { low = omega (arith, ints, e, w.low, ledger.short); high = omega (arith, ints, e, w.high, ledger.short) });
+      shifts = λ f n l m. (let e = says.shifts f n l m in let w = slight P t entries f n ledger in record { low = omega (arith, ints, e, w.low); high = omega (arith, ints, e, w.high) });
     }

@@ -1,16 +1,18 @@
 -- What tables say after an event, and before it.
-use Rattle.std.proofs.Common.{◌≡◌, ℕ, ◌+◌, List, ◌∷◌, refl, ap, ◌∙◌, subst, arith}
-use Rattle.std.proofs.lemmas.Bool.{and_parts, eqb-true}
+use Rattle.std.proofs.Common.{◌≡◌, ℕ, ◌+◌, List, ◌∷◌, length, refl, sym, ap, ap₂, ◌∙◌, subst, inl, inr, arith}
+use Rattle.std.proofs.lemmas.Bool.{and_parts, eqb-true, cases_lt, false≢true}
+use Rattle.std.proofs.lemmas.List.{get_or_past}
 use Rattle.std.proofs.lemmas.Int.{ints}
-use Rattle.std.specs.Prelude.{Bool, true, false, not, ◌&&◌, ◌||◌, ◌==◌, if◌then◌else◌}
+use Rattle.std.specs.Prelude.{Bool, true, false, not, ◌&&◌, ◌||◌, ◌==◌, if◌then◌else◌, pos, slice_index, slice_index_or}
 use Rattle.cfn_model.specs.declared.step.Step.TheVariants.{Project, Extend, Lift, CutValue, CutTuple}
 use Rattle.cfn_model.specs.declared.step.Event.{Event}
 use Rattle.cfn_model.specs.declared.step.Event.TheVariants.{Did, Took, Refused}
 use Rattle.cfn_model.specs.Network.{Network}
 use Rattle.cfn_model.specs.Sums.{removes, cuts, is_cut}
-use Rattle.cfn_check.specs.Tables.{Tables, HasShape, Says, Adds, Cuts, Has, takers, cut_at}
+use Rattle.cfn_model.proofs.CallerLemmas.{eqb_same}
+use Rattle.cfn_check.specs.Tables.{Tables, HasShape, Says, SaysSame, Adds, Cuts, Has, HasFlag, no_values, tuples_at, takers, cut_at}
 use Rattle.cfn_check.specs.declared.entry.Entry.{Entry}
-use Rattle.cfn_check.specs.Standing.{IsMarked, IsLedger, events_of}
+use Rattle.cfn_check.specs.Standing.{IsPossible, IsMarked, IsLedger, events_of}
 
 pub says_more : (P : Network) (event : Event) (history : List Event) (old new : Tables) → Says P history old → HasShape P new → Adds P event old new → Cuts P event true old new → Says P (event ∷ history) new
 says_more P event history old new s shape adds cut = record {
@@ -18,13 +20,50 @@ says_more P event history old new s shape adds cut = record {
   floor = omega (arith, adds.floor, s.floor);
   unary = λ x a l m. (let e = adds.unary x a l m in let d = s.unary x a l m in omega (arith, ints, e, d));
   takers = λ x a l m. (let e = adds.takers x a l m in let d = s.takers x a l m in e ∙ ap (λ n. (if removes event x a then 1 else 0) + n) d);
-  residual = λ f tuple l fits. (let e = adds.residual f tuple l fits in let d = s.residual f tuple l fits in omega (arith, ints, e, d));
+  shifts = λ f n l m. (let e = adds.shifts f n l m in let d = s.shifts f n l m in omega (arith, ints, e, d));
   cut = λ f c l m. cut f c l m ∙ either (cuts event f c) (cut_at old f c) ∙ ap (λ b. cuts event f c || b) (s.cut f c l m);
 }
   where
     either : (b c : Bool) → (if b then true else c) ≡ (b || c)
     either true c = refl
     either false c = refl
+
+-- tables that say the same
+pub says_same : (P : Network) (history : List Event) (old new : Tables) → Says P history old → HasShape P new → SaysSame old new → Says P history new
+says_same P history old new s shape same = record {
+  shape = shape;
+  floor = same.floor ∙ s.floor;
+  unary = λ x a l m. ap (λ vs. slice_index_or (slice_index_or vs x no_values).costs a (pos 0)) same.variables ∙ s.unary x a l m;
+  takers = λ x a l m. ap (λ vs. slice_index (slice_index_or vs x no_values).takers a) same.variables ∙ s.takers x a l m;
+  shifts = λ f n l m. same.shifts f n ∙ s.shifts f n l m;
+  cut = λ f c l m. same.cut f c ∙ s.cut f c l m;
+}
+
+pub ledger_same : (P : Network) (old new : Tables) (entries : List Entry) → HasShape P new → SaysSame old new → IsLedger P old entries → IsLedger P new entries
+ledger_same P old new entries shape same ledger = record {
+  says = says_same P (events_of entries) old new ledger.says shape same;
+  trail = ledger.trail;
+  short = ledger.short;
+}
+
+-- what is cut has a flag
+pub has_flag : (P : Network) (event : Event) (history : List Event) (t : Tables) → IsPossible P event → Says P (event ∷ history) t → HasFlag event t
+has_flag P (Did (Project f i a m)) history t possible s = tt
+has_flag P (Did (Extend f i a m)) history t possible s = tt
+has_flag P (Did (Lift x m)) history t possible s = tt
+has_flag P (Did (CutValue x a)) history t possible s = tt
+has_flag P (Did (CutTuple f c)) history t possible s = elim (cases_lt c (length (tuples_at t f).cut)) [
+  | inl there ↦ there
+  | inr past ↦ absurd (let cut = ap₂ (λ b d. (b && d) || is_cut history f c) (eqb_same f f refl) (eqb_same c c refl) in
+      false≢true (sym (get_or_past (tuples_at t f).cut c false past) ∙ s.cut f c possible.0.function possible.0.cell ∙ cut))
+]
+has_flag P (Took d) history t possible s = tt
+has_flag P (Refused d) history t possible s = tt
+
+pub newest_flag : (P : Network) (t : Tables) (entries : List Entry) (entry : Entry) (rest : List Entry) → entries ≡ entry ∷ rest → IsLedger P t entries → HasFlag entry.event t
+newest_flag P t entries entry rest is ledger =
+    let known : IsLedger P t (entry ∷ rest) = subst (λ (es : List Entry). IsLedger P t es) is ledger in
+    has_flag P entry.event (events_of rest) t known.trail.0 known.says
 
 pub has : (P : Network) (event : Event) (history : List Event) (t : Tables) → Says P (event ∷ history) t → Has P event t
 has P event history t s = record {
@@ -38,7 +77,7 @@ says_less P event fresh history old new s marked shape adds cut = record {
   floor = omega (arith, adds.floor, s.floor);
   unary = λ x a l m. (let e = adds.unary x a l m in let d = s.unary x a l m in omega (arith, ints, e, d));
   takers = λ x a l m. (let e = adds.takers x a l m in let d = s.takers x a l m in omega (arith, e, d));
-  residual = λ f tuple l fits. (let e = adds.residual f tuple l fits in let d = s.residual f tuple l fits in omega (arith, ints, e, d));
+  shifts = λ f n l m. (let e = adds.shifts f n l m in let d = s.shifts f n l m in omega (arith, ints, e, d));
   cut = λ f c l m. cut f c l m ∙ uncut event history fresh f c (cut_at old f c) marked (s.cut f c l m);
 }
   where

@@ -1,10 +1,10 @@
 pub mod Sides
 pub mod Values
+pub mod Slots
 pub mod Tables
-pub mod Columns
 pub mod Standing
 pub mod Asking
-pub mod Lacking
+pub mod Probing
 pub mod Walking
 pub mod Taking
 pub mod Assigning

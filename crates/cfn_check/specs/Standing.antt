@@ -57,4 +57,4 @@ IsTrail P (entry ∷ entries) = IsPossible P entry.event × IsMarked entry.event
 pub record IsLedger (P : Network) (t : Tables) (entries : List Entry) : Type 0 where
   pub says : Says P (events_of entries) t
   pub trail : IsTrail P entries
-  pub short : length entries ≤ 2 ^ 60
+  pub short : length entries ≤ 2 ^ 40

@@ -2,11 +2,10 @@
 
 ghost use Rattle.std.specs.Prelude.{◌≡◌, ◌↔◌, ◌<◌, length, pos, ◌+ℤ◌, ◌≤ℤ◌, IsTrue};
 ghost use Rattle.cfn_model.specs.Network.{variable_at};
-ghost use Rattle.cfn_check.specs.Lacking.{IsLack};
-ghost use Rattle.cfn_model.specs.Steps.{IsValue, IsPlace, IsCell, InRange, CanProject, CanExtend, CanLift, CanCutValue, CanCutTuple, Allowed};
+ghost use Rattle.cfn_model.specs.Steps.{IsValue, IsPlace, IsCell, InRange, CanExtend, CanLift, CanCutValue, CanCutTuple, Allowed};
 
-use crate::column::Column;
 use crate::ledger::Ledger;
+use crate::probe::can_project;
 use cfn_model::Step;
 use cfn_net::Network;
 
@@ -34,42 +33,6 @@ pub(crate) fn allowed(ledger: &Ledger, network: &Network, k: u64, step: Step) ->
         Step::CutValue { variable, value } => can_cut_value(ledger, k, variable, value),
         Step::CutTuple { function, cell } => can_cut_tuple(ledger, network, k, function, cell),
     }
-}
-
-/// Whether each live tuple of `f` with a value at a place has a residual cost of at least `amount`. It takes time for
-/// the tuples that have the value there.
-fn can_project(
-    ledger: &Ledger,
-    network: &Network,
-    f: u32,
-    place: u32,
-    value: u32,
-    amount: u64,
-) -> bool
-    requires same { network.now ≡ ledger.now.network }
-    requires place { IsPlace network.now f place value }
-    ensures { IsTrue result ↔ CanProject network.now ledger.now.history f place value amount }
-{
-    network.limits();
-    let column = Column::of(network, f, place, value);
-    for block in 0..column.above {
-        let start = (block * column.size + column.value) * column.stride;
-        for number in start..start + column.stride {
-            if lacks(ledger, network, f, number, amount) {
-                return false;
-            }
-        }
-    }
-    true
-}
-
-/// Whether the tuple of `f` with a number is live, and has a residual cost below `amount`.
-fn lacks(ledger: &Ledger, network: &Network, f: u32, number: u32, amount: u64) -> bool
-    requires same { network.now ≡ ledger.now.network }
-    requires number { IsCell network.now f number }
-    ensures { IsLack network.now ledger.now.history f number amount result }
-{
-    ledger.residual(f, number) < amount as i128 && ledger.is_live_tuple(network, f, number)
 }
 
 /// Whether the value at a place of `f` is not live, or has a unary cost of at least `amount`.
@@ -125,7 +88,7 @@ fn can_cut_tuple(ledger: &Ledger, network: &Network, k: u64, f: u32, number: u32
     requires number { IsCell network.now f number }
     ensures { IsTrue result ↔ CanCutTuple network.now ledger.now.history k f number }
 {
-    reaches(k, ledger.floor(), ledger.residual(f, number))
+    reaches(k, ledger.floor(), ledger.residual(network, f, number))
 }
 
 /// Whether a floor and a cost reach the threshold `k`.

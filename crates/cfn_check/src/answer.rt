@@ -16,7 +16,7 @@ pub enum Check {
 }
 
 /// Why judging stops.
-#[derive(Clone, Copy, Debug, PartialEq, Eq)]
+#[derive(Clone, Copy)]
 pub(crate) enum Stop {
     /// A line fails.
     Refused { kind: FaultKind, line: u64 },

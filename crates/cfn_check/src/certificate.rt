@@ -18,7 +18,7 @@ use cfn_net::Network;
 use std::alloc::{AllocError, Global};
 
 /// What a certificate claims before its tree.
-#[derive(Clone, Copy, Debug, PartialEq, Eq)]
+#[derive(Clone, Copy)]
 pub(crate) struct Opening {
     pub(crate) lower: u64,
     pub(crate) best: Option<u64>,

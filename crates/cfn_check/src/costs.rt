@@ -1,34 +1,34 @@
-//! The floor, the unary costs and live values of all variables, and the residual costs and cut tuples of all functions.
+//! The floor, the unary costs and live values of all variables, and what was shifted and cut of all functions.
 //!
-//! A project or an extend touches one value and the cells that have it at one place; a lift, a cut or a decision
-//! touches the values of one variable, or one cell. What an event adds can be taken off again at the same cost.
+//! A project or an extend touches one value and one slot; a lift, a cut or a decision touches the values of one
+//! variable, or one flag. What an event adds can be taken off again at the same cost.
 
-ghost use Rattle.std.specs.Prelude.{◌≡◌, ℕ, ◌+◌, ◌*◌, ◌<◌, ◌≤◌, ◌^◌, ◌==◌, ◌&&◌, ◌↔◌, not, true, List, [], ◌∷◌, length, slice_index, slice_index_or, sum_by, replicate, pos, neg_ℤ, ◌+ℤ◌, IfOk, IsTrue, if◌then◌else◌};
+ghost use Rattle.std.specs.Prelude.{◌≡◌, ℕ, ◌+◌, ◌*◌, ◌<◌, ◌≤◌, ◌^◌, ◌==◌, ◌&&◌, ◌↔◌, not, true, List, [], ◌∷◌, length, slice_index, slice_index_or, sum_by, replicate, pos, neg_ℤ, ◌+ℤ◌, IfOk, OnOk, OnErr, IsTrue, if◌then◌else◌};
 ghost use Rattle.cfn_model.specs.declared.step.Step.TheVariants.{Project, Lift, CutTuple};
 ghost use Rattle.cfn_model.specs.declared.step.Event.TheVariants.{Did};
 ghost use Rattle.cfn_model.specs.Network.{Fits, cells, cell, dims_at, variable_at, function_at};
 ghost use Rattle.cfn_model.specs.Sums.{when, constant, residual};
 ghost use Rattle.cfn_model.specs.Steps.{IsValue, IsPlace, IsCell};
-ghost use Rattle.cfn_check.specs.Tables.{Values, Tuples, values_at, tuples_at, no_values, no_tuples, IsFirst, first_values, has_none, wiped_count, unary_at, takers_at, residual_at, cut_at, HasShape, Says, Moves, Adds, Has, Cuts, HasRoom, IsAmount};
+ghost use Rattle.cfn_check.specs.Slots.{slots, slot};
+ghost use Rattle.cfn_check.specs.Tables.{values_at, tuples_at, no_values, no_tuples, first_values, first_tuples, wiped_count, unary_at, takers_at, shift_at, cut_at, HasShape, HasFlag, Says, SaysSame, Moves, Adds, Has, Cuts, HasRoom, IsAmount};
 ghost use Rattle.cfn_check.specs.Sides.{is_on, side_variable};
 ghost use Rattle.cfn_check.specs.Standing.{IsPossible};
 
-use crate::column::Column;
 use crate::domain::Domain;
-use crate::residuals::Residuals;
+use crate::shifts::{Shifts, slot};
 use crate::side::Side;
 use cfn_model::{Event, Step};
 use cfn_net::Network;
 use std::alloc::{AllocError, Global};
 use std::marker::Model;
 
-/// The tables: 16 bytes for the cost of each value and each tuple, 8 bytes for how many events took a value, and one
-/// byte for whether a tuple is cut.
+/// The tables: 16 bytes for the cost of each value and for each slot, 8 bytes for how many events took a value, and one
+/// byte for each tuple of a function that had a tuple cut.
 #[derive(Drop)]
 pub(crate) struct Costs {
     floor: u128,
     domains: Vec<Domain>,
-    functions: Vec<Residuals>,
+    functions: Vec<Shifts>,
     wiped: u32,
 }
 
@@ -86,20 +86,35 @@ impl Costs {
         self.domains[x as usize].is_live(value)
     }
 
-    pub(crate) fn residual(&self, f: u32, cell: u32) -> i128
+    pub(crate) fn shifted(&self, f: u32, slot: usize) -> i128
         requires function { f < length self.now.functions }
-        requires cell { cell < length (tuples_at self.now f).costs }
-        ensures { result ≡ residual_at self.now f cell }
+        requires slot { slot < length (tuples_at self.now f).sums }
+        ensures { result ≡ shift_at self.now f slot }
     {
-        self.functions[f as usize].cost(cell)
+        self.functions[f as usize].sum(slot)
     }
 
     pub(crate) fn is_cut(&self, f: u32, cell: u32) -> bool
-        requires function { f < length self.now.functions }
-        requires cell { cell < length (tuples_at self.now f).cut }
+        requires { f < length self.now.functions }
         ensures { result ≡ cut_at self.now f cell }
     {
         self.functions[f as usize].is_cut(cell)
+    }
+
+    /// Makes the flags of a function for the first cut of one of its tuples. An `Err`, want of memory, leaves all as it
+    /// was.
+    pub(crate) fn prepare(&mut self, network: &Network, event: Event) -> Result<(), AllocError>
+        requires shape { HasShape network.now self.old }
+        requires event { IsPossible network.now event }
+        ensures shape { HasShape network.now self.new }
+        ensures same { SaysSame self.old self.new }
+        ensures flag { OnOk result (HasFlag event self.new) }
+        ensures err { OnErr result (self.new ≡ self.old) }
+    {
+        if let Event::Did(Step::CutTuple { function, .. }) = event {
+            self.functions[function as usize].make_flags(network.cells(function))?;
+        }
+        Ok(())
     }
 
     /// Adds what an event changes.
@@ -107,12 +122,33 @@ impl Costs {
         requires shape { HasShape network.now self.old }
         requires room { HasRoom network.now self.old }
         requires event { IsPossible network.now event }
+        requires flag { HasFlag event self.old }
         ensures shape { HasShape network.now self.new }
         ensures adds { Adds network.now event self.old self.new }
         ensures cut { Cuts network.now event true self.old self.new }
     {
         match event {
-            Event::Did(step) => self.make(network, step),
+            Event::Did(
+                Step::Project {
+                    function,
+                    place,
+                    value,
+                    amount,
+                },
+            ) => self.shift(network, function, place, value, amount as i128),
+            Event::Did(
+                Step::Extend {
+                    function,
+                    place,
+                    value,
+                    amount,
+                },
+            ) => self.shift(network, function, place, value, -(amount as i128)),
+            Event::Did(Step::Lift { variable, amount }) => self.lift(network, variable, amount),
+            Event::Did(Step::CutValue { variable, value }) => self.take(network, variable, value),
+            Event::Did(Step::CutTuple { function, cell }) => {
+                self.mark(network, function, cell, true)
+            }
             Event::Took(decision) => self.take_side(network, Side::Second(decision)),
             Event::Refused(decision) => self.take_side(network, Side::First(decision)),
         }
@@ -124,101 +160,54 @@ impl Costs {
         requires room { HasRoom network.now self.old }
         requires event { IsPossible network.now event }
         requires has { Has network.now event self.old }
+        requires flag { HasFlag event self.old }
         ensures shape { HasShape network.now self.new }
         ensures adds { Adds network.now event self.new self.old }
         ensures cut { Cuts network.now event (not fresh) self.old self.new }
     {
         match event {
-            Event::Did(step) => self.unmake(network, step, fresh),
+            Event::Did(
+                Step::Project {
+                    function,
+                    place,
+                    value,
+                    amount,
+                },
+            ) => self.shift(network, function, place, value, -(amount as i128)),
+            Event::Did(
+                Step::Extend {
+                    function,
+                    place,
+                    value,
+                    amount,
+                },
+            ) => self.shift(network, function, place, value, amount as i128),
+            Event::Did(Step::Lift { variable, amount }) => self.unlift(network, variable, amount),
+            Event::Did(Step::CutValue { variable, value }) => self.give(network, variable, value),
+            Event::Did(Step::CutTuple { function, cell }) => {
+                self.mark(network, function, cell, !fresh)
+            }
             Event::Took(decision) => self.give_side(network, Side::Second(decision)),
             Event::Refused(decision) => self.give_side(network, Side::First(decision)),
         }
     }
 
-    fn make(&mut self, network: &Network, step: Step)
-        requires shape { HasShape network.now self.old }
-        requires room { HasRoom network.now self.old }
-        requires event { IsPossible network.now (Did step) }
-        ensures shape { HasShape network.now self.new }
-        ensures adds { Adds network.now (Did step) self.old self.new }
-        ensures cut { Cuts network.now (Did step) true self.old self.new }
-    {
-        match step {
-            Step::Project {
-                function,
-                place,
-                value,
-                amount,
-            } => {
-                let amount = amount as i128;
-                self.shift(network, function, place, value, amount, -amount)
-            }
-            Step::Extend {
-                function,
-                place,
-                value,
-                amount,
-            } => {
-                let amount = amount as i128;
-                self.shift(network, function, place, value, -amount, amount)
-            }
-            Step::Lift { variable, amount } => self.lift(network, variable, amount),
-            Step::CutValue { variable, value } => self.take(network, variable, value),
-            Step::CutTuple { function, cell } => self.mark(network, function, cell, true),
-        }
-    }
-
-    fn unmake(&mut self, network: &Network, step: Step, fresh: bool)
-        requires shape { HasShape network.now self.old }
-        requires room { HasRoom network.now self.old }
-        requires event { IsPossible network.now (Did step) }
-        requires has { Has network.now (Did step) self.old }
-        ensures shape { HasShape network.now self.new }
-        ensures adds { Adds network.now (Did step) self.new self.old }
-        ensures cut { Cuts network.now (Did step) (not fresh) self.old self.new }
-    {
-        match step {
-            Step::Project {
-                function,
-                place,
-                value,
-                amount,
-            } => {
-                let amount = amount as i128;
-                self.shift(network, function, place, value, -amount, amount)
-            }
-            Step::Extend {
-                function,
-                place,
-                value,
-                amount,
-            } => {
-                let amount = amount as i128;
-                self.shift(network, function, place, value, amount, -amount)
-            }
-            Step::Lift { variable, amount } => self.unlift(network, variable, amount),
-            Step::CutValue { variable, value } => self.give(network, variable, value),
-            Step::CutTuple { function, cell } => self.mark(network, function, cell, !fresh),
-        }
-    }
-
-    /// Adds `gain` to the cost of a value at a place of a function, and `loss` to that of each tuple that has it there.
-    fn shift(&mut self, network: &Network, f: u32, place: u32, value: u32, gain: i128, loss: i128)
+    /// Adds an amount to the cost of a value at a place of a function, and to what was shifted there.
+    fn shift(&mut self, network: &Network, f: u32, place: u32, value: u32, amount: i128)
         requires shape { HasShape network.now self.old }
         requires room { HasRoom network.now self.old }
         requires place { IsPlace network.now f place value }
-        requires gain { IsAmount gain }
-        requires loss { IsAmount loss }
+        requires amount { IsAmount amount }
         ensures shape { HasShape network.now self.new }
-        ensures moves { Moves network.now 0 (λ y b. when ((variable_at network.now f place == y) && (value == b)) gain)
-            (λ y b. 0) (λ g tuple. when ((f == g) && (slice_index tuple place == value)) loss) self.old self.new }
+        ensures moves { Moves network.now 0 (λ y b. when ((variable_at network.now f place == y) && (value == b)) amount)
+            (λ y b. 0) (λ g n. when ((f == g) && (slot (dims_at network.now f) place value == n)) amount) self.old self.new }
         ensures cut { (g c : ℕ) → cut_at self.new g c ≡ cut_at self.old g c }
     {
         network.limits();
-        let column = Column::of(network, f, place, value);
+        let slot = slot(network, f, place, value);
         let x = network.scope(f)[place as usize];
-        self.domains[x as usize].add(value, gain);
-        self.functions[f as usize].shift(column, loss);
+        self.domains[x as usize].add(value, amount);
+        self.functions[f as usize].add(slot, amount);
     }
 
     /// Lifts an amount from each value of a variable to the floor.
@@ -255,7 +244,7 @@ impl Costs {
         requires value { IsValue network.now x value }
         ensures shape { HasShape network.now self.new }
         ensures moves { Moves network.now 0 (λ y b. pos 0) (λ y b. if (x == y) && (value == b) then 1 else 0)
-            (λ g tuple. pos 0) self.old self.new }
+            (λ g n. pos 0) self.old self.new }
         ensures functions { self.new.functions ≡ self.old.functions }
     {
         network.limits();
@@ -273,7 +262,7 @@ impl Costs {
         requires taken { 0 < takers_at self.old x value }
         ensures shape { HasShape network.now self.new }
         ensures moves { Moves network.now 0 (λ y b. pos 0) (λ y b. if (x == y) && (value == b) then 1 else 0)
-            (λ g tuple. pos 0) self.new self.old }
+            (λ g n. pos 0) self.new self.old }
         ensures functions { self.new.functions ≡ self.old.functions }
     {
         network.limits();
@@ -291,7 +280,7 @@ impl Costs {
         requires variable { side_variable side < length network.now.sizes }
         ensures shape { HasShape network.now self.new }
         ensures moves { Moves network.now 0 (λ y b. pos 0) (λ y b. if (side_variable side == y) && is_on side b then 1 else 0)
-            (λ g tuple. pos 0) self.old self.new }
+            (λ g n. pos 0) self.old self.new }
         ensures functions { self.new.functions ≡ self.old.functions }
     {
         network.limits();
@@ -311,7 +300,7 @@ impl Costs {
             → 0 < takers_at self.old (side_variable side) b }
         ensures shape { HasShape network.now self.new }
         ensures moves { Moves network.now 0 (λ y b. pos 0) (λ y b. if (side_variable side == y) && is_on side b then 1 else 0)
-            (λ g tuple. pos 0) self.new self.old }
+            (λ g n. pos 0) self.new self.old }
         ensures functions { self.new.functions ≡ self.old.functions }
     {
         network.limits();
@@ -327,6 +316,7 @@ impl Costs {
     fn mark(&mut self, network: &Network, f: u32, cell: u32, is: bool)
         requires shape { HasShape network.now self.old }
         requires cell { IsCell network.now f cell }
+        requires flag { cell < length (tuples_at self.old f).cut }
         ensures shape { HasShape network.now self.new }
         ensures forward { Adds network.now (Did (CutTuple f cell)) self.old self.new }
         ensures back { Adds network.now (Did (CutTuple f cell)) self.new self.old }
@@ -362,14 +352,15 @@ fn domains_of(alloc: Global, network: &Network) -> Result<Vec<Domain>, AllocErro
     Ok(domains)
 }
 
-/// The entries of all functions, with no tuple cut.
-fn functions_of(alloc: Global, network: &Network) -> Result<Vec<Residuals>, AllocError>
+/// Nothing shifted and no tuple cut of any function.
+fn functions_of(alloc: Global, network: &Network) -> Result<Vec<Shifts>, AllocError>
     ensures size { IfOk result (λ t. length t.items ≡ length network.now.functions) }
-    ensures each { IfOk result (λ t. (f : ℕ) → f < length network.now.functions → IsFirst network.now f (slice_index_or t.items f no_tuples)) }
+    ensures each { IfOk result (λ t. (f : ℕ) → f < length network.now.functions → slice_index_or t.items f no_tuples
+        ≡ first_tuples (slots (dims_at network.now f))) }
 {
     let mut functions = Vec::new(alloc);
     for f in 0..network.functions() {
-        functions.push(Residuals::of(alloc, network, f)?)?;
+        functions.push(Shifts::of(alloc, network, f)?)?;
     }
     Ok(functions)
 }

@@ -1,11 +1,13 @@
 //! Where a checker stands on the way down a search tree.
 
-ghost use Rattle.std.specs.Prelude.{◌≡◌, ℕ, ◌+◌, ◌-◌, ◌<◌, ◌≤◌, ◌↔◌, List, [], ◌∷◌, length, slice_index, IsTrue, IfOk, OnOk, OnErr};
+ghost use Rattle.std.specs.Prelude.{◌≡◌, ℕ, ◌+◌, ◌-◌, ◌<◌, ◌≤◌, ◌↔◌, List, [], ◌∷◌, length, slice_index, pos, neg_ℤ, ◌+ℤ◌, nat_lt, IsTrue, IfOk, OnOk, OnErr};
 ghost use Rattle.cfn_model.specs.declared.step.Event.TheVariants.{Took, Refused};
-ghost use Rattle.cfn_model.specs.Network.{Fits, cells, cell, dims, dims_at, scope_at};
-ghost use Rattle.cfn_model.specs.Sums.{floor, unary, residual, is_live, is_cut, all_live, is_live_tuple};
+ghost use Rattle.cfn_model.specs.Network.{Fits, cells, cell, dims, dims_at, scope_at, arity, function_at};
+ghost use Rattle.cfn_model.specs.Sums.{when, floor, unary, residual, is_live, is_cut};
 ghost use Rattle.cfn_model.specs.Steps.{IsValue, IsCell};
 ghost use Rattle.cfn_model.specs.Tree.{CanClose, IsWiped};
+ghost use Rattle.cfn_check.specs.Slots.{slots, shifted, along};
+ghost use Rattle.cfn_check.specs.Tables.{IsSlight};
 ghost use Rattle.cfn_check.specs.Standing.{IsPossible, IsMarked, with_event, without};
 ghost use Rattle.cfn_certtext.specs.Reading.{step_of, decision_of};
 ghost use Rattle.cfn_check.specs.Asking.{IsJudged, IsDecided};
@@ -14,6 +16,7 @@ use crate::allowed::allowed;
 use crate::asked::{Judged, decision_in_range, in_range};
 use crate::costs::Costs;
 use crate::entry::Entry;
+use crate::shifts::slots;
 use cfn_certtext::{DecisionText, StepText};
 use cfn_model::{Event, Step};
 use cfn_net::Network;
@@ -24,9 +27,9 @@ use std::snapshot::Snapshot;
 /// The costs and live values of a network after the events of a path (Cooper et al. 2010). Contracts see the network
 /// and the path's history, the newest event first.
 ///
-/// It is bound to the network that it was made for, and borrows nothing of it. An event takes time for the values or
-/// tuples that it touches, and going back over it takes the same time again. Memory is taken by `make`, and then for
-/// the path's events alone.
+/// It is bound to the network that it was made for, and borrows nothing of it. An event takes time for the values that it
+/// touches and the places of its function, and going back over it takes the same time again. Memory is taken by `make`,
+/// which copies no table, then for the path's events, and at the first cut of a tuple of a function for its flags.
 #[derive(Drop)]
 pub struct Ledger {
     network: Snapshot<Network>,
@@ -46,7 +49,7 @@ impl Model for Ledger {
 }
 
 /// A length of a path, to go back to.
-#[derive(Clone, Copy, Debug, PartialEq, Eq)]
+#[derive(Clone, Copy)]
 pub struct Mark {
     /// The number of events from the root on.
     pub events: usize,
@@ -54,7 +57,7 @@ pub struct Mark {
 
 impl Ledger {
     /// How many events a path may have. A longer one counts as want of memory.
-    const MOST: usize = 1152921504606846976;
+    const MOST: usize = 1099511627776;
 
     /// The root of a network's search tree, before any event. An `Err` is want of memory.
     pub fn make(alloc: Global, network: &Network) -> Result<Ledger, AllocError>
@@ -166,54 +169,51 @@ impl Ledger {
         self.costs.is_live(x, value)
     }
 
-    /// The residual cost of the tuple of a function with a number. It may be below 0 where the tuple is not live.
-    pub(crate) fn residual(&self, f: u32, number: u32) -> i128
-        requires { IsCell self.now.network f number }
-        ensures { (tuple : List ℕ) → Fits (dims_at self.now.network f) tuple
-            → cell (dims_at self.now.network f) tuple ≡ number
-            → result ≡ residual self.now.network self.now.history f tuple }
+    /// What was shifted at a slot of a function.
+    pub(crate) fn shifted(&self, f: u32, slot: usize) -> i128
+        requires function { f < length self.now.network.functions }
+        requires slot { slot < slots (dims_at self.now.network f) }
+        ensures value { result ≡ shifted self.now.network self.now.history f slot }
+        ensures small { IsSlight (shifted self.now.network self.now.history f slot) }
     {
-        self.costs.residual(f, number)
+        self.costs.shifted(f, slot)
     }
 
-    /// Whether the tuple of a function with a number is live: its values are live, its entry is below the upper bound,
-    /// and it is not cut. It takes time for its places.
-    pub(crate) fn is_live_tuple(&self, network: &Network, f: u32, number: u32) -> bool
+    /// Nothing: its contract tells a caller that the residual cost of a tuple is its entry less what was shifted along it.
+    pub(crate) fn differences(&self)
+        ensures { (f : ℕ) (tuple : List ℕ) → Fits (dims_at self.now.network f) tuple
+            → residual self.now.network self.now.history f tuple ≡ (residual self.now.network [] f tuple
+            +ℤ neg_ℤ (along (λ n. shifted self.now.network self.now.history f n) 0 (dims_at self.now.network f) tuple)) }
+    {
+        let _ = &self.costs;
+    }
+
+    /// The residual cost of the tuple of a function with a number. It may be below 0 where the tuple is not live. It
+    /// takes time for the function's places.
+    pub(crate) fn residual(&self, network: &Network, f: u32, number: u32) -> i128
         requires same { network.now ≡ self.now.network }
         requires number { IsCell network.now f number }
         ensures { (tuple : List ℕ) → Fits (dims_at network.now f) tuple
             → cell (dims_at network.now f) tuple ≡ number
-            → result ≡ is_live_tuple network.now self.now.history f tuple }
-    {
-        self.all_live(network, f, number)
-            && network.entry(f, number) < network.ub()
-            && !self.is_cut(f, number)
-    }
-
-    /// Whether each value of the tuple of a function with a number is live.
-    fn all_live(&self, network: &Network, f: u32, number: u32) -> bool
-        requires same { network.now ≡ self.now.network }
-        requires number { IsCell network.now f number }
-        ensures { (tuple : List ℕ) → Fits (dims_at network.now f) tuple
-            → cell (dims_at network.now f) tuple ≡ number
-            → result ≡ all_live self.now.history (scope_at network.now f) tuple }
+            → result ≡ residual network.now self.now.history f tuple }
     {
         network.limits();
+        self.differences();
         let scope = network.scope(f);
+        let mut residual = original(network, f, number);
+        let mut slot = slots(network, scope);
         let mut front = number;
         for place in (0..scope.len()).rev() {
-            let x = scope[place];
-            let size = network.size(x);
-            if !self.is_live(x, front % size) {
-                return false;
-            }
+            let size = network.size(scope[place]);
+            slot -= size as usize;
+            residual -= self.shifted(f, slot + (front % size) as usize);
             front /= size;
         }
-        true
+        residual
     }
 
     /// Whether the tuple of a function with a number is cut.
-    fn is_cut(&self, f: u32, number: u32) -> bool
+    pub(crate) fn is_cut(&self, f: u32, number: u32) -> bool
         requires { IsCell self.now.network f number }
         ensures { result ≡ is_cut self.now.history f number }
     {
@@ -239,6 +239,7 @@ impl Ledger {
             return Err(AllocError);
         }
         let fresh = self.is_fresh(event);
+        self.costs.prepare(network, event)?;
         self.trail.push(Entry { event, fresh })?;
         self.costs.apply(network, event);
         Ok(())
@@ -265,5 +266,17 @@ impl Ledger {
         if let Some(entry) = self.trail.pop() {
             self.costs.revert(network, entry.event, entry.fresh);
         }
+    }
+}
+
+/// The residual cost of a tuple before any event: the entry of a function of arity 0 is in the floor.
+fn original(network: &Network, f: u32, cell: u32) -> i128
+    requires { IsCell network.now f cell }
+    ensures { result ≡ when (nat_lt 0 (arity network.now f)) (pos (slice_index (function_at network.now f).entries cell)) }
+{
+    if network.scope(f).is_empty() {
+        0
+    } else {
+        network.entry(f, cell) as i128
     }
 }

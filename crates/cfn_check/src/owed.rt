@@ -4,7 +4,7 @@ use crate::ledger::Mark;
 use cfn_model::Decision;
 
 /// Where the path stood at the split, and its decision.
-#[derive(Clone, Copy, Debug, PartialEq, Eq)]
+#[derive(Clone, Copy)]
 pub(crate) struct Owed {
     pub(crate) mark: Mark,
     pub(crate) decision: Decision,

@@ -7,7 +7,7 @@ ghost use Rattle.cfn_check.specs.Sides.{is_on, side_variable};
 use cfn_model::Decision;
 
 /// The values on one side of a decision: those that it keeps are the first side, the others the second.
-#[derive(Clone, Copy, Debug, PartialEq, Eq)]
+#[derive(Clone, Copy)]
 pub(crate) enum Side {
     First(Decision),
     Second(Decision),

@@ -1,4 +1,4 @@
-ghost use Rattle.std.specs.Prelude.{◌≡◌, IfOk};
+ghost use Rattle.std.specs.Prelude.{◌≡◌, ◌<◌, ◌≤◌, IfOk};
 
 use crate::{Check, Judged, Ledger, check};
 use cfn_certtext::{DecisionText, StepText};
@@ -397,6 +397,136 @@ fn undo_takes_a_bound_back(rt: HostRuntime) -> Result<(), Fail> {
     assert!(rt; !ledger.can_close(1));
     assert!(rt; ledger.refuse(&network, is(0, 0))?);
     assert!(rt; ledger.can_close(1));
+    Ok(())
+}
+
+/// Two variables of 2 values; x0 at 0 costs 5 with x1 at 0, and 2 with x1 at 1.
+fn pair(rt: &HostRuntime) -> Result<Network, Fail> {
+    let mut builder = Builder::make(rt.alloc(), b"pair", &[2, 2], 10)?;
+    builder.function(&[0, 1], 0, &[(&[0, 0], 5), (&[0, 1], 2)])?;
+    Ok(builder.finish()?)
+}
+
+/// On `pair` the project is not allowed before the tuple that costs 2 is cut, once or twice, and allowed behind it.
+fn cuts_and_projects(ledger: &mut Ledger, network: &Network) -> Result<bool, AllocError>
+    requires { network.now ≡ ledger.old.network }
+    ensures { ledger.new.network ≡ ledger.old.network }
+{
+    if ledger.judge(network, 2, project(0, 0, 0, 5))? != Judged::NotAllowed {
+        return Ok(false);
+    }
+    let steps = [cut_tuple(0, 1), cut_tuple(0, 1), project(0, 0, 0, 5)];
+    all_are(Judged::Done, ledger, network, 2, &steps)
+}
+
+#[test]
+fn a_cut_tuple_counts_no_more(rt: HostRuntime) -> Result<(), Fail> {
+    let network = pair(&rt)?;
+    let mut ledger = Ledger::make(rt.alloc(), &network)?;
+    let root = ledger.mark();
+    assert_eq!(rt;
+        ledger.judge(&network, 2, cut_tuple(0, 2))?,
+        Judged::NotAllowed
+    );
+    assert!(rt; cuts_and_projects(&mut ledger, &network)?);
+    assert!(rt; root.events <= ledger.mark().events);
+    ledger.undo(&network, root);
+    assert!(rt; cuts_and_projects(&mut ledger, &network)?);
+    Ok(())
+}
+
+#[test]
+fn shifts_at_both_places_add_up(rt: HostRuntime) -> Result<(), Fail> {
+    let network = pair(&rt)?;
+    let mut ledger = Ledger::make(rt.alloc(), &network)?;
+    let steps = [project(0, 0, 0, 2), extend(0, 0, 0, 1)];
+    assert!(rt; all_are(Judged::Done, &mut ledger, &network, 10, &steps)?);
+    assert_eq!(rt;
+        ledger.judge(&network, 10, project(0, 1, 0, 1))?,
+        Judged::NotAllowed
+    );
+    assert!(rt; ledger.take(&network, is(0, 0))?);
+    assert_eq!(rt;
+        ledger.judge(&network, 10, project(0, 1, 0, 5))?,
+        Judged::NotAllowed
+    );
+    let steps = [project(0, 1, 0, 4), project(0, 1, 1, 1)];
+    assert!(rt; all_are(Judged::Done, &mut ledger, &network, 10, &steps)?);
+    assert_eq!(rt;
+        ledger.judge(&network, 10, project(0, 0, 0, 1))?,
+        Judged::NotAllowed
+    );
+    assert_eq!(rt;
+        ledger.judge(&network, 1, cut_tuple(0, 0))?,
+        Judged::NotAllowed
+    );
+    assert_eq!(rt; ledger.judge(&network, 0, cut_tuple(0, 0))?, Judged::Done);
+    Ok(())
+}
+
+/// Three variables of 2, 1 and 2 values, and one function over them: it costs 4, but 1 where the first and the last
+/// are 1.
+fn narrow(rt: &HostRuntime) -> Result<Network, Fail> {
+    let mut builder = Builder::make(rt.alloc(), b"narrow", &[2, 1, 2], 10)?;
+    builder.function(&[0, 1, 2], 4, &[(&[1, 0, 1], 1)])?;
+    Ok(builder.finish()?)
+}
+
+#[test]
+fn live_tuples_alone_are_asked(rt: HostRuntime) -> Result<(), Fail> {
+    let network = narrow(&rt)?;
+    let mut ledger = Ledger::make(rt.alloc(), &network)?;
+    let root = ledger.mark();
+    let steps = [
+        project(0, 1, 0, 2),
+        project(0, 0, 1, 2),
+        project(0, 2, 1, 2),
+    ];
+    assert!(rt; all_are(Judged::NotAllowed, &mut ledger, &network, 9, &steps)?);
+    assert!(rt; ledger.refuse(&network, is(2, 1))?);
+    assert!(rt;
+        all_are(
+            Judged::Done,
+            &mut ledger,
+            &network,
+            9,
+            &[project(0, 1, 0, 4)]
+        )?
+    );
+    assert!(rt; root.events <= ledger.mark().events);
+    ledger.undo(&network, root);
+    assert!(rt; all_are(Judged::NotAllowed, &mut ledger, &network, 9, &steps)?);
+    assert!(rt; ledger.refuse(&network, is(1, 0))?);
+    assert!(rt; all_are(Judged::Done, &mut ledger, &network, 9, &steps)?);
+    Ok(())
+}
+
+/// So many variables of one value, and a function over all of them that costs 3.
+fn wide(rt: &HostRuntime, many: u32) -> Result<Network, Fail>
+    requires { (0 < many) × (many ≤ 1000000) }
+{
+    let sizes = vec![in rt.alloc(); 1; many as usize]?;
+    let mut scope = Vec::new(rt.alloc());
+    for x in 0..many {
+        scope.push(x)?;
+    }
+    let mut builder = Builder::make(rt.alloc(), b"wide", &sizes, 10)?;
+    builder.function(&scope, 3, &[])?;
+    Ok(builder.finish()?)
+}
+
+#[test]
+fn wide_scopes_are_walked(rt: HostRuntime) -> Result<(), Fail> {
+    let network = wide(&rt, 200000)?;
+    let mut ledger = Ledger::make(rt.alloc(), &network)?;
+    let steps = [project(0, 7, 0, 2), project(0, 199999, 0, 1)];
+    assert!(rt; all_are(Judged::Done, &mut ledger, &network, 9, &steps)?);
+    let steps = [
+        project(0, 9, 0, 1),
+        project(0, 199999, 0, 1),
+        cut_tuple(0, 0),
+    ];
+    assert!(rt; all_are(Judged::NotAllowed, &mut ledger, &network, 1, &steps)?);
     Ok(())
 }
 

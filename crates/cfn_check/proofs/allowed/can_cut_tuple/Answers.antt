@@ -7,7 +7,7 @@ use Rattle.cfn_check.proofs.allowed.can_cut_tuple.Goals as goal
 pub returns : goal.returns
 returns c =
     let P = c.args.network.now in
-    let clause = rw (← c.requires.same) at c.residual.ensures in
+    let clause = c.residual.ensures in
     let low = rw (← c.requires.same) at c.floor.ensures in (
       λ yes tuple fits is. (let r = clause tuple fits is in let h = c.reaches.ensures.0 yes in omega (arith, ints, r, h, low)),
       λ can. (let t = tuple_of-numbered (dims_at P c.args.f) c.args.number c.requires.number.cell in

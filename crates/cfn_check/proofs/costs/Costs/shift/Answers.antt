@@ -1,4 +1,4 @@
-use Rattle.std.proofs.Common.{◌≡◌, ◌<◌, ℕ, List, length, get_or, subst, ap, ◌∙◌, arith}
+use Rattle.std.proofs.Common.{◌≡◌, ◌<◌, ℕ, List, length, get_or, set, subst, ap, ◌∙◌, arith}
 use Rattle.std.proofs.Common.{to_z, of_z}
 use mir.Syntax.{w128}
 use Rattle.std.proofs.lemmas.Int.{to_z-of_z}
@@ -6,7 +6,6 @@ use Rattle.std.proofs.lemmas.List.{get_or_read}
 use Rattle.cfn_model.specs.Network.{variable_at}
 use Rattle.std.specs.Prelude.{◌==◌, pos, ◌+ℤ◌}
 use Rattle.cfn_model.specs.Sums.{when}
-use Rattle.cfn_check.specs.Columns.{in_column}
 use Rattle.cfn_check.specs.Values.{Gains}
 use Rattle.cfn_check.specs.Tables.{Values, Tuples, no_values, no_tuples}
 use Rattle.cfn_check.proofs.Shifted.{shifted}
@@ -23,8 +22,7 @@ returns-clause-moves c =
     let funs : c.args.f < length c.self.inside.functions.items = omega (arith, shape.functions, c.requires.place.function) in
     let v : c.index_mut.result.now ≡ get_or c.self.inside.domains.items x no_values = get_or_read c.self.inside.domains.items x c.index_mut.result.now vars c.index_mut.ensures.value no_values in
     let t : c.index_mut-2.result.now ≡ get_or c.self.inside.functions.items c.args.f no_tuples = get_or_read c.self.inside.functions.items c.args.f c.index_mut-2.result.now funs c.index_mut-2.ensures.value no_tuples in
-    let gain : to_z w128 (of_z w128 c.args.gain) ≡ c.args.gain = to_z-of_z w128 c.args.gain c.ranges.gain in
-    let loss : to_z w128 (of_z w128 c.args.loss) ≡ c.args.loss = to_z-of_z w128 c.args.loss c.ranges.loss in
-    let gains = subst (λ (w : Values). Gains (λ b. when (c.args.value == b) c.args.gain) w.costs c.add.new.self.costs) v (rw gain at c.add.ensures.costs) in
-    let losses = subst (λ (w : Tuples). (k : ℕ) → k < length w.costs → get_or c.shift.new.self.costs k (pos 0) ≡ (when (in_column c.of-column.result k) c.args.loss +ℤ get_or w.costs k (pos 0))) t (rw loss at c.shift.ensures.costs) in
-    rw (← c.self.view_is) (shifted P c.args.f c.args.place c.args.value x c.args.gain c.args.loss c.of-column.result _ c.add.new.self c.shift.new.self shape c.requires.place there at c.of-column.ensures gains (c.add.ensures.takers ∙ ap (λ w. w.takers) v) losses)
+    let amount : to_z w128 (of_z w128 c.args.amount) ≡ c.args.amount = to_z-of_z w128 c.args.amount c.ranges.amount in
+    let gains = subst (λ (w : Values). Gains (λ b. when (c.args.value == b) c.args.amount) w.costs c.add.new.self.costs) v (rw amount at c.add.ensures.costs) in
+    let sums = subst (λ (w : Tuples). c.add-2.new.self.sums ≡ set w.sums c.slot-slot.result (c.args.amount +ℤ get_or w.sums c.slot-slot.result (pos 0))) t (rw amount at c.add-2.ensures.sums) in
+    rw (← c.self.view_is) (shifted P c.args.f c.args.place c.args.value x c.slot-slot.result c.args.amount _ c.add.new.self c.add-2.new.self shape c.requires.place there at c.slot-slot.ensures.value (omega (arith, c.slot-slot.ensures.below, shape.sums c.args.f c.requires.place.function)) gains (c.add.ensures.takers ∙ ap (λ w. w.takers) v) sums)
