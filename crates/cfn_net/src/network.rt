@@ -59,6 +59,13 @@ impl Network {
         self.sizes[x as usize]
     }
 
+    /// The number of values of each variable.
+    pub fn sizes(&self) -> &[u32]
+        ensures { result.now ≡ self.now.sizes }
+    {
+        self.sizes.as_slice()
+    }
+
     /// The number of functions, at most 1,048,576.
     pub fn functions(&self) -> u32
         ensures { result ≡ length self.now.functions }
@@ -102,6 +109,14 @@ impl Network {
         ensures { result ≡ cells (dims_at self.now f) }
     {
         self.function(f).entries().len() as u32
+    }
+
+    /// The entries of a function, one at each cell, at most the upper bound each.
+    pub fn table(&self, f: u32) -> &[u64]
+        requires { f < length self.now.functions }
+        ensures { result.now ≡ (function_at self.now f).entries }
+    {
+        self.function(f).entries()
     }
 
     /// The entry of a function at a cell, at most the upper bound.
