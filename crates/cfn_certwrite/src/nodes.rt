@@ -9,7 +9,7 @@ ghost use Rattle.cfn_line.specs.declared.channel.Channel.TheVariants.{File};
 
 use cfn_desk::{Desk, Failed};
 use cfn_line::{Channel, Word, write_line};
-use cfn_proof::{Decision, End, Node, Step};
+use cfn_proof::{Block, Decision, End, Node, Step};
 
 /// Puts the lines of a node: a line for each step of its block, and the line of its end.
 pub fn put_node<D: Desk>(node: &Node, desk: &mut D) -> Result<(), Failed>
@@ -17,18 +17,18 @@ pub fn put_node<D: Desk>(node: &Node, desk: &mut D) -> Result<(), Failed>
     ensures { Appends File (D.outside desk.old)
         (text (node_lines node.now)) result (D.outside desk.new) }
 {
-    put_steps(node.block.steps(), desk)?;
+    put_steps(&node.block, desk)?;
     put_end(node.end, desk)
 }
 
-/// Puts a line for each step.
-fn put_steps<D: Desk>(steps: &[Step], desk: &mut D) -> Result<(), Failed>
+/// Puts a line for each step of a block.
+fn put_steps<D: Desk>(block: &Block, desk: &mut D) -> Result<(), Failed>
     requires { IsWriting (D.outside desk.old).calls }
     ensures { Appends File (D.outside desk.old)
-        (text (map step_words steps.now)) result (D.outside desk.new) }
+        (text (map step_words block.now)) result (D.outside desk.new) }
 {
-    for step in steps {
-        put_step(*step, desk)?;
+    for step in block.cursor() {
+        put_step(step, desk)?;
     }
     Ok(())
 }

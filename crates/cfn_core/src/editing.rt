@@ -73,9 +73,8 @@ fn joined(alloc: Global, block: &Block, more: &Block) -> Result<Block, AllocErro
     ensures { IfOk result (λ whole. whole ≡ block.now ++ more.now) }
 {
     let mut whole = block.copy(alloc)?;
-    let steps = more.steps();
-    for step in steps {
-        whole.push(*step)?;
+    for step in more.cursor() {
+        whole.push(step)?;
     }
     Ok(whole)
 }

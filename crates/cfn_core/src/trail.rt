@@ -11,9 +11,8 @@ pub(crate) fn block_path(path: Path, block: &Block) -> Result<Path, AllocError>
     ensures { IfOk result (λ longer. longer ≡ after block.now path) }
 {
     let mut longer = path;
-    let steps = block.steps();
-    for step in steps {
-        longer.push(Event::Did(*step))?;
+    for step in block.cursor() {
+        longer.push(Event::Did(step))?;
     }
     Ok(longer)
 }

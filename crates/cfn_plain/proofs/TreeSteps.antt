@@ -60,8 +60,8 @@ strict_at_leaf P history nodes i node linked there same other =
     (strict_at P history nodes i node node.end linked there same refl).0 (strict_leaf P history node.block node.end (tree_at nodes) other)
 
 -- the history of a side of a split, as the code makes it
-pub side_is : (event : Event) (block steps : List Step) (history behind lent items out : List Event) → out ≡ items → items ≡ event ∷ lent → lent ≡ behind → behind ≡ after steps history → steps ≡ block → out ≡ event ∷ after block history
-side_is event block steps history behind lent items out a b c d e = a ∙ b ∙ ap (λ h. event ∷ h) (c ∙ d ∙ ap (λ s. after s history) e)
+pub side_is : (event : Event) (block : List Step) (history behind lent items out : List Event) → out ≡ items → items ≡ event ∷ lent → lent ≡ behind → behind ≡ after block history → out ≡ event ∷ after block history
+side_is event block history behind lent items out a b c d = a ∙ b ∙ ap (λ h. event ∷ h) (c ∙ d)
 
 -- an answer that is the second where the first is yes, and else the first
 pub both_yes : {A B : Type 0} (answer one other : Bool) → one ≡ true → answer ≡ other → (IsTrue one ↔ A) → (IsTrue other ↔ B) → IsTrue answer ↔ (A × B)

@@ -10,6 +10,7 @@ use crate::sums::{floor, unary};
 use crate::tuples::{all_tuples_allow, reaches};
 use cfn_model::{Decision, Event, Step};
 use cfn_net::Network;
+use cfn_proof::Block;
 use std::alloc::{AllocError, Global};
 
 /// Whether a step is allowed after a history, the newest event first, at the threshold `k` (Cooper et al. 2010). An
@@ -71,17 +72,35 @@ pub fn runs(
     Ok(true)
 }
 
-/// The history after a list of steps, the first of them first: the newest event is first.
+/// Whether the steps of a block run after the history, the newest event first, at the threshold `k`. An `Err` is want
+/// of memory.
+pub(crate) fn block_runs(
+    alloc: Global,
+    network: &Network,
+    history: &[Event],
+    block: &Block,
+    k: u64,
+) -> Result<bool, AllocError>
+    ensures { IfOk result (λ answer. IsTrue answer ↔ Run network.now history.now block.now k) }
+{
+    let mut steps = Vec::new(alloc);
+    for step in block.cursor() {
+        steps.push(step)?;
+    }
+    runs(alloc, network, history, steps.as_slice(), k)
+}
+
+/// The history after the steps of a block: the newest event is first. An `Err` is want of memory.
 pub(crate) fn after(
     alloc: Global,
-    steps: &[Step],
+    block: &Block,
     history: &[Event],
 ) -> Result<Vec<Event>, AllocError>
-    ensures { IfOk result (λ events. events.items ≡ after steps.now history.now) }
+    ensures { IfOk result (λ events. events.items ≡ after block.now history.now) }
 {
     let mut events = Vec::from_slice(alloc, history)?;
-    for step in steps {
-        events.insert(0, Event::Did(*step))?;
+    for step in block.cursor() {
+        events.insert(0, Event::Did(step))?;
     }
     Ok(events)
 }

@@ -6,7 +6,7 @@ ghost use Rattle.cfn_model.specs.Tree.{Valid, Strict, bound};
 ghost use Rattle.cfn_proof.specs.Nodes.{tree_at, tree_of};
 
 use crate::closing::{can_close, is_strict_split};
-use crate::steps::{after, is_decision, runs};
+use crate::steps::{after, block_runs, is_decision};
 use crate::sums::floor;
 use cfn_model::{Decision, Event};
 use cfn_net::Network;
@@ -52,11 +52,10 @@ fn valid_from(
 {
     tree.linked();
     let node = tree.node(id);
-    let steps = node.block.steps();
-    if !runs(alloc, network, history, steps, k)? {
+    if !block_runs(alloc, network, history, &node.block, k)? {
         return Ok(false);
     }
-    let behind = after(alloc, steps, history)?;
+    let behind = after(alloc, &node.block, history)?;
     match node.end {
         End::Free => Ok(true),
         End::Shut => Ok(can_close(network, behind.as_slice(), k)),
@@ -99,7 +98,7 @@ fn strict_from(
     else {
         return Ok(true);
     };
-    let behind = after(alloc, node.block.steps(), history)?;
+    let behind = after(alloc, &node.block, history)?;
     if !is_strict_split(network, behind.as_slice(), decision) {
         return Ok(false);
     }
@@ -125,7 +124,7 @@ fn bound_from(
 {
     tree.linked();
     let node = tree.node(id);
-    let behind = after(alloc, node.block.steps(), history)?;
+    let behind = after(alloc, &node.block, history)?;
     match node.end {
         End::Free => Ok(floor(network, behind.as_slice()).min(k as u128) as u64),
         End::Shut => Ok(k),

@@ -13,7 +13,7 @@ use Rattle.cfn_proof.specs.declared.tree.NodeId.{NodeId}
 use Rattle.cfn_proof.specs.declared.tree.End.{End}
 use Rattle.cfn_proof.specs.declared.tree.End.TheVariants.{Free, Shut, Split}
 use Rattle.cfn_proof.specs.declared.tree.Node.{Node}
-use Rattle.cfn_proof.specs.Nodes.{node_at, names_child, open_node, IsLinked, IsFamily, IsFree, Before, at_root, at_first, at_second, split_at, split_end, close_at}
+use Rattle.cfn_proof.specs.Nodes.{node_at, names_child, open_node, IsLinked, IsFamily, IsFree, Before, at_root, at_first, at_second, split_at, split_behind_at, split_end, close_at}
 
 -- only the node i, an open leaf, has changed, and open leaves stand behind the nodes that were there
 pub record Changed (nodes new : List Node) (i : ℕ) : Type 0 where
@@ -109,37 +109,54 @@ before_new nodes new i j history linked changed (at_second parent d first second
       ]
     ]
 
--- the nodes after a split
-module _ (nodes : List Node) (i : ℕ) (d : Decision) (there : i < length nodes) where
+-- the nodes after a split behind a block
+module _ (nodes : List Node) (i : ℕ) (block : List Step) (d : Decision) (there : i < length nodes) where
   kept : List Node
-  kept = set nodes i (record (node_at nodes i) { end = split_end d (length nodes) })
+  kept = set nodes i (record (node_at nodes i) { block = block; end = split_end d (length nodes) })
 
   length-kept : length kept ≡ length nodes
   unfolding kept
   length-kept = length-set nodes i _
 
-  pub length-split_at : length (split_at nodes i d) ≡ length nodes + 2
+  pub length-split_behind_at : length (split_behind_at nodes i block d) ≡ length nodes + 2
   unfolding kept
-  length-split_at = length-append kept _ ∙ omega (arith, length-kept)
+  length-split_behind_at = length-append kept _ ∙ omega (arith, length-kept)
 
-  pub split_at-same : node_at (split_at nodes i d) i ≡ record (node_at nodes i) { end = split_end d (length nodes) }
+  pub split_behind_at-same : node_at (split_behind_at nodes i block d) i ≡ record (node_at nodes i) { block = block; end = split_end d (length nodes) }
   unfolding kept
-  split_at-same = get_or_append_left kept _ _ i (omega (arith, length-kept)) ∙ get_or-set_same nodes i _ _ there
+  split_behind_at-same = get_or_append_left kept _ _ i (omega (arith, length-kept)) ∙ get_or-set_same nodes i _ _ there
 
-  pub split_at-other : (j : ℕ) → j < length nodes → j ≢ i → node_at (split_at nodes i d) j ≡ node_at nodes j
+  pub split_behind_at-other : (j : ℕ) → j < length nodes → j ≢ i → node_at (split_behind_at nodes i block d) j ≡ node_at nodes j
   unfolding kept
-  split_at-other j h other = get_or_append_left kept _ _ j (omega (arith, length-kept)) ∙ get_or-set_other nodes i j _ _ other
+  split_behind_at-other j h other = get_or_append_left kept _ _ j (omega (arith, length-kept)) ∙ get_or-set_other nodes i j _ _ other
 
   -- the nodes behind those that were there
-  pub split_at-behind : (j : ℕ) → length nodes ≤ j → node_at (split_at nodes i d) j ≡ node_at (open_node (Some (record { number = i })) ∷ open_node (Some (record { number = i })) ∷ []) (j - length nodes)
+  pub split_behind_at-behind : (j : ℕ) → length nodes ≤ j → node_at (split_behind_at nodes i block d) j ≡ node_at (open_node (Some (record { number = i })) ∷ open_node (Some (record { number = i })) ∷ []) (j - length nodes)
   unfolding kept
-  split_at-behind j h = get_or-append_right kept _ (length nodes) j _ length-kept h
+  split_behind_at-behind j h = get_or-append_right kept _ (length nodes) j _ length-kept h
+
+  pub split_behind_at-first : node_at (split_behind_at nodes i block d) (length nodes) ≡ open_node (Some (record { number = i }))
+  split_behind_at-first = let e : length nodes - length nodes ≡ 0 = omega arith in split_behind_at-behind (length nodes) (omega arith) ∙ rw e refl
+
+  pub split_behind_at-second : node_at (split_behind_at nodes i block d) (length nodes + 1) ≡ open_node (Some (record { number = i }))
+  split_behind_at-second = let e : length nodes + 1 - length nodes ≡ 1 = omega arith in split_behind_at-behind (length nodes + 1) (omega arith) ∙ rw e refl
+
+-- the nodes after a split behind the leaf's own block
+module _ (nodes : List Node) (i : ℕ) (d : Decision) (there : i < length nodes) where
+  pub length-split_at : length (split_at nodes i d) ≡ length nodes + 2
+  length-split_at = length-split_behind_at nodes i (node_at nodes i).block d there
+
+  pub split_at-same : node_at (split_at nodes i d) i ≡ record (node_at nodes i) { end = split_end d (length nodes) }
+  split_at-same = split_behind_at-same nodes i (node_at nodes i).block d there
+
+  pub split_at-other : (j : ℕ) → j < length nodes → j ≢ i → node_at (split_at nodes i d) j ≡ node_at nodes j
+  split_at-other = split_behind_at-other nodes i (node_at nodes i).block d there
 
   pub split_at-first : node_at (split_at nodes i d) (length nodes) ≡ open_node (Some (record { number = i }))
-  split_at-first = let e : length nodes - length nodes ≡ 0 = omega arith in split_at-behind (length nodes) (omega arith) ∙ rw e refl
+  split_at-first = split_behind_at-first nodes i (node_at nodes i).block d there
 
   pub split_at-second : node_at (split_at nodes i d) (length nodes + 1) ≡ open_node (Some (record { number = i }))
-  split_at-second = let e : length nodes + 1 - length nodes ≡ 1 = omega arith in split_at-behind (length nodes + 1) (omega arith) ∙ rw e refl
+  split_at-second = split_behind_at-second nodes i (node_at nodes i).block d there
 
 two_free : (o : Node) → o.end ≡ Free → (m : ℕ) → (node_at (o ∷ o ∷ []) m).end ≡ Free
 two_free o h zero = h
@@ -149,15 +166,15 @@ two_free o h (suc (suc m)) = refl
 pub split_numbers : {d c : Decision} {n : ℕ} {first second : NodeId} → split_end d n ≡ Split c first second → (c ≡ d) × (first.number ≡ n) × (second.number ≡ n + 1)
 split_numbers e = ((cc), (cc), (cc))
 
-pub changed_by_split : (nodes : List Node) (i : ℕ) (d : Decision) → i < length nodes → IsFree nodes i → Changed nodes (split_at nodes i d) i
-changed_by_split nodes i d there free = record {
+pub changed_by_split : (nodes : List Node) (i : ℕ) (block : List Step) (d : Decision) → i < length nodes → IsFree nodes i → Changed nodes (split_behind_at nodes i block d) i
+changed_by_split nodes i block d there free = record {
   there = there;
   free = free;
-  no_fewer = omega (arith, length-split_at nodes i d there);
-  others = λ j h other. split_at-other nodes i d there j h other;
-  fresh = λ j late. ap (λ (n : Node). n.end) (split_at-behind nodes i d there j late) ∙ two_free _ refl (j - length nodes);
+  no_fewer = omega (arith, length-split_behind_at nodes i block d there);
+  others = λ j h other. split_behind_at-other nodes i block d there j h other;
+  fresh = λ j late. ap (λ (n : Node). n.end) (split_behind_at-behind nodes i block d there j late) ∙ two_free _ refl (j - length nodes);
   children_fresh = λ c first second is.
-      let n = split_numbers (ap (λ (n : Node). n.end) (sym (split_at-same nodes i d there)) ∙ is) in
+      let n = split_numbers (ap (λ (n : Node). n.end) (sym (split_behind_at-same nodes i block d there)) ∙ is) in
       (omega (arith, n.1), omega (arith, n.2));
 }
 
@@ -203,26 +220,26 @@ module _ (nodes new : List Node) (i : ℕ) (linked : IsLinked nodes) (changed : 
 some_number : {i : ℕ} {parent : NodeId} → Some (record { number = i }) ≡ Some parent → parent.number ≡ i
 some_number e = (cc)
 
-pub linked_by_split : (nodes : List Node) (i : ℕ) (d : Decision) → IsLinked nodes → i < length nodes → IsFree nodes i → length nodes + 2 ≤ 2 ^ 32 → IsLinked (split_at nodes i d)
-linked_by_split nodes i d linked there free room =
-    let changed = changed_by_split nodes i d there free in
-    let same = split_at-same nodes i d there in
-    let len = length-split_at nodes i d there in
-    let kept : (node_at (split_at nodes i d) i).parent ≡ (node_at nodes i).parent = ap (λ (n : Node). n.parent) same in
+pub linked_by_split : (nodes : List Node) (i : ℕ) (block : List Step) (d : Decision) → IsLinked nodes → i < length nodes → IsFree nodes i → length nodes + 2 ≤ 2 ^ 32 → IsLinked (split_behind_at nodes i block d)
+linked_by_split nodes i block d linked there free room =
+    let changed = changed_by_split nodes i block d there free in
+    let same = split_behind_at-same nodes i block d there in
+    let len = length-split_behind_at nodes i block d there in
+    let kept : (node_at (split_behind_at nodes i block d) i).parent ≡ (node_at nodes i).parent = ap (λ (n : Node). n.parent) same in
     record {
       some = omega (arith, len, linked.some);
       few = omega (arith, len, room);
-      root = parents_kept nodes (split_at nodes i d) i linked changed kept 0 linked.some ∙ linked.root;
+      root = parents_kept nodes (split_behind_at nodes i block d) i linked changed kept 0 linked.some ∙ linked.root;
       only_root = λ j h none. elim (cases_lt j (length nodes)) [
-        | inl old ↦ linked.only_root j old (sym (parents_kept nodes (split_at nodes i d) i linked changed kept j old) ∙ none)
+        | inl old ↦ linked.only_root j old (sym (parents_kept nodes (split_behind_at nodes i block d) i linked changed kept j old) ∙ none)
         | inr late ↦ absurd (elim (cases_eq j (length nodes)) [
-          | inl first ↦ (let e : Some (record { number = i }) ≡ None = ap (λ (n : Node). n.parent) (sym (split_at-first nodes i d there)) ∙ subst (λ m. (node_at (split_at nodes i d) m).parent ≡ None) first none in cc)
-          | inr other ↦ (let second : j ≡ length nodes + 1 = omega (arith, len) in let e : Some (record { number = i }) ≡ None = ap (λ (n : Node). n.parent) (sym (split_at-second nodes i d there)) ∙ subst (λ m. (node_at (split_at nodes i d) m).parent ≡ None) second none in cc)
+          | inl first ↦ (let e : Some (record { number = i }) ≡ None = ap (λ (n : Node). n.parent) (sym (split_behind_at-first nodes i block d there)) ∙ subst (λ m. (node_at (split_behind_at nodes i block d) m).parent ≡ None) first none in cc)
+          | inr other ↦ (let second : j ≡ length nodes + 1 = omega (arith, len) in let e : Some (record { number = i }) ≡ None = ap (λ (n : Node). n.parent) (sym (split_behind_at-second nodes i block d there)) ∙ subst (λ m. (node_at (split_behind_at nodes i block d) m).parent ≡ None) second none in cc)
         ])
       ];
       children = λ j c first second h is. elim (cases_eq j i) [
         | inl at_leaf ↦
-            (let n = split_numbers (ap (λ (n : Node). n.end) (sym same) ∙ subst (λ m. (node_at (split_at nodes i d) m).end ≡ Split c first second) at_leaf is) in
+            (let n = split_numbers (ap (λ (n : Node). n.end) (sym same) ∙ subst (λ m. (node_at (split_behind_at nodes i block d) m).end ≡ Split c first second) at_leaf is) in
             let e1 : first.number ≡ length nodes = n.1 in
             let e2 : second.number ≡ length nodes + 1 = n.2 in
             record {
@@ -231,26 +248,26 @@ linked_by_split nodes i d linked there free room =
               second_behind = omega arith;
               second_there = omega (arith, len);
               different = λ d. omega arith;
-              first_knows = ap (λ m. (node_at (split_at nodes i d) m).parent) e1 ∙ ap (λ (n : Node). n.parent) (split_at-first nodes i d there) ∙ ap (λ m. Some (record { number = m })) (sym at_leaf);
-              second_knows = ap (λ m. (node_at (split_at nodes i d) m).parent) e2 ∙ ap (λ (n : Node). n.parent) (split_at-second nodes i d there) ∙ ap (λ m. Some (record { number = m })) (sym at_leaf);
+              first_knows = ap (λ m. (node_at (split_behind_at nodes i block d) m).parent) e1 ∙ ap (λ (n : Node). n.parent) (split_behind_at-first nodes i block d there) ∙ ap (λ m. Some (record { number = m })) (sym at_leaf);
+              second_knows = ap (λ m. (node_at (split_behind_at nodes i block d) m).parent) e2 ∙ ap (λ (n : Node). n.parent) (split_behind_at-second nodes i block d there) ∙ ap (λ m. Some (record { number = m })) (sym at_leaf);
             })
         | inr other ↦ elim (cases_lt j (length nodes)) [
-          | inl old ↦ family_kept nodes (split_at nodes i d) i linked changed kept j c first second old other is
+          | inl old ↦ family_kept nodes (split_behind_at nodes i block d) i linked changed kept j c first second old other is
           | inr late ↦ absurd (not_free (changed.fresh j late) is)
         ]
       ];
       parents = λ j parent h is. elim (cases_lt j (length nodes)) [
-        | inl old ↦ named_kept nodes (split_at nodes i d) i linked changed kept j parent old is
+        | inl old ↦ named_kept nodes (split_behind_at nodes i block d) i linked changed kept j parent old is
         | inr late ↦ elim (cases_eq j (length nodes)) [
           | inl first ↦
-              (let e : parent.number ≡ i = some_number (ap (λ (n : Node). n.parent) (sym (split_at-first nodes i d there)) ∙ subst (λ m. (node_at (split_at nodes i d) m).parent ≡ Some parent) first is) in
-              let named : IsTrue (names_child (node_at (split_at nodes i d) i).end (length nodes)) = subst (λ (n : Node). IsTrue (names_child n.end (length nodes))) (sym same) (names_first d (length nodes)) in
-              (omega arith, subst (λ p. IsTrue (names_child (node_at (split_at nodes i d) p).end j)) (sym e) (subst (λ m. IsTrue (names_child (node_at (split_at nodes i d) i).end m)) (sym first) named)))
+              (let e : parent.number ≡ i = some_number (ap (λ (n : Node). n.parent) (sym (split_behind_at-first nodes i block d there)) ∙ subst (λ m. (node_at (split_behind_at nodes i block d) m).parent ≡ Some parent) first is) in
+              let named : IsTrue (names_child (node_at (split_behind_at nodes i block d) i).end (length nodes)) = subst (λ (n : Node). IsTrue (names_child n.end (length nodes))) (sym same) (names_first d (length nodes)) in
+              (omega arith, subst (λ p. IsTrue (names_child (node_at (split_behind_at nodes i block d) p).end j)) (sym e) (subst (λ m. IsTrue (names_child (node_at (split_behind_at nodes i block d) i).end m)) (sym first) named)))
           | inr other ↦
               (let second : j ≡ length nodes + 1 = omega (arith, len) in
-              let e : parent.number ≡ i = some_number (ap (λ (n : Node). n.parent) (sym (split_at-second nodes i d there)) ∙ subst (λ m. (node_at (split_at nodes i d) m).parent ≡ Some parent) second is) in
-              let named : IsTrue (names_child (node_at (split_at nodes i d) i).end (length nodes + 1)) = subst (λ (n : Node). IsTrue (names_child n.end (length nodes + 1))) (sym same) (names_second d (length nodes)) in
-              (omega arith, subst (λ p. IsTrue (names_child (node_at (split_at nodes i d) p).end j)) (sym e) (subst (λ m. IsTrue (names_child (node_at (split_at nodes i d) i).end m)) (sym second) named)))
+              let e : parent.number ≡ i = some_number (ap (λ (n : Node). n.parent) (sym (split_behind_at-second nodes i block d there)) ∙ subst (λ m. (node_at (split_behind_at nodes i block d) m).parent ≡ Some parent) second is) in
+              let named : IsTrue (names_child (node_at (split_behind_at nodes i block d) i).end (length nodes + 1)) = subst (λ (n : Node). IsTrue (names_child n.end (length nodes + 1))) (sym same) (names_second d (length nodes)) in
+              (omega arith, subst (λ p. IsTrue (names_child (node_at (split_behind_at nodes i block d) p).end j)) (sym e) (subst (λ m. IsTrue (names_child (node_at (split_behind_at nodes i block d) i).end m)) (sym second) named)))
         ]
       ];
     }

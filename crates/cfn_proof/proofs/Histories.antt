@@ -13,10 +13,10 @@ use Rattle.cfn_proof.specs.declared.tree.NodeId.{NodeId}
 use Rattle.cfn_proof.specs.declared.tree.End.{End}
 use Rattle.cfn_proof.specs.declared.tree.End.TheVariants.{Free, Shut, Split}
 use Rattle.cfn_proof.specs.declared.tree.Node.{Node}
-use Rattle.cfn_proof.specs.Nodes.{node_at, names_child, tree_at, tree_of, with_children, IsLinked, IsFree, Before, at_root, at_first, at_second, split_at, split_end, close_at}
-use Rattle.cfn_proof.specs.Local.{BeforeSplitLaw, BeforeCloseLaw, BeforeOnceLaw, BeforeSomeLaw, CountSplitLaw, CountCloseLaw, SplitsSplitLaw, SplitsCloseLaw}
+use Rattle.cfn_proof.specs.Nodes.{node_at, names_child, tree_at, tree_of, with_children, IsLinked, IsFree, Before, at_root, at_first, at_second, split_behind_at, split_end, close_at}
+use Rattle.cfn_proof.specs.Local.{BeforeSplitLaw, BeforeSplitBehindLaw, BeforeCloseLaw, BeforeOnceLaw, BeforeSomeLaw, CountSplitLaw, CountSplitBehindLaw, CountCloseLaw, SplitsSplitLaw, SplitsSplitBehindLaw, SplitsCloseLaw}
 use Rattle.cfn_proof.proofs.TreeLemmas.{tree_at_is, from_last}
-use Rattle.cfn_proof.proofs.Growth.{Changed, before_old, before_new, changed_by_split, changed_by_close, split_numbers, split_at-same, split_at-first, split_at-second, length-split_at, close_at-same, length-close_at, linked_by_split, linked_by_close}
+use Rattle.cfn_proof.proofs.Growth.{Changed, before_old, before_new, changed_by_split, changed_by_close, split_numbers, split_behind_at-same, split_behind_at-first, split_behind_at-second, length-split_behind_at, close_at-same, length-close_at, linked_by_split, linked_by_close}
 
 -- the kinds of what stands before a node, by the node's parent
 pub record Side (nodes : List Node) (i : ℕ) (history : List Event) : Type 0 where
@@ -82,29 +82,32 @@ before_once nodes i history other linked (at_second parent d first second above 
           ])
     ]
 
--- the leaf that was split keeps its block
-kept_block : (nodes : List Node) (i : ℕ) (d : Decision) → i < length nodes → (node_at (split_at nodes i d) i).block ≡ (node_at nodes i).block
-kept_block nodes i d there = ap (λ (n : Node). n.block) (split_at-same nodes i d there)
+-- the leaf that was split has the block
+put_block : (nodes : List Node) (i : ℕ) (block : List Step) (d : Decision) → i < length nodes → (node_at (split_behind_at nodes i block d) i).block ≡ block
+put_block nodes i block d there = ap (λ (n : Node). n.block) (split_behind_at-same nodes i block d there)
 
-pub before_split : BeforeSplitLaw
-before_split nodes i d j history linked there free before =
-    let changed = changed_by_split nodes i d there free in (
-      λ old. before_old nodes (split_at nodes i d) i j history linked changed before old,
+pub before_split_behind : BeforeSplitBehindLaw
+before_split_behind nodes i block d j history linked there free before =
+    let changed = changed_by_split nodes i block d there free in (
+      λ old. before_old nodes (split_behind_at nodes i block d) i j history linked changed before old,
       λ first.
-          let new = before_new nodes (split_at nodes i d) i j history linked changed before (omega (arith, first)) in
-          let n = split_numbers (ap (λ (n : Node). n.end) (sym (split_at-same nodes i d there)) ∙ new.is) in
+          let new = before_new nodes (split_behind_at nodes i block d) i j history linked changed before (omega (arith, first)) in
+          let n = split_numbers (ap (λ (n : Node). n.end) (sym (split_behind_at-same nodes i block d there)) ∙ new.is) in
           elim new.side [
-            | inl left ↦ record { above = new.above; before = new.before; is = left.1 ∙ ap (λ c. Took c ∷ after (node_at (split_at nodes i d) i).block new.above) n.0 ∙ ap (λ b. Took d ∷ after b new.above) (kept_block nodes i d there) }
+            | inl left ↦ record { above = new.above; before = new.before; is = left.1 ∙ ap (λ c. Took c ∷ after (node_at (split_behind_at nodes i block d) i).block new.above) n.0 ∙ ap (λ b. Took d ∷ after b new.above) (put_block nodes i block d there) }
             | inr right ↦ absurd (omega (arith, right.0, n.2, first))
           ],
       λ second.
-          let new = before_new nodes (split_at nodes i d) i j history linked changed before (omega (arith, second)) in
-          let n = split_numbers (ap (λ (n : Node). n.end) (sym (split_at-same nodes i d there)) ∙ new.is) in
+          let new = before_new nodes (split_behind_at nodes i block d) i j history linked changed before (omega (arith, second)) in
+          let n = split_numbers (ap (λ (n : Node). n.end) (sym (split_behind_at-same nodes i block d there)) ∙ new.is) in
           elim new.side [
             | inl left ↦ absurd (omega (arith, left.0, n.1, second))
-            | inr right ↦ record { above = new.above; before = new.before; is = right.1 ∙ ap (λ c. Refused c ∷ after (node_at (split_at nodes i d) i).block new.above) n.0 ∙ ap (λ b. Refused d ∷ after b new.above) (kept_block nodes i d there) }
+            | inr right ↦ record { above = new.above; before = new.before; is = right.1 ∙ ap (λ c. Refused c ∷ after (node_at (split_behind_at nodes i block d) i).block new.above) n.0 ∙ ap (λ b. Refused d ∷ after b new.above) (put_block nodes i block d there) }
           ],
     )
+
+pub before_split : BeforeSplitLaw
+before_split nodes i d = before_split_behind nodes i (node_at nodes i).block d
 
 -- a node that something stands before is there
 pub before_there : (nodes : List Node) (i : ℕ) (history : List Event) → IsLinked nodes → Before nodes i history → i < length nodes
@@ -243,16 +246,16 @@ unfolding IsEnd
 itself history = ([], refl)
 
 -- a split of an open leaf adds one
-split_gains : (measure : trees.Tree → ℕ) → AddsOverSplits measure → ((block : List Step) → measure (trees.Open block) ≡ 0) → (nodes : List Node) (i : ℕ) (d : Decision) → IsLinked nodes → i < length nodes → IsFree nodes i → length nodes + 2 ≤ 2 ^ 32 → ((history : List Event) × Before nodes i history) → measure (tree_of (split_at nodes i d)) ≡ measure (tree_of nodes) + 1
-split_gains measure adds none nodes i d linked there free room some =
-    let new = split_at nodes i d in
-    let changed = changed_by_split nodes i d there free in
-    let linked_new = linked_by_split nodes i d linked there free room in
-    let len = length-split_at nodes i d there in
-    let is : (node_at new i).end ≡ split_end d (length nodes) = ap (λ (n : Node). n.end) (split_at-same nodes i d there) in
+split_gains : (measure : trees.Tree → ℕ) → AddsOverSplits measure → ((block : List Step) → measure (trees.Open block) ≡ 0) → (nodes : List Node) (i : ℕ) (block : List Step) (d : Decision) → IsLinked nodes → i < length nodes → IsFree nodes i → length nodes + 2 ≤ 2 ^ 32 → ((history : List Event) × Before nodes i history) → measure (tree_of (split_behind_at nodes i block d)) ≡ measure (tree_of nodes) + 1
+split_gains measure adds none nodes i block d linked there free room some =
+    let new = split_behind_at nodes i block d in
+    let changed = changed_by_split nodes i block d there free in
+    let linked_new = linked_by_split nodes i block d linked there free room in
+    let len = length-split_behind_at nodes i block d there in
+    let is : (node_at new i).end ≡ split_end d (length nodes) = ap (λ (n : Node). n.end) (split_behind_at-same nodes i block d there) in
     let tree = ap measure (tree_at_is new i linked_new (omega (arith, len)) ∙ ap (λ e. with_children (node_at new i).block e (tree_at new)) is) ∙ adds (node_at new i).block d (tree_at new (length nodes)) (tree_at new (length nodes + 1)) in
-    let left = leaf_measure measure none new (length nodes) linked_new (omega (arith, len)) (ap (λ (n : Node). n.end) (split_at-first nodes i d there)) in
-    let right = leaf_measure measure none new (length nodes + 1) linked_new (omega (arith, len)) (ap (λ (n : Node). n.end) (split_at-second nodes i d there)) in
+    let left = leaf_measure measure none new (length nodes) linked_new (omega (arith, len)) (ap (λ (n : Node). n.end) (split_behind_at-first nodes i block d there)) in
+    let right = leaf_measure measure none new (length nodes + 1) linked_new (omega (arith, len)) (ap (λ (n : Node). n.end) (split_behind_at-second nodes i block d there)) in
     gained nodes new i some.0 linked linked_new changed some.1 measure adds 1 i some.0 some.1 (itself some.0)
     (omega (arith, tree, left, right, leaf_measure measure none nodes i linked there free))
 
@@ -274,14 +277,20 @@ count_adds block d first second = refl
 splits_adds : AddsOverSplits splits
 splits_adds block d first second = refl
 
+pub count_split_behind : CountSplitBehindLaw
+count_split_behind = split_gains count count_adds (λ block. refl)
+
 pub count_split : CountSplitLaw
-count_split = split_gains count count_adds (λ block. refl)
+count_split nodes i d = count_split_behind nodes i (node_at nodes i).block d
 
 pub count_close : CountCloseLaw
 count_close = close_gains count count_adds (λ block. refl) 1 (λ block. refl)
 
+pub splits_split_behind : SplitsSplitBehindLaw
+splits_split_behind = split_gains splits splits_adds (λ block. refl)
+
 pub splits_split : SplitsSplitLaw
-splits_split = split_gains splits splits_adds (λ block. refl)
+splits_split nodes i d = splits_split_behind nodes i (node_at nodes i).block d
 
 pub splits_close : SplitsCloseLaw
 splits_close nodes i block linked there free some =

@@ -2,6 +2,8 @@ pub mod TreeLemmas
 pub mod Growth
 pub mod Histories
 pub mod WholeTree
+pub mod Kept
+pub mod Packed
 pub mod Written
 pub mod Rows
 pub mod CallerLemmas

@@ -1,10 +1,8 @@
 -- The laws that lead from the nodes of a tree to the whole tree.
 use Rattle.std.proofs.Common.{◌≡◌, ℕ, ◌<◌, ◌≤◌, List, [], ◌∷◌, length, refl, sym, ap, ◌∙◌, subst, arith}
 use Rattle.cfn_model.specs.declared.step.Decision.{Decision}
-use Rattle.cfn_model.specs.declared.step.Decision.TheVariants.{Is, Most}
 use Rattle.cfn_model.specs.declared.step.Event.{Event}
 use Rattle.cfn_model.specs.declared.step.Event.TheVariants.{Took, Refused}
-use Rattle.cfn_model.specs.declared.version.Version.TheVariants.{Second}
 use Rattle.cfn_model.specs.Network.{Network}
 use Rattle.cfn_model.specs.Sums.{floor}
 use Rattle.cfn_model.specs.Steps.{after}

@@ -1,16 +1,17 @@
 -- What the code of a tree's methods leaves in its list of nodes.
-use Rattle.std.proofs.Common.{◌≡◌, ℕ, zero, suc, ◌+◌, ◌-◌, ◌<◌, ◌≤◌, ◌^◌, inl, inr, List, [], ◌∷◌, ◌++◌, length, get_or, set, Some, None, refl, sym, ap, ◌∙◌, subst, arith, append_assoc}
+use Rattle.std.proofs.Common.{◌≡◌, ℕ, zero, suc, ◌+◌, ◌-◌, ◌<◌, ◌≤◌, ◌^◌, inl, inr, List, [], ◌∷◌, ◌++◌, length, get_or, set, Some, None, refl, sym, ap, ◌∙◌, subst, arith}
 use Rattle.std.proofs.lemmas.List.{get_or_read}
 use Rattle.cfn_model.specs.declared.step.Step.{Step}
 use Rattle.cfn_model.specs.declared.step.Decision.{Decision}
+use Rattle.cfn_proof.specs.declared.tree.End.{End}
 use Rattle.cfn_proof.specs.declared.tree.End.TheVariants.{Free, Shut, Split}
 use Rattle.cfn_proof.specs.declared.tree.NodeId.{NodeId}
 use Rattle.cfn_proof.specs.declared.tree.Node.{Node}
 use Rattle.std.specs.List.{AllByRecursion}
 use Rattle.std.proofs.lemmas.Bool.{cases_eq, cases_lt}
 use Rattle.cfn_model.specs.Text.{IsSpelledStep, IsSpelledDecision}
-use Rattle.cfn_proof.specs.Nodes.{IsFree, IsLinked, IsTree, IsSpelledEnd, node_at, open_node, split_at, split_end, close_at}
-use Rattle.cfn_proof.proofs.Growth.{Changed, changed_by_split, changed_by_close, linked_by_split, linked_by_close, split_at-same, split_at-behind, close_at-same, length-close_at}
+use Rattle.cfn_proof.specs.Nodes.{IsFree, IsLinked, IsTree, IsSpelledEnd, node_at, open_node, split_at, split_behind_at, split_end, close_at}
+use Rattle.cfn_proof.proofs.Growth.{Changed, changed_by_split, changed_by_close, linked_by_split, linked_by_close, split_behind_at-same, split_behind_at-behind, close_at-same, length-close_at}
 
 -- a node that was read, with another block and end
 read_is : (inside : List Node) (i : ℕ) (read : Node) → i < length inside → read ≡ get_or inside i read → read ≡ node_at inside i
@@ -27,16 +28,26 @@ shut_is inside now i read same there value =
     let there' : i < length inside = omega (arith, ap length same) in
     closed_is inside now i read read.block same there value ∙ ap (λ (n : Node). close_at now i n.block) (read_is inside i read there' value) ∙ ap (λ m. close_at now i (node_at m i).block) same
 
-pub split_is : (inside now one two : List Node) (i : ℕ) (d : Decision) (n : ℕ) (read o p : Node) → inside ≡ now → i < length now → read ≡ get_or inside i read → n ≡ length now → o ≡ open_node (Some (record { number = i })) → p ≡ open_node (Some (record { number = i })) → one ≡ set inside i (record { parent = read.parent; block = read.block; end = Split d (record { number = n }) (record { number = n + 1 }) }) ++ o ∷ [] → two ≡ one ++ p ∷ [] → two ≡ split_at now i d
-split_is inside now one two i d n read o p same there value len is_o is_p is_one is_two =
+-- the end that the code makes
+end_is : (d : Decision) (n : ℕ) (one two : NodeId) → one.number ≡ n → two.number ≡ n + 1 → Split d one two ≡ split_end d n
+end_is d n one two first second =
+    ap (λ k. Split d (record { number = k }) two) first ∙ ap (λ k. Split d (record { number = n }) (record { number = k })) second
+
+pub split_behind_is : (inside now new : List Node) (i : ℕ) (block : List Step) (d : Decision) (e : End) (one two : NodeId) (read : Node) → inside ≡ now → i < length now → read ≡ get_or inside i read → one.number ≡ length now → two.number ≡ length now + 1 → e ≡ Split d one two → new ≡ set inside i (record { parent = read.parent; block = block; end = e }) ++ open_node (Some (record { number = i })) ∷ open_node (Some (record { number = i })) ∷ [] → new ≡ split_behind_at now i block d
+split_behind_is inside now new i block d e one two read same there value is_first is_second is_end is =
     let there' : i < length inside = omega (arith, ap length same) in
-    is_two ∙ ap (λ m. m ++ p ∷ []) is_one
-    ∙ append_assoc (set inside i (record { parent = read.parent; block = read.block; end = split_end d n })) (o ∷ []) (p ∷ [])
-    ∙ ap (λ (m : Node). set inside i (record { parent = m.parent; block = m.block; end = split_end d n }) ++ o ∷ p ∷ []) (read_is inside i read there' value)
-    ∙ ap (λ m. set m i (record (node_at m i) { end = split_end d n }) ++ o ∷ p ∷ []) same
-    ∙ ap (λ k. set now i (record (node_at now i) { end = split_end d k }) ++ o ∷ p ∷ []) len
-    ∙ ap (λ m. set now i (record (node_at now i) { end = split_end d (length now) }) ++ m ∷ p ∷ []) is_o
-    ∙ ap (λ m. set now i (record (node_at now i) { end = split_end d (length now) }) ++ open_node (Some (record { number = i })) ∷ m ∷ []) is_p
+    let twins : List Node = open_node (Some (record { number = i })) ∷ open_node (Some (record { number = i })) ∷ [] in
+    is
+    ∙ ap (λ c. set inside i (record { parent = read.parent; block = block; end = c }) ++ twins) (is_end ∙ end_is d (length now) one two is_first is_second)
+    ∙ ap (λ (r : Node). set inside i (record { parent = r.parent; block = block; end = split_end d (length now) }) ++ twins) (read_is inside i read there' value)
+    ∙ ap (λ l. set l i (record { parent = (node_at l i).parent; block = block; end = split_end d (length now) }) ++ twins) same
+
+pub split_is : (inside now new : List Node) (i : ℕ) (d : Decision) (e : End) (one two : NodeId) (read : Node) → inside ≡ now → i < length now → read ≡ get_or inside i read → one.number ≡ length now → two.number ≡ length now + 1 → e ≡ Split d one two → new ≡ set inside i (record { parent = read.parent; block = read.block; end = e }) ++ open_node (Some (record { number = i })) ∷ open_node (Some (record { number = i })) ∷ [] → new ≡ split_at now i d
+split_is inside now new i d e one two read same there value is_first is_second is_end is =
+    let there' : i < length inside = omega (arith, ap length same) in
+    split_behind_is inside now new i read.block d e one two read same there value is_first is_second is_end is
+    ∙ ap (λ (r : Node). split_behind_at now i r.block d) (read_is inside i read there' value)
+    ∙ ap (λ l. split_behind_at now i (node_at l i).block d) same
 
 two_empty : (o : Node) → o.block ≡ [] → (m : ℕ) → (node_at (o ∷ o ∷ []) m).block ≡ []
 two_empty o h zero = h
@@ -64,12 +75,12 @@ module _ (nodes new : List Node) (i : ℕ) (tree : IsTree nodes) (changed : Chan
     ];
   }
 
-pub tree_by_split : (nodes : List Node) (i : ℕ) (d : Decision) → IsTree nodes → i < length nodes → IsFree nodes i → length nodes + 2 ≤ 2 ^ 32 → IsSpelledDecision d → IsTree (split_at nodes i d)
-tree_by_split nodes i d tree there free room spelled =
-    tree_kept nodes (split_at nodes i d) i tree (changed_by_split nodes i d there free) (linked_by_split nodes i d tree.linked there free room)
-    (λ j late. ap (λ (n : Node). n.block) (split_at-behind nodes i d there j late) ∙ two_empty _ refl (j - length nodes))
-    (subst (λ (n : Node). AllByRecursion IsSpelledStep n.block) (sym (split_at-same nodes i d there)) (tree.blocks i there))
-    (subst (λ (n : Node). IsSpelledEnd n.end) (sym (split_at-same nodes i d there)) spelled)
+pub tree_by_split : (nodes : List Node) (i : ℕ) (block : List Step) (d : Decision) → IsTree nodes → i < length nodes → IsFree nodes i → length nodes + 2 ≤ 2 ^ 32 → AllByRecursion IsSpelledStep block → IsSpelledDecision d → IsTree (split_behind_at nodes i block d)
+tree_by_split nodes i block d tree there free room steps spelled =
+    tree_kept nodes (split_behind_at nodes i block d) i tree (changed_by_split nodes i block d there free) (linked_by_split nodes i block d tree.linked there free room)
+    (λ j late. ap (λ (n : Node). n.block) (split_behind_at-behind nodes i block d there j late) ∙ two_empty _ refl (j - length nodes))
+    (subst (λ (n : Node). AllByRecursion IsSpelledStep n.block) (sym (split_behind_at-same nodes i block d there)) steps)
+    (subst (λ (n : Node). IsSpelledEnd n.end) (sym (split_behind_at-same nodes i block d there)) spelled)
 
 past_empty : (nodes : List Node) (j : ℕ) → length nodes ≤ j → (node_at nodes j).block ≡ []
 past_empty [] j h = refl
@@ -92,8 +103,11 @@ shut_tree inside now i read same tree there free value =
     let there' : i < length inside = omega (arith, ap length same) in
     closed_tree inside now i read read.block same tree there free value (subst (λ (n : Node). AllByRecursion IsSpelledStep n.block) (sym (read_is inside i read there' value)) (tree.blocks i there'))
 
-pub split_tree : (inside two : List Node) (i : ℕ) (d : Decision) → IsTree inside → i < length inside → IsFree inside i → length inside + 2 ≤ 2 ^ 32 → IsSpelledDecision d → two ≡ split_at inside i d → IsTree two
-split_tree inside two i d tree there free room spelled is = subst (λ m. IsTree m) (sym is) (tree_by_split inside i d tree there free room spelled)
+pub split_behind_tree : (inside now new : List Node) (i : ℕ) (block : List Step) (d : Decision) → inside ≡ now → IsTree inside → i < length now → IsFree now i → length now + 2 ≤ 2 ^ 32 → AllByRecursion IsSpelledStep block → IsSpelledDecision d → new ≡ split_behind_at now i block d → IsTree new
+split_behind_tree inside now new i block d same tree there free room steps spelled is = subst (λ m. IsTree m) (sym is) (tree_by_split now i block d (subst (λ m. IsTree m) same tree) there free room steps spelled)
+
+pub split_tree : (inside now new : List Node) (i : ℕ) (d : Decision) → inside ≡ now → IsTree inside → i < length now → IsFree now i → length now + 2 ≤ 2 ^ 32 → IsSpelledDecision d → new ≡ split_at now i d → IsTree new
+split_tree inside now new i d same tree there free room spelled = split_behind_tree inside now new i (node_at now i).block d same tree there free room ((subst (λ m. IsTree m) same tree).blocks i there) spelled
 
 pub one_open : IsTree (open_node None ∷ [])
 one_open = record {

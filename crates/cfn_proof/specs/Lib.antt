@@ -1,4 +1,5 @@
 pub mod Nodes
 pub mod Local
+pub mod Packing
 pub mod Certificates
 pub mod Outcome

@@ -13,7 +13,7 @@ use Rattle.cfn_model.specs.Tree.{CanClose, IsStrictSplit, Valid, Strict, OpenBel
 use Rattle.cfn_proof.specs.declared.tree.End.{End}
 use Rattle.cfn_proof.specs.declared.tree.End.TheVariants.{Free, Shut, Split}
 use Rattle.cfn_proof.specs.declared.tree.Node.{Node}
-use Rattle.cfn_proof.specs.Nodes.{node_at, tree_of, IsLinked, IsTree, IsFree, Before, split_at, close_at}
+use Rattle.cfn_proof.specs.Nodes.{node_at, tree_of, IsLinked, IsTree, IsFree, Before, split_at, split_behind_at, close_at}
 
 -- A node's block runs after the history before it; a closed leaf may be closed there, and a split is in range.
 abbrev pub ValidNode : Network → List Event → List Step → End → ℕ → Type 0
@@ -72,21 +72,42 @@ SplitsSplitLaw = (nodes : List Node) (i : ℕ) (d : Decision) → IsLinked nodes
 abbrev pub SplitsCloseLaw : Type 0
 SplitsCloseLaw = (nodes : List Node) (i : ℕ) (block : List Step) → IsLinked nodes → i < length nodes → IsFree nodes i → ((history : List Event) × Before nodes i history) → splits (tree_of (close_at nodes i block)) ≡ splits (tree_of nodes)
 
--- After a split, what stands before a node is what stood before it, or a new child's.
-pub record IsNewChild (nodes : List Node) (i : ℕ) (side : Event) (history : List Event) : Type 0 where
+-- The same of a split behind a block.
+abbrev pub CountSplitBehindLaw : Type 0
+CountSplitBehindLaw = (nodes : List Node) (i : ℕ) (block : List Step) (d : Decision) → IsLinked nodes → i < length nodes → IsFree nodes i → length nodes + 2 ≤ 2 ^ 32 → ((history : List Event) × Before nodes i history) → count (tree_of (split_behind_at nodes i block d)) ≡ count (tree_of nodes) + 1
+
+abbrev pub SplitsSplitBehindLaw : Type 0
+SplitsSplitBehindLaw = (nodes : List Node) (i : ℕ) (block : List Step) (d : Decision) → IsLinked nodes → i < length nodes → IsFree nodes i → length nodes + 2 ≤ 2 ^ 32 → ((history : List Event) × Before nodes i history) → splits (tree_of (split_behind_at nodes i block d)) ≡ splits (tree_of nodes) + 1
+
+-- After a split, what stands before a node is what stood before it, or a new child's: the block and then the decision.
+pub record IsNewChild (nodes : List Node) (i : ℕ) (block : List Step) (side : Event) (history : List Event) : Type 0 where
   pub above : List Event
   pub before : Before nodes i above
-  pub is : history ≡ side ∷ after (node_at nodes i).block above
+  pub is : history ≡ side ∷ after block above
 
 abbrev pub BeforeSplitLaw : Type 0
 BeforeSplitLaw = (nodes : List Node) (i : ℕ) (d : Decision) (j : ℕ) (history : List Event) → IsLinked nodes → i < length nodes → IsFree nodes i → Before (split_at nodes i d) j history →
     (j < length nodes → Before nodes j history)
-    × (j ≡ length nodes → IsNewChild nodes i (Took d) history)
-    × (j ≡ length nodes + 1 → IsNewChild nodes i (Refused d) history)
+    × (j ≡ length nodes → IsNewChild nodes i (node_at nodes i).block (Took d) history)
+    × (j ≡ length nodes + 1 → IsNewChild nodes i (node_at nodes i).block (Refused d) history)
+
+abbrev pub BeforeSplitBehindLaw : Type 0
+BeforeSplitBehindLaw = (nodes : List Node) (i : ℕ) (block : List Step) (d : Decision) (j : ℕ) (history : List Event) → IsLinked nodes → i < length nodes → IsFree nodes i → Before (split_behind_at nodes i block d) j history →
+    (j < length nodes → Before nodes j history)
+    × (j ≡ length nodes → IsNewChild nodes i block (Took d) history)
+    × (j ≡ length nodes + 1 → IsNewChild nodes i block (Refused d) history)
 
 -- After a closing, what stands before a node is what stood before it.
 abbrev pub BeforeCloseLaw : Type 0
 BeforeCloseLaw = (nodes : List Node) (i : ℕ) (block : List Step) (j : ℕ) (history : List Event) → IsLinked nodes → i < length nodes → IsFree nodes i → Before (close_at nodes i block) j history → Before nodes j history
+
+-- Nodes stay valid where a leaf is split, in range, behind a block that runs after what stands before it.
+abbrev pub ValidSplitBehindLaw : Type 0
+ValidSplitBehindLaw = (P : Network) (nodes : List Node) (k i : ℕ) (block : List Step) (d : Decision) → IsLinked nodes → i < length nodes → IsFree nodes i → ValidNodes P nodes k → ((history : List Event) → Before nodes i history → Run P history block k) → IsDecision P d → ValidNodes P (split_behind_at nodes i block d) k
+
+-- Nodes stay strict where the split is strict after what stands before the leaf and then the block.
+abbrev pub StrictSplitBehindLaw : Type 0
+StrictSplitBehindLaw = (P : Network) (nodes : List Node) (i : ℕ) (block : List Step) (d : Decision) → IsLinked nodes → i < length nodes → IsFree nodes i → StrictNodes P nodes → ((history : List Event) → Before nodes i history → IsStrictSplit P (after block history) d) → StrictNodes P (split_behind_at nodes i block d)
 
 -- One history stands before a node, and some history does.
 abbrev pub BeforeOnceLaw : Type 0

@@ -71,13 +71,16 @@ pub data Before (nodes : List Node) : ℕ → List Event → Type 0 where
   at_first : {i : ℕ} {history : List Event} (parent : ℕ) (d : Decision) (first second : NodeId) (above : List Event) → parent < length nodes → (node_at nodes parent).end ≡ Split d first second → Before nodes parent above → i ≡ first.number → history ≡ Took d ∷ after (node_at nodes parent).block above → Before nodes i history
   at_second : {i : ℕ} {history : List Event} (parent : ℕ) (d : Decision) (first second : NodeId) (above : List Event) → parent < length nodes → (node_at nodes parent).end ≡ Split d first second → Before nodes parent above → i ≡ second.number → history ≡ Refused d ∷ after (node_at nodes parent).block above → Before nodes i history
 
--- A leaf split by a decision, its children put behind all nodes.
+-- A leaf split behind a block by a decision, its children put behind all nodes; and one split behind its own block.
 abbrev pub split_end : Decision → ℕ → End
 split_end d n = Split d (record { number = n }) (record { number = n + 1 })
 
+abbrev pub split_behind_at : List Node → ℕ → List Step → Decision → List Node
+split_behind_at nodes i block d =
+    slice_set nodes i (record (node_at nodes i) { block = block; end = split_end d (length nodes) }) ++ open_node (Some (record { number = i })) ∷ open_node (Some (record { number = i })) ∷ []
+
 abbrev pub split_at : List Node → ℕ → Decision → List Node
-split_at nodes i d =
-    slice_set nodes i (record (node_at nodes i) { end = split_end d (length nodes) }) ++ open_node (Some (record { number = i })) ∷ open_node (Some (record { number = i })) ∷ []
+split_at nodes i d = split_behind_at nodes i (node_at nodes i).block d
 
 -- A leaf closed behind a block.
 abbrev pub close_at : List Node → ℕ → List Step → List Node

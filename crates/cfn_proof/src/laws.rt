@@ -1,6 +1,6 @@
 //! Laws of trees: what a whole tree has where each of its nodes has it, and what a split or a closing changes.
 
-ghost use Rattle.cfn_proof.specs.Local.{ValidLaw, StrictLaw, OpenBelowLaw, BoundFromLaw, BoundAtLaw, CountSplitLaw, CountCloseLaw, SplitsSplitLaw, SplitsCloseLaw, BeforeSplitLaw, BeforeCloseLaw, BeforeOnceLaw, BeforeSomeLaw, SpelledLaw, LinesLaw, NoneOpenLaw, SomeOpenLaw};
+ghost use Rattle.cfn_proof.specs.Local.{ValidLaw, StrictLaw, OpenBelowLaw, BoundFromLaw, BoundAtLaw, CountSplitLaw, CountSplitBehindLaw, CountCloseLaw, SplitsSplitLaw, SplitsSplitBehindLaw, SplitsCloseLaw, BeforeSplitLaw, BeforeSplitBehindLaw, BeforeCloseLaw, ValidSplitBehindLaw, StrictSplitBehindLaw, BeforeOnceLaw, BeforeSomeLaw, SpelledLaw, LinesLaw, NoneOpenLaw, SomeOpenLaw};
 
 /// A tree is valid at a threshold, or strict, where each of its nodes is after what stands before it.
 pub fn valid_where_nodes_are()
@@ -18,21 +18,30 @@ pub fn bound_where_floors_are()
 /// A split or a closing of an open leaf adds one to the number of splits and closed leaves.
 pub fn one_node_more()
     ensures split { CountSplitLaw }
+    ensures split_behind { CountSplitBehindLaw }
     ensures close { CountCloseLaw }
 {}
 
 /// A split of an open leaf adds one to the number of splits, and a closing adds none.
 pub fn one_split_more()
     ensures split { SplitsSplitLaw }
+    ensures split_behind { SplitsSplitBehindLaw }
     ensures close { SplitsCloseLaw }
 {}
 
 /// What stands before a node stays where another leaf is split or closed.
 pub fn same_before()
     ensures split { BeforeSplitLaw }
+    ensures split_behind { BeforeSplitBehindLaw }
     ensures close { BeforeCloseLaw }
     ensures once { BeforeOnceLaw }
     ensures some { BeforeSomeLaw }
+{}
+
+/// Nodes stay valid where a leaf is split behind a block that runs there, and strict where the split is strict there.
+pub fn kept_by_a_split()
+    ensures valid { ValidSplitBehindLaw }
+    ensures strict { StrictSplitBehindLaw }
 {}
 
 /// A tree whose nodes have a spelling has one, and version 2 has lines for all of its decisions.

@@ -9,10 +9,11 @@ mod block;
 mod certificate;
 pub mod laws;
 mod outcome;
+mod packing;
 mod path;
 mod tree;
 
-pub use block::Block;
+pub use block::{Block, Steps};
 pub use certificate::Certificate;
 pub use cfn_model::{Decision, Event, Row, Step};
 pub use outcome::{Outcome, Stop};

@@ -3,9 +3,10 @@
 //! So a tree is walked without recursion and without memory, and no drop is deep. Nodes are only added, and an
 //! open leaf may become a split or a closed leaf.
 
-ghost use Rattle.std.specs.Prelude.{◌≡◌, ◌+◌, ◌<◌, ◌≤◌, [], ◌∷◌, length, None, IfOk, OnOk, OnErr};
+ghost use Rattle.std.specs.Prelude.{◌≡◌, ◌+◌, ◌<◌, ◌≤◌, ◌^◌, [], ◌∷◌, ◌++◌, length, vec_len, vec_capacity, Some, None, IfOk, OnOk, OnErr};
 ghost use Rattle.cfn_model.specs.Text.{IsSpelledDecision};
-ghost use Rattle.cfn_proof.specs.Nodes.{IsFree, IsTree, node_at, open_node, split_at, close_at};
+ghost use Rattle.cfn_proof.specs.Nodes.{IsFree, IsTree, node_at, open_node, split_at, split_behind_at, close_at};
+ghost use Rattle.cfn_proof.specs.declared.tree.End.TheVariants.{Split};
 
 use crate::block::Block;
 use cfn_model::Decision;
@@ -33,6 +34,24 @@ pub enum End {
     },
 }
 
+impl End {
+    /// A split by a decision, whose numbers have a spelling, since none is above 4,294,967,295.
+    fn split(decision: Decision, children: (NodeId, NodeId)) -> End
+        ensures is { result ≡ Split decision children.0 children.1 }
+        ensures spelled { IsSpelledDecision decision }
+    {
+        match decision {
+            Decision::Is { .. } | Decision::Most { .. } => {}
+        }
+        let (first, second) = children;
+        End::Split {
+            decision,
+            first,
+            second,
+        }
+    }
+}
+
 /// A node: its parent, the block of steps before its end, and its end.
 #[derive(Drop)]
 pub struct Node {
@@ -54,13 +73,39 @@ impl Node {
     }
 }
 
-/// The numbers of a decision have a spelling, since none is above 4,294,967,295.
-fn spelled(decision: Decision)
-    ensures { IsSpelledDecision decision }
+/// Takes room for the two children of a leaf, and answers their numbers. An `Err`, want of memory or of numbers, leaves
+/// the nodes as they were.
+fn room_for_children(nodes: &mut Vec<Node>) -> Result<(NodeId, NodeId), AllocError>
+    ensures nodes { nodes.new.items ≡ nodes.old.items }
+    ensures first { IfOk result (λ c. c.0.number ≡ length nodes.old.items) }
+    ensures second { IfOk result (λ c. c.1.number ≡ length nodes.old.items + 1) }
+    ensures few { OnOk result (length nodes.old.items + 2 ≤ 2 ^ 32) }
+    ensures room { OnOk result (vec_len nodes.new + 2 ≤ vec_capacity nodes.new) }
 {
-    match decision {
-        Decision::Is { .. } | Decision::Most { .. } => {}
+    let next = nodes.len();
+    if next > Tree::MOST - 2 {
+        return Err(AllocError);
     }
+    nodes.reserve(2)?;
+    let first = NodeId {
+        number: next as u32,
+    };
+    let second = NodeId {
+        number: (next + 1) as u32,
+    };
+    Ok((first, second))
+}
+
+/// Puts the two children of a leaf, open leaves with empty blocks, behind all nodes. It takes no memory.
+fn push_children(nodes: &mut Vec<Node>, leaf: NodeId)
+    requires { vec_len nodes.old + 2 ≤ vec_capacity nodes.old }
+    ensures { nodes.new.items ≡ nodes.old.items ++ open_node (Some leaf) ∷ open_node (Some leaf) ∷ [] }
+{
+    let alloc = *nodes.allocator();
+    let first = Node::open(alloc, Some(leaf));
+    let second = Node::open(alloc, Some(leaf));
+    nodes.push_reserved(first);
+    nodes.push_reserved(second);
 }
 
 /// A search tree of at most 4,294,967,296 nodes. Contracts see the list of its nodes.
@@ -135,28 +180,34 @@ impl Tree {
         ensures children { IfOk result (λ c. (c.0.number ≡ length self.old) × (c.1.number ≡ length self.old + 1)) }
         ensures err { OnErr result (self.new ≡ self.old) }
     {
-        let next = self.nodes.len();
-        if next > Tree::MOST - 2 {
-            return Err(AllocError);
-        }
-        let first = NodeId {
-            number: next as u32,
-        };
-        let second = NodeId {
-            number: (next + 1) as u32,
-        };
-        self.nodes.reserve(2)?;
-        spelled(decision);
-        let alloc = *self.nodes.allocator();
+        let children = room_for_children(&mut self.nodes)?;
         let node = &mut self.nodes[leaf.number as usize];
-        node.end = End::Split {
-            decision,
-            first,
-            second,
-        };
-        self.nodes.push_reserved(Node::open(alloc, Some(leaf)));
-        self.nodes.push_reserved(Node::open(alloc, Some(leaf)));
-        Ok((first, second))
+        node.end = End::split(decision, children);
+        push_children(&mut self.nodes, leaf);
+        Ok(children)
+    }
+
+    /// Splits an open leaf behind a block, which takes the place of the leaf's own, and answers its children as `split`
+    /// does. An `Err`, want of memory or of a number for a child, drops the block and leaves the tree as it was.
+    pub fn split_behind(
+        &mut self,
+        leaf: NodeId,
+        block: Block,
+        decision: Decision,
+    ) -> Result<(NodeId, NodeId), AllocError>
+        requires there { leaf.number < length self.old }
+        requires free { IsFree self.old leaf.number }
+        ensures ok { OnOk result (self.new ≡ split_behind_at self.old leaf.number block decision) }
+        ensures children { IfOk result (λ c. (c.0.number ≡ length self.old) × (c.1.number ≡ length self.old + 1)) }
+        ensures err { OnErr result (self.new ≡ self.old) }
+    {
+        let children = room_for_children(&mut self.nodes)?;
+        let fitted = block.fitted();
+        let parent = &mut self.nodes[leaf.number as usize];
+        parent.block = fitted;
+        parent.end = End::split(decision, children);
+        push_children(&mut self.nodes, leaf);
+        Ok(children)
     }
 
     /// Closes an open leaf behind a block, which takes the place of the leaf's own. It takes no memory.
@@ -165,9 +216,9 @@ impl Tree {
         requires free { IsFree self.old leaf.number }
         ensures { self.new ≡ close_at self.old leaf.number block }
     {
-        let _spelled = block.steps();
+        let fitted = block.fitted();
         let node = &mut self.nodes[leaf.number as usize];
-        node.block = block;
+        node.block = fitted;
         node.end = End::Shut;
     }
 

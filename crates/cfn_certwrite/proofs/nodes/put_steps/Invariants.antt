@@ -1,4 +1,4 @@
-use Rattle.std.proofs.Common.{map, drop}
+use Rattle.std.proofs.Common.{map}
 use Rattle.cfn_model.specs.Text.{step_words, text}
 use Rattle.cfn_line.specs.Appending.{Midway}
 use Rattle.cfn_line.specs.declared.channel.Channel.TheVariants.{File}
@@ -7,4 +7,4 @@ use Rattle.cfn_certwrite.proofs.nodes.put_steps.Given as goal
 abbrev pub invariant-loop-step : goal.invariant-loop-step
 invariant-loop-step g l = let d = g.D.Desk in
     Midway File (d.outside l.initial.desk)
-    (text (map step_words l.steps)) (text (map step_words (drop l.step-index l.steps))) (d.outside l.desk)
+    (text (map step_words l.block)) (text (map step_words l.step-iterator)) (d.outside l.desk)

@@ -1,6 +1,8 @@
-use Rattle.std.proofs.Common.{◌≡◌, ◌++◌, drop}
+use Rattle.std.proofs.Common.{◌≡◌, ◌++◌}
+use Rattle.std.specs.List.{AllByRecursion}
+use Rattle.cfn_model.specs.Text.{IsSpelledStep}
 use Rattle.cfn_core.proofs.editing.joined.Given as goal
 
--- the steps so far and those that are left are all
+-- the steps so far and those that are left, which have a spelling, are all
 abbrev pub invariant-loop-step : goal.invariant-loop-step
-invariant-loop-step l = l.whole ++ drop l.step-index l.steps ≡ l.block ++ l.steps
+invariant-loop-step l = (l.whole ++ l.step-iterator ≡ l.block ++ l.more) × AllByRecursion IsSpelledStep l.step-iterator

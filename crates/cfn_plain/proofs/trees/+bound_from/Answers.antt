@@ -1,5 +1,4 @@
 use Rattle.std.proofs.Common.{ap, ◌∙◌, arith}
-use Rattle.cfn_model.specs.Steps.{after}
 use Rattle.cfn_model.specs.Sums.{floor}
 use Rattle.cfn_model.specs.Tree.{bound}
 use Rattle.cfn_proof.specs.declared.tree.End.TheVariants.{Free, Shut, Split}
@@ -14,7 +13,7 @@ returns-in-Free t c =
     let nodes = c.args.tree.now in
     let node = c.node-node.result.now in
     let is = ap (λ t. bound P c.args.history.now t c.args.k) (tree_is nodes c.args.id.number node Free c.linked.ensures.linked c.requires c.node-node.ensures c.in-Free.is) in
-    let behind = c.as_slice.ensures.value ∙ c.in_ok-behind.ensures ∙ ap (λ s. after s c.args.history.now) c.steps.ensures.steps in
+    let behind = c.as_slice.ensures.value ∙ c.in_ok-behind.ensures in
     let low = c.floor.ensures ∙ ap (floor P) behind in
     omega (arith, is, low, c.min.ensures)
 
@@ -43,8 +42,8 @@ returns t c =
     let second = c.in-Split.second in
     let d = c.in-Split.decision in
     let is = ap (λ t. bound P h t c.args.k) (tree_is nodes c.args.id.number node (Split d first second) c.linked.ensures.linked c.requires c.node-node.ensures c.in-Split.is) in
-    let yes = side_is (Took d) node.block _ h _ _ _ _ c.as_slice-in-Split-2.ensures.value c.in_ok-took-in-Split.ensures.0 c.as_slice-in-Split.ensures.value c.in_ok-behind.ensures c.steps.ensures.steps in
-    let no = side_is (Refused d) node.block _ h _ _ _ _ c.as_slice-in-Split-3.ensures.value c.in_ok-took-in-Split.ensures.1 c.as_slice-in-Split.ensures.value c.in_ok-behind.ensures c.steps.ensures.steps in
+    let yes = side_is (Took d) node.block h _ _ _ _ c.as_slice-in-Split-2.ensures.value c.in_ok-took-in-Split.ensures.0 c.as_slice-in-Split.ensures.value c.in_ok-behind.ensures in
+    let no = side_is (Refused d) node.block h _ _ _ _ c.as_slice-in-Split-3.ensures.value c.in_ok-took-in-Split.ensures.1 c.as_slice-in-Split.ensures.value c.in_ok-behind.ensures in
     let one = c.in_ok-least-in-Split.ensures ∙ ap (λ h. bound P h (tree_at nodes first.number) c.args.k) yes in
     let other = c.in_ok-bound_from-in-Split.ensures ∙ ap (λ h. bound P h (tree_at nodes second.number) c.args.k) no in
     omega (arith, is, one, other, c.min-in-Split.ensures)

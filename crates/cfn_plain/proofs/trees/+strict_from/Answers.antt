@@ -1,4 +1,4 @@
-use Rattle.std.proofs.Common.{◌∷◌, refl, ap, sym, subst, ◌∙◌, arith}
+use Rattle.std.proofs.Common.{◌∷◌, refl, sym, subst, ◌∙◌, arith}
 use Rattle.std.specs.Prelude.{IsTrue, ◌↔◌}
 use Rattle.std.proofs.lemmas.Bool.{false≢true}
 use Rattle.cfn_model.specs.declared.step.Event.TheVariants.{Took, Refused}
@@ -21,7 +21,7 @@ returns-then-not-is_strict_split t c =
     let node = c.node-node.result.now in
     let d = c.in-Split.decision in
     let at = strict_at P h c.args.tree.now c.args.id.number node (Split d c.in-Split.first c.in-Split.second) c.linked.ensures.linked c.requires c.node-node.ensures c.in-Split.is in
-    let behind = c.as_slice.ensures.value ∙ c.in_ok-behind.ensures ∙ ap (λ s. after s h) c.steps.ensures.steps in (
+    let behind = c.as_slice.ensures.value ∙ c.in_ok-behind.ensures in (
       λ no. absurd (false≢true no),
       λ strict. sym c.if-not-is_strict_split.true ∙ c.is_strict_split.ensures.1 (subst (λ h. IsStrictSplit P h d) (sym behind) (at.1 strict).0),
     )
@@ -46,10 +46,10 @@ returns t c =
     let second = c.in-Split.second in
     let d = c.in-Split.decision in
     let at = strict_at P h nodes c.args.id.number node (Split d first second) c.linked.ensures.linked c.requires c.node-node.ensures c.in-Split.is in
-    let behind = c.as_slice.ensures.value ∙ c.in_ok-behind.ensures ∙ ap (λ s. after s h) c.steps.ensures.steps in
+    let behind = c.as_slice.ensures.value ∙ c.in_ok-behind.ensures in
     let here = subst (λ h. IsStrictSplit P h d) behind (c.is_strict_split.ensures.0 c.if-not-is_strict_split.false) in
-    let yes = side_is (Took d) node.block _ h _ _ _ _ c.as_slice-3.ensures.value c.in_ok-took.ensures.0 c.as_slice-2.ensures.value c.in_ok-behind.ensures c.steps.ensures.steps in
-    let no = side_is (Refused d) node.block _ h _ _ c.in_ok-took.refused.items _ refl c.in_ok-took.ensures.1 c.as_slice-2.ensures.value c.in_ok-behind.ensures c.steps.ensures.steps in
+    let yes = side_is (Took d) node.block h _ _ _ _ c.as_slice-3.ensures.value c.in_ok-took.ensures.0 c.as_slice-2.ensures.value c.in_ok-behind.ensures in
+    let no = side_is (Refused d) node.block h _ _ c.in_ok-took.refused.items _ refl c.in_ok-took.ensures.1 c.as_slice-2.ensures.value c.in_ok-behind.ensures in
     let First = Strict P (Took d ∷ after node.block h) (tree_at nodes first.number) in
     let Second = Strict P (Refused d ∷ after node.block h) (tree_at nodes second.number) in
     let one : IsTrue c.in_ok-strict_from.field-0 ↔ First = subst (λ h. IsTrue c.in_ok-strict_from.field-0 ↔ Strict P h (tree_at nodes first.number)) yes c.in_ok-strict_from.ensures in

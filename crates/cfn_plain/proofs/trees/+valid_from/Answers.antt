@@ -1,8 +1,8 @@
-use Rattle.std.proofs.Common.{◌∷◌, refl, ap, sym, subst, ◌∙◌, arith}
+use Rattle.std.proofs.Common.{◌∷◌, refl, sym, subst, ◌∙◌, arith}
 use Rattle.std.specs.Prelude.{IsTrue, ◌↔◌}
 use Rattle.std.proofs.lemmas.Bool.{false≢true}
 use Rattle.cfn_model.specs.declared.step.Event.TheVariants.{Took, Refused}
-use Rattle.cfn_model.specs.Steps.{Run, after}
+use Rattle.cfn_model.specs.Steps.{after}
 use Rattle.cfn_model.specs.Tree.{Valid, CanClose}
 use Rattle.cfn_proof.specs.declared.tree.End.TheVariants.{Free, Shut, Split}
 use Rattle.cfn_proof.specs.Nodes.{tree_at}
@@ -15,7 +15,7 @@ returns-then-not-branch t c =
     let P = c.args.network.now in
     let h = c.args.history.now in (
       λ no. absurd (false≢true no),
-      λ valid. sym c.if-not-branch.true ∙ c.in_ok-runs.ensures.1 (subst (λ s. Run P h s c.args.k) (sym c.steps-steps.ensures.steps) (valid_runs P h c.args.k c.args.tree.now c.args.id.number c.node-node.result.now c.linked.ensures.linked c.requires c.node-node.ensures valid)),
+      λ valid. sym c.if-not-branch.true ∙ c.in_ok-block_runs.ensures.1 (valid_runs P h c.args.k c.args.tree.now c.args.id.number c.node-node.result.now c.linked.ensures.linked c.requires c.node-node.ensures valid),
     )
 
 pub returns-in-Free : goal.returns-in-Free
@@ -23,7 +23,7 @@ returns-in-Free t c =
     let P = c.args.network.now in
     let h = c.args.history.now in
     let at = valid_at P h c.args.k c.args.tree.now c.args.id.number c.node-node.result.now Free c.linked.ensures.linked c.requires c.node-node.ensures c.in-Free.is in
-    let run = subst (λ s. Run P h s c.args.k) c.steps-steps.ensures.steps (c.in_ok-runs.ensures.0 c.if-not-branch.false) in
+    let run = c.in_ok-block_runs.ensures.0 c.if-not-branch.false in
     (λ yes. at.0 run, λ valid. refl)
 
 pub returns-in-Shut : goal.returns-in-Shut
@@ -32,8 +32,8 @@ returns-in-Shut t c =
     let h = c.args.history.now in
     let k = c.args.k in
     let at = valid_at P h k c.args.tree.now c.args.id.number c.node-node.result.now Shut c.linked.ensures.linked c.requires c.node-node.ensures c.in-Shut.is in
-    let run = subst (λ s. Run P h s k) c.steps-steps.ensures.steps (c.in_ok-runs.ensures.0 c.if-not-branch.false) in
-    let behind = c.as_slice.ensures.value ∙ c.in_ok-behind.ensures ∙ ap (λ s. after s h) c.steps-steps.ensures.steps in (
+    let run = c.in_ok-block_runs.ensures.0 c.if-not-branch.false in
+    let behind = c.as_slice.ensures.value ∙ c.in_ok-behind.ensures in (
       λ yes. at.0 (run, subst (λ h. CanClose P h k) behind (c.can_close.ensures.0 yes)),
       λ valid. c.can_close.ensures.1 (subst (λ h. CanClose P h k) (sym behind) (at.1 valid).1),
     )
@@ -66,10 +66,10 @@ returns t c =
     let second = c.in-Split.second in
     let d = c.in-Split.decision in
     let at = valid_at P h k nodes c.args.id.number node (Split d first second) c.linked.ensures.linked c.requires c.node-node.ensures c.in-Split.is in
-    let run = subst (λ s. Run P h s k) c.steps-steps.ensures.steps (c.in_ok-runs.ensures.0 c.if-not-branch.false) in
+    let run = c.in_ok-block_runs.ensures.0 c.if-not-branch.false in
     let value = c.is_decision.ensures.0 c.if-not-is_decision.false in
-    let yes = side_is (Took d) node.block _ h _ _ _ _ c.as_slice-in-Split-2.ensures.value c.in_ok-took-in-Split.ensures.0 c.as_slice-in-Split.ensures.value c.in_ok-behind.ensures c.steps-steps.ensures.steps in
-    let no = side_is (Refused d) node.block _ h _ _ c.in_ok-took-in-Split.refused.items _ refl c.in_ok-took-in-Split.ensures.1 c.as_slice-in-Split.ensures.value c.in_ok-behind.ensures c.steps-steps.ensures.steps in
+    let yes = side_is (Took d) node.block h _ _ _ _ c.as_slice-in-Split-2.ensures.value c.in_ok-took-in-Split.ensures.0 c.as_slice-in-Split.ensures.value c.in_ok-behind.ensures in
+    let no = side_is (Refused d) node.block h _ _ c.in_ok-took-in-Split.refused.items _ refl c.in_ok-took-in-Split.ensures.1 c.as_slice-in-Split.ensures.value c.in_ok-behind.ensures in
     let First = Valid P (Took d ∷ after node.block h) (tree_at nodes first.number) k in
     let Second = Valid P (Refused d ∷ after node.block h) (tree_at nodes second.number) k in
     let one : IsTrue c.in_ok-valid_from-in-Split.field-0 ↔ First = subst (λ h. IsTrue c.in_ok-valid_from-in-Split.field-0 ↔ Valid P h (tree_at nodes first.number) k) yes c.in_ok-valid_from-in-Split.ensures in
