@@ -1,0 +1,7 @@
+use Rattle.std.proofs.Common.{◌≡◌, ℕ, List, length}
+use Rattle.cfn_store.specs.Standing.{Standing}
+use Rattle.cfn_close.specs.Shifting.{IsShutting}
+use Rattle.cfn_close.proofs.shutting.lift_all.Given as goal
+
+abbrev pub invariant-loop-x : goal.invariant-loop-x
+invariant-loop-x l = (l.store.network ≡ l.initial.store.network) × ((values : List ℕ) → IsShutting l.initial.store l.initial.store values l.k 0 0 → IsShutting l.initial.store l.store values l.k l.x 0)

@@ -1,0 +1,4 @@
+-- What the crates above cite of the proofs here.
+pub use Rattle.cfn_consistency.proofs.Rising.{nodes_rise, arcs_rise, directionals_rise, existentials_rise, fulls_rise, dead_falls, never_both}
+pub use Rattle.cfn_consistency.proofs.Locality.{part_is_local, arc_is_local, directional_is_local, existential_is_local, nodes_are_local}
+pub use Rattle.cfn_consistency.proofs.Grouping.{nodes_group, groups_join}

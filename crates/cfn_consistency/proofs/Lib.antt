@@ -1,0 +1,5 @@
+pub mod Rising
+pub mod Locality
+pub mod Grouping
+pub mod Rows
+pub mod CallerLemmas

@@ -1,0 +1,8 @@
+use Rattle.cfn_consistency.proofs.Grouping.{nodes_group, groups_join}
+use Rattle.cfn_consistency.proofs.laws.groups.Goals as goal
+
+pub returns-clause-nodes : goal.returns-clause-nodes
+returns-clause-nodes c = nodes_group
+
+pub returns-clause-join : goal.returns-clause-join
+returns-clause-join c = groups_join

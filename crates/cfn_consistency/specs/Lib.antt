@@ -1,0 +1,5 @@
+pub mod Openness
+pub mod Consistency
+pub mod Groups
+pub mod Agreement
+pub mod Laws

@@ -1,0 +1,30 @@
+//! What holds of local consistencies, each the contract of a function with nothing to do.
+
+ghost use Rattle.cfn_consistency.specs.Laws.{NodesRise, ArcsRise, DirectionalsRise, ExistentialsRise, FullsRise, DeadFalls, NeverBoth, PartIsLocal, ArcIsLocal, DirectionalIsLocal, ExistentialIsLocal, NodesAreLocal, NodesGroup, GroupsJoin};
+
+/// What is consistent at a threshold is so at every greater one, and what is dead is so at every smaller one. Nothing is
+/// node consistent and dead at once.
+pub fn thresholds()
+    ensures nodes { NodesRise }
+    ensures arcs { ArcsRise }
+    ensures directional { DirectionalsRise }
+    ensures existential { ExistentialsRise }
+    ensures full { FullsRise }
+    ensures dead { DeadFalls }
+    ensures either { NeverBoth }
+{}
+
+/// Where two histories agree on what a consistency looks at, it holds after one exactly where it holds after the other.
+pub fn local()
+    ensures part { PartIsLocal }
+    ensures arc { ArcIsLocal }
+    ensures directional { DirectionalIsLocal }
+    ensures existential { ExistentialIsLocal }
+    ensures nodes { NodesAreLocal }
+{}
+
+/// Steps that gain at nodes are groups, each of one step, and groups behind groups are groups.
+pub fn groups()
+    ensures nodes { NodesGroup }
+    ensures join { GroupsJoin }
+{}

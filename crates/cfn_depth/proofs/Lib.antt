@@ -1,0 +1,12 @@
+pub mod Growing
+pub mod Waits
+pub mod Choices
+pub mod Going
+pub mod Judging
+pub mod Closing
+pub mod States
+pub mod Dividing
+pub mod Alive
+pub mod Expanding
+pub mod Starting
+pub mod Finished

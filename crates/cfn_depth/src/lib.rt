@@ -1,0 +1,17 @@
+//! Depth-first branch and bound, with propagation at each node.
+//!
+//! `solve` makes the outcome that a report and a certificate are written from. Its contract is the promise of every
+//! search, as `cfn_proof` defines it: a good certificate with its tree's bound, and why the search stopped.
+//!
+//! - `choosing.rt`: the variable and the value that a split names;
+//! - `search.rt`: the search.
+#![tactic(auto)]
+
+mod choosing;
+mod enforcing;
+mod search;
+
+pub use search::solve;
+
+#[cfg(test)]
+mod tests;

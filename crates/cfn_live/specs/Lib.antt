@@ -1,0 +1,4 @@
+pub mod Order
+pub mod Past
+pub mod Sets
+pub mod Tables

@@ -1,0 +1,4 @@
+pub mod Stepping
+pub mod Lifting
+pub mod Cutting
+pub mod Reading

@@ -1,0 +1,4 @@
+mod Cutting
+mod Writing
+mod Filling
+mod Examples

@@ -1,0 +1,2 @@
+pub mod Jagged
+pub mod Lends

@@ -1,0 +1,122 @@
+-- A scan from the start of a scope finds the extreme residual cost.
+use Rattle.std.proofs.Common.{◌≡◌, ℕ, suc, zero, ◌+◌, ◌*◌, ◌<◌, ◌≤◌, ◌^◌, Bool, true, false, not, ◌&&◌, List, [], ◌∷◌, length, refl, sym, ap, subst, ◌∙◌, arith}
+use Rattle.std.proofs.lemmas.Int.{ints}
+use Rattle.std.specs.Prelude.{ℤ, pos, neg_ℤ, ◌+ℤ◌, ◌≤ℤ◌, ◌<ℤ◌, slice_index, slice_index_or, nat_lt, IsTrue, Option, Some, None, MatchOption}
+use Rattle.cfn_model.specs.declared.step.Event.{Event}
+use Rattle.cfn_model.specs.Network.{Network, IsNetwork, Fits, cells, cell, cell_from, dims, dims_at, scope_at, arity, function_at, entry_at}
+use Rattle.cfn_model.specs.Sums.{when, residual, is_live, is_cut, all_live, is_live_tuple}
+use Rattle.cfn_model.specs.Steps.{IsPlace}
+use Rattle.cfn_net.proofs.CallerLemmas.{cell-below, get_or-dims}
+use Rattle.cfn_store.specs.Wrapped.{StandsFor}
+use Rattle.cfn_store.specs.Shifts.{shift, along, offset}
+use Rattle.cfn_store.specs.Exact.{IsExact}
+use Rattle.cfn_store.specs.Extremes.{IsPicked, NonePicked, IsExtreme, Bounds}
+use Rattle.cfn_store.specs.declared.scan.Scan.{Scan}
+use Rattle.cfn_store.specs.declared.scan.Spot.{Spot}
+use Rattle.cfn_store.specs.declared.scan.Found.{Found}
+use Rattle.cfn_store.specs.declared.scan.Sense.{Sense}
+use Rattle.cfn_store.specs.declared.scan.Sense.TheVariants.{Least, Greatest}
+use Rattle.cfn_store.specs.Scanning.{IsMet, IsFound, NoneMet, Before, is_met, word_of}
+use Rattle.cfn_live.specs.Sets.{Sets}
+use Rattle.cfn_rows.specs.Jagged.{row_at}
+use Rattle.cfn_store.specs.declared.state.State.{State}
+use Rattle.cfn_store.specs.State.{Keeps, history_of}
+use Rattle.cfn_store.proofs.Along.{all_in_range, live_by_removals}
+use Rattle.cfn_store.proofs.Readings.{met_facts, facts_met, word_stands, is_last}
+use Rattle.cfn_store.specs.Reading.{Reads, start}
+use Rattle.cfn_store.proofs.Shifting.{residual_is}
+use Rattle.cfn_store.proofs.Wrapping.{exact, itself}
+
+both : (a b : Bool) → (a && b) ≡ true → (a ≡ true) × (b ≡ true)
+both true true h = (refl, refl)
+both true false h = cc
+both false b h = cc
+
+join : (a b : Bool) → a ≡ true → b ≡ true → (a && b) ≡ true
+join true true h k = refl
+join true false h k = cc
+join false b h k = cc
+
+last_is : (P : Network) (history : List Event) (f : ℕ) (scan : Scan) (tuple : List ℕ) → Reads P history f scan → Fits (dims_at P f) tuple → is_last scan (cell_from 0 (dims scan.sizes.now (scope_at P f)) tuple) ≡ (nat_lt (entry_at P f tuple) P.upper && not (is_cut history f (cell (dims_at P f) tuple)))
+last_is P history f scan tuple reads fits =
+    let same : cell_from 0 (dims scan.sizes.now (scope_at P f)) tuple ≡ cell (dims_at P f) tuple = ap (λ sizes. cell_from 0 (dims sizes (scope_at P f)) tuple) reads.sizes in
+    let c = cell (dims_at P f) tuple in
+    ap (is_last scan) same
+    ∙ ap (λ t. nat_lt (slice_index t c) scan.upper && not (slice_index_or scan.flags.now c false)) reads.table
+    ∙ ap (λ u. nat_lt (slice_index (function_at P f).entries c) u && not (slice_index_or scan.flags.now c false)) reads.upper
+    ∙ ap (λ b. nat_lt (entry_at P f tuple) P.upper && not b) (reads.flags c (cell-below (dims_at P f) tuple fits))
+
+-- what is met is picked, and what is picked is met
+pub picked : (P : Network) (history : List Event) (f i a : ℕ) (scan : Scan) (tuple : List ℕ) → Reads P history f scan → scan.place ≡ i → scan.value ≡ a → i < arity P f → IsMet scan (scope_at P f) start tuple → IsPicked P history f i a tuple
+picked P history f i a scan tuple reads place value l met =
+    let fits : Fits (dims_at P f) tuple = subst (λ sizes. Fits (dims sizes (scope_at P f)) tuple) reads.sizes met.fits in
+    let facts = met_facts scan history reads.live (scope_at P f) tuple start met.fits met.met in
+    let last = both (nat_lt (entry_at P f tuple) P.upper) (not (is_cut history f (cell (dims_at P f) tuple))) (sym (last_is P history f scan tuple reads fits) ∙ facts.2) in
+    record {
+      fits = fits;
+      value = facts.1 i l (omega (arith, place)) ∙ value;
+      live = join (all_live history (scope_at P f) tuple && nat_lt (entry_at P f tuple) P.upper) (not (is_cut history f (cell (dims_at P f) tuple))) (join (all_live history (scope_at P f) tuple) (nat_lt (entry_at P f tuple) P.upper) facts.0 last.0) last.1;
+    }
+
+pub met : (P : Network) (history : List Event) (f i a : ℕ) (scan : Scan) (tuple : List ℕ) → Reads P history f scan → scan.place ≡ i → scan.value ≡ a → IsPicked P history f i a tuple → IsMet scan (scope_at P f) start tuple
+met P history f i a scan tuple reads place value is =
+    let fits = subst (λ sizes. Fits (dims sizes (scope_at P f)) tuple) (sym reads.sizes) is.fits in
+    let b = both (all_live history (scope_at P f) tuple && nat_lt (entry_at P f tuple) P.upper) (not (is_cut history f (cell (dims_at P f) tuple))) is.live in
+    let d = both (all_live history (scope_at P f) tuple) (nat_lt (entry_at P f tuple) P.upper) b.0 in
+    record {
+      fits = fits;
+      met = facts_met scan history reads.live (scope_at P f) tuple start fits d.0
+          (λ j l e. (let there : j ≡ i = omega (arith, e, place) in ap (slice_index tuple) there ∙ is.value ∙ sym value))
+          (last_is P history f scan tuple reads is.fits ∙ join (nat_lt (entry_at P f tuple) P.upper) (not (is_cut history f (cell (dims_at P f) tuple))) d.1 b.1);
+    }
+
+some_places : (n : ℕ) (z : ℤ) → 0 < n → when (nat_lt 0 n) z ≡ z
+some_places n z l = (let yes : nat_lt 0 n ≡ true = grind (arith, l) in ap (λ t. when t z) yes)
+
+-- the word of a live tuple is its residual cost
+pub word_is : (P : Network) (history : List Event) (f i a : ℕ) (scan : Scan) (tuple : List ℕ) → Reads P history f scan → IsExact P history → i < arity P f → word_of scan (scope_at P f) start tuple < 2 ^ 64 → IsPicked P history f i a tuple → residual P history f tuple ≡ pos (word_of scan (scope_at P f) start tuple)
+word_is P history f i a scan tuple reads ex l small is =
+    let stands = word_stands P history f scan reads (scope_at P f) tuple 0 start (pos 0) (omega arith)
+    (λ j m. (let e : 0 + j ≡ j = omega arith in ap (slice_index (dims_at P f)) e ∙ get_or-dims P.sizes (scope_at P f) j m)) refl (omega arith)
+    (subst (λ sizes. Fits (dims sizes (scope_at P f)) tuple) (sym reads.sizes) is.fits) (itself 0) in
+    let entry : slice_index scan.table.now (cell_from 0 (dims scan.sizes.now (scope_at P f)) tuple) ≡ entry_at P f tuple =
+    ap (λ sizes. slice_index scan.table.now (cell_from 0 (dims sizes (scope_at P f)) tuple)) reads.sizes ∙ ap (λ t. slice_index t (cell (dims_at P f) tuple)) reads.table in
+    let sum = residual_is P history f tuple (all_in_range P history ex.range) is.fits in
+    let first = some_places (arity P f) (pos (entry_at P f tuple)) (omega (arith, l)) in
+    let same : (pos (slice_index scan.table.now (cell_from 0 (dims scan.sizes.now (scope_at P f)) tuple)) +ℤ neg_ℤ (pos 0 +ℤ along (shift history f) 0 tuple)) ≡ residual P history f tuple = omega (arith, ints, entry, sum, first) in
+    exact (word_of scan (scope_at P f) start tuple) (residual P history f tuple) (subst (StandsFor (word_of scan (scope_at P f) start tuple)) same stands) small
+    (ex.no_debts.residual f tuple reads.function is.fits is.live) (ex.small.residual f tuple reads.function is.fits is.live)
+
+bounded : (sense : Sense) (word other : ℕ) (cost : ℤ) → cost ≡ pos other → Before sense word other → Bounds sense word cost
+bounded Least word other cost e b = omega (arith, ints, e, b)
+bounded Greatest word other cost e b = omega (arith, ints, e, b)
+
+pub extreme : (P : Network) (history : List Event) (f i a : ℕ) (scan : Scan) (first : Option Found) → Reads P history f scan → scan.place ≡ i → scan.value ≡ a → IsExact P history → i < arity P f → ((rest : List ℕ) → word_of scan (scope_at P f) start rest < 2 ^ 64) → MatchOption first (NoneMet scan (scope_at P f) start) (IsFound scan (scope_at P f) start) → MatchOption first (NonePicked P history f i a) (IsExtreme P history f i a scan.sense)
+extreme P history f i a scan None reads place value ex l small none = λ tuple is. none tuple (met P history f i a scan tuple reads place value is)
+extreme P history f i a scan (Some found) reads place value ex l small is =
+    let this = picked P history f i a scan is.rest reads place value l is.met in
+    record {
+      tuple = is.rest;
+      picked = this;
+      cell_is = sym (ap (λ sizes. cell_from 0 (dims sizes (scope_at P f)) is.rest) reads.sizes) ∙ is.cell;
+      cost_is = word_is P history f i a scan is.rest reads ex l (small is.rest) this ∙ ap pos is.word;
+      bounds = λ other o. bounded scan.sense found.word (word_of scan (scope_at P f) start other) (residual P history f other) (word_is P history f i a scan other reads ex l (small other) o) (is.first other (met P history f i a scan other reads place value o));
+    }
+
+-- a word is one of 64 bits
+pub small_word : (scan : Scan) (scope : List ℕ) (spot : Spot) (rest : List ℕ) → word_of scan scope spot rest < 2 ^ 64
+small_word scan [] spot rest = omega arith
+small_word scan (x ∷ scope) spot [] = omega arith
+small_word scan (x ∷ scope) spot (v ∷ rest) = small_word scan scope _ rest
+
+-- what a state's parts let a scan read
+pub state_reads : (P : Network) (s : State) (f : ℕ) (scan : Scan) → f < length P.functions → Keeps P (history_of s) s → scan.sizes.now ≡ P.sizes → scan.table.now ≡ (function_at P f).entries → scan.upper ≡ P.upper → scan.live.now ≡ s.live → scan.flags.now ≡ row_at s.cuts.flags f → scan.shifts.now ≡ row_at s.sums.shifts f → Reads P (history_of s) f scan
+state_reads P s f scan there keeps sizes table upper live flags shifts = record {
+  function = there;
+  sizes = sizes;
+  table = table;
+  upper = upper;
+  live = λ x a. ap (λ (sets : Sets). is_live sets.history x a) live ∙ ap (λ h. is_live h x a) keeps.live ∙ live_by_removals (history_of s) x a;
+  flags = λ c l. ap (λ row. slice_index_or row c false) flags ∙ keeps.cuts.said f c (record { function = there; cell = l });
+  shifts = λ i a place. subst (λ row. StandsFor (slice_index row (offset (dims_at P f) i + a)) (shift (history_of s) f i a)) (sym shifts) (keeps.sums.shift f i a place);
+}

@@ -1,0 +1,16 @@
+pub mod Wrapping
+pub mod Shifting
+pub mod Debts
+pub mod Offsets
+pub mod Words
+pub mod Moving
+pub mod Along
+pub mod Roots
+pub mod Scans
+pub mod States
+pub mod Stores
+pub mod Readings
+pub mod Extremes
+pub mod Rooms
+pub mod Going
+pub mod Paths

@@ -1,0 +1,104 @@
+-- What a scan reads of a history: which tuples it meets, and that their words are their residual costs.
+use Rattle.std.proofs.Common.{◌≡◌, ℕ, suc, zero, ◌+◌, ◌-◌, ◌%◌, ◌<◌, ◌≤◌, ◌^◌, Bool, true, false, not, ◌&&◌, ◌||◌, List, [], ◌∷◌, length, refl, sym, ap, subst, ◌∙◌, inl, inr, arith}
+use Rattle.std.proofs.lemmas.Bool.{cases_eq}
+use Rattle.std.proofs.lemmas.Int.{ints}
+use Rattle.std.specs.Prelude.{ℤ, pos, neg_ℤ, ◌+ℤ◌, ◌==◌, slice_index, slice_index_or, nat_lt, IsTrue}
+use Rattle.cfn_model.specs.declared.step.Event.{Event}
+use Rattle.cfn_model.specs.Network.{Network, Fits, cells, cell_from, dims, dims_at, scope_at, arity, function_at}
+use Rattle.cfn_model.specs.Sums.{is_live, is_cut, all_live}
+use Rattle.cfn_model.specs.Steps.{IsPlace}
+use Rattle.cfn_model.proofs.CallerLemmas.{eqb_same, eqb_other}
+use Rattle.cfn_net.proofs.CallerLemmas.{length-dims}
+use Rattle.cfn_store.specs.Wrapped.{StandsFor}
+use Rattle.cfn_store.specs.Shifts.{shift, along, offset}
+use Rattle.cfn_store.specs.declared.scan.Scan.{Scan}
+use Rattle.cfn_store.specs.declared.scan.Spot.{Spot}
+use Rattle.cfn_store.specs.Scanning.{is_met, word_of, gone_on, may_stand}
+use Rattle.cfn_store.specs.Reading.{Reads}
+use Rattle.cfn_store.proofs.Wrapping.{sum_stands, difference_stands, itself}
+use Rattle.cfn_store.proofs.Offsets.{offset_next}
+
+both : (a b : Bool) → (a && b) ≡ true → (a ≡ true) × (b ≡ true)
+both true true h = (refl, refl)
+both true false h = cc
+both false b h = cc
+
+join : (a b : Bool) → a ≡ true → b ≡ true → (a && b) ≡ true
+join true true h k = refl
+join true false h k = cc
+join false b h k = cc
+
+other : (a b : Bool) → (not a || b) ≡ true → a ≡ true → b ≡ true
+other true b h e = h
+other false b h e = cc
+
+either : (a b : Bool) → (a ≡ true → b ≡ true) → (not a || b) ≡ true
+either true b h = h refl
+either false b h = refl
+
+same_number : (a b : ℕ) → (a == b) ≡ true → a ≡ b
+same_number a b h = elim (cases_eq a b) [
+  | inl e ↦ e
+  | inr e ↦ absurd (no (sym h ∙ eqb_other a b e))
+]
+  where
+    no : true ≡ false → ⊥
+    no e = cc
+
+-- the entry of a tuple is below the upper bound, and it is not cut
+abbrev pub is_last : Scan → ℕ → Bool
+is_last scan c = nat_lt (slice_index scan.table.now c) scan.upper && not (slice_index_or scan.flags.now c false)
+
+-- a tuple that is met has live values, the value that is asked for at its place, and is not cut
+pub met_facts : (scan : Scan) (history : List Event) → ((x a : ℕ) → is_live scan.live.now.history x a ≡ is_live history x a) → (scope rest : List ℕ) (spot : Spot) → Fits (dims scan.sizes.now scope) rest → is_met scan scope spot rest ≡ true →
+    (all_live history scope rest ≡ true) × ((j : ℕ) → j < length scope → spot.place + j ≡ scan.place → slice_index rest j ≡ scan.value) × (is_last scan (cell_from spot.cell (dims scan.sizes.now scope) rest) ≡ true)
+met_facts scan history live [] [] spot fits met = (refl, λ j l e. absurd (omega (arith, l)), met)
+met_facts scan history live [] (v ∷ rest) spot fits met = absurd fits
+met_facts scan history live (x ∷ scope) [] spot fits met = absurd fits
+met_facts scan history live (x ∷ scope) (v ∷ rest) spot fits met =
+    let next = gone_on scan spot (slice_index scan.sizes.now x) v in
+    let b = both (may_stand scan spot.place x v) (is_met scan scope next rest) met in
+    let d = both (is_live scan.live.now.history x v) (not (spot.place == scan.place) || (v == scan.value)) b.0 in
+    let r = met_facts scan history live scope rest next fits.1 b.1 in
+    (join (is_live history x v) (all_live history scope rest) (sym (live x v) ∙ d.0) r.0, at_each d.1 r.1, r.2)
+  where
+    at_each : (not (spot.place == scan.place) || (v == scan.value)) ≡ true → ((j : ℕ) → j < length scope → spot.place + 1 + j ≡ scan.place → slice_index rest j ≡ scan.value) → (j : ℕ) → j < length (x ∷ scope) → spot.place + j ≡ scan.place → slice_index (v ∷ rest) j ≡ scan.value
+    at_each asked later zero l e = same_number v scan.value (other (spot.place == scan.place) (v == scan.value) asked (eqb_same spot.place scan.place (omega (arith, e))))
+    at_each asked later (suc j) l e = later j (omega (arith, l)) (omega (arith, e))
+
+-- and such a tuple is met
+pub facts_met : (scan : Scan) (history : List Event) → ((x a : ℕ) → is_live scan.live.now.history x a ≡ is_live history x a) → (scope rest : List ℕ) (spot : Spot) → Fits (dims scan.sizes.now scope) rest → all_live history scope rest ≡ true → ((j : ℕ) → j < length scope → spot.place + j ≡ scan.place → slice_index rest j ≡ scan.value) → is_last scan (cell_from spot.cell (dims scan.sizes.now scope) rest) ≡ true → is_met scan scope spot rest ≡ true
+facts_met scan history live [] [] spot fits all at last = last
+facts_met scan history live [] (v ∷ rest) spot fits all at last = absurd fits
+facts_met scan history live (x ∷ scope) [] spot fits all at last = absurd fits
+facts_met scan history live (x ∷ scope) (v ∷ rest) spot fits all at last =
+    let next = gone_on scan spot (slice_index scan.sizes.now x) v in
+    let b = both (is_live history x v) (all_live history scope rest) all in
+    let here : (not (spot.place == scan.place) || (v == scan.value)) ≡ true = either (spot.place == scan.place) (v == scan.value) (λ e. eqb_same v scan.value (at 0 (omega arith) (let s = same_number spot.place scan.place e in omega (arith, s)))) in
+    join (may_stand scan spot.place x v) (is_met scan scope next rest)
+    (join (is_live scan.live.now.history x v) (not (spot.place == scan.place) || (v == scan.value)) (live x v ∙ b.0) here)
+    (facts_met scan history live scope rest next fits.1 b.1 (λ j l e. at (suc j) (omega (arith, l)) (omega (arith, e))) last)
+
+-- the word of a tuple stands for its entry less what was moved away along it
+pub word_stands : (P : Network) (history : List Event) (f : ℕ) (scan : Scan) → Reads P history f scan → (scope rest : List ℕ) (p : ℕ) (spot : Spot) (z : ℤ) → p + length scope ≡ arity P f → ((j : ℕ) → j < length scope → slice_index (dims_at P f) (p + j) ≡ slice_index P.sizes (slice_index scope j)) → spot.offset ≡ offset (dims_at P f) p → spot.shift < 2 ^ 64 → Fits (dims scan.sizes.now scope) rest → StandsFor spot.shift z →
+    StandsFor (word_of scan scope spot rest) (pos (slice_index scan.table.now (cell_from spot.cell (dims scan.sizes.now scope) rest)) +ℤ neg_ℤ (z +ℤ along (shift history f) p rest))
+word_stands P history f scan reads [] [] p spot z count sizes at small fits stands =
+    let same : neg_ℤ z ≡ neg_ℤ (z +ℤ pos 0) = omega (arith, ints) in
+    subst (λ y. StandsFor (word_of scan [] spot []) (pos (slice_index scan.table.now spot.cell) +ℤ y)) same (difference_stands (slice_index scan.table.now spot.cell) spot.shift (pos (slice_index scan.table.now spot.cell)) z small (itself (slice_index scan.table.now spot.cell)) stands)
+word_stands P history f scan reads [] (v ∷ rest) p spot z count sizes at small fits stands = absurd fits
+word_stands P history f scan reads (x ∷ scope) [] p spot z count sizes at small fits stands = absurd fits
+word_stands P history f scan reads (x ∷ scope) (v ∷ rest) p spot z count sizes at small fits stands =
+    let next = gone_on scan spot (slice_index scan.sizes.now x) v in
+    let within : p < arity P f = omega (arith, count) in
+    let size : slice_index (dims_at P f) p ≡ slice_index P.sizes x = (let plus : p ≡ p + 0 = omega arith in ap (slice_index (dims_at P f)) plus ∙ sizes 0 (omega arith)) in
+    let value : v < slice_index (dims_at P f) p = (let f0 = fits.0 in let s = ap (λ l. slice_index l x) reads.sizes in omega (arith, f0, s, size)) in
+    let word = reads.shifts p v (record { function = reads.function; place = within; value = value }) in
+    let moved : slice_index scan.shifts.now (spot.offset + v) ≡ slice_index scan.shifts.now (offset (dims_at P f) p + v) = ap (λ n. slice_index scan.shifts.now (n + v)) at in
+    let sum = sum_stands spot.shift (slice_index scan.shifts.now (spot.offset + v)) z (shift history f p v) stands (subst (λ n. StandsFor n (shift history f p v)) (sym moved) word) in
+    let r = word_stands P history f scan reads scope rest (p + 1) next (z +ℤ shift history f p v) (omega (arith, count))
+    (λ j l. (let e : p + 1 + j ≡ p + suc j = omega arith in ap (slice_index (dims_at P f)) e ∙ sizes (suc j) (omega (arith, l))))
+    (let n = offset_next (dims_at P f) p (omega (arith, within, length-dims P.sizes (scope_at P f))) in let s = ap (λ l. slice_index l x) reads.sizes in omega (arith, at, n, s, size))
+    (omega arith) fits.1 sum in
+    let one : p + 1 ≡ suc p = omega arith in
+    let same : ((z +ℤ shift history f p v) +ℤ along (shift history f) (p + 1) rest) ≡ (z +ℤ along (shift history f) p (v ∷ rest)) = (let e = ap (λ n. along (shift history f) n rest) one in omega (arith, ints, e)) in
+    subst (λ y. StandsFor (word_of scan scope next rest) (pos (slice_index scan.table.now (cell_from next.cell (dims scan.sizes.now scope) rest)) +ℤ neg_ℤ y)) same r

@@ -1,0 +1,12 @@
+use Rattle.std.proofs.Common.{◌≡◌, ◌+◌, ◌-◌, ◌%◌, ◌^◌, ◌<◌, length, arith, refl, ap, set}
+use Rattle.std.proofs.lemmas.List.{get_or_read}
+use Rattle.std.specs.Prelude.{slice_index}
+use Rattle.cfn_store.specs.Sums.{lifted_word}
+use Rattle.cfn_store.proofs.Moving.{lifts_down}
+use Rattle.cfn_store.proofs.sums.Sums.sink.Goals as goal
+
+pub returns : goal.returns
+returns c = λ P shape there.
+    (let read : c.index.result.now ≡ lifted_word c.args.self.now c.args.x = get_or_read c.args.self.now.lifted.items c.args.x c.index.result.now (omega (arith, there, shape.lifted)) c.index.ensures 0 in
+    let e = c.from.ensures in
+    lifts_down P c.args.self.now _ c.args.x c.args.amount shape there c.ranges.amount.fits c.requires.floor (omega (arith, e)) refl refl (ap (λ w. set c.args.self.now.lifted.items c.args.x ((w + (2 ^ 64 - c.args.amount)) % 2 ^ 64)) read))

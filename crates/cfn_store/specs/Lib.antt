@@ -1,0 +1,14 @@
+pub mod Wrapped
+pub mod Shifts
+pub mod Exact
+pub mod Events
+pub mod Standing
+pub mod Rooms
+pub mod Marking
+pub mod Sums
+pub mod Cutting
+pub mod Scanning
+pub mod Reading
+pub mod Extremes
+pub mod State
+pub mod Kept

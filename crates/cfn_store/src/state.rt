@@ -1,0 +1,289 @@
+//! The events along a path, and what they make of the network: each is undone as it was made.
+
+ghost use Rattle.std.specs.Prelude.{◌≡◌, ℕ, ◌<◌, ◌≤◌, ◌^◌, take, reverse, List, [], ◌∷◌, ◌++◌, length, IfOk, OnErr, OnOk, MatchOption};
+ghost use Rattle.cfn_model.specs.declared.step.Event.{Event as PathEvent};
+ghost use Rattle.cfn_model.specs.declared.step.Event.TheVariants.{Did};
+ghost use Rattle.cfn_model.specs.Sums.{lifted};
+ghost use Rattle.cfn_model.specs.Steps.{InRange, IsPlace};
+ghost use Rattle.cfn_store.specs.Extremes.{NonePicked, IsExtreme};
+ghost use Rattle.cfn_store.specs.Reading.{Reads, start};
+ghost use Rattle.cfn_store.specs.Scanning.{IsSpot};
+ghost use Rattle.cfn_model.specs.Network.{scope_at};
+ghost use Rattle.cfn_store.specs.Exact.{InPlace, IsExact, IsExactAlong};
+ghost use Rattle.cfn_store.specs.State.{Keeps, IsState, HasRoom, history_of};
+
+use crate::cuts::Cuts;
+use crate::scan::{Found, Scan, Sense, Spot};
+use crate::sums::Sums;
+use cfn_live::LiveSets;
+use cfn_model::{Event, Step};
+use cfn_net::Network;
+use std::alloc::{AllocError, Global};
+
+/// A path of more events has no room in any memory.
+const MOST_EVENTS: usize = 1 << 56;
+
+#[derive(Drop)]
+pub(crate) struct State {
+    pub(crate) sums: Sums,
+    pub(crate) live: LiveSets,
+    pub(crate) cuts: Cuts,
+    /// The events, the oldest first.
+    pub(crate) trail: Vec<Event>,
+}
+
+impl State {
+    /// No event yet. An `Err` is want of memory.
+    pub(crate) fn at_root(alloc: Global, network: &Network) -> Result<State, AllocError>
+        ensures state { IfOk result (IsState network.now) }
+        ensures trail { IfOk result (λ state. state.trail.items ≡ []) }
+    {
+        network.limits();
+        Ok(State {
+            sums: Sums::at_root(alloc, network)?,
+            live: LiveSets::make(alloc, network.sizes())?,
+            cuts: Cuts::at_root(alloc, network)?,
+            trail: Vec::new(alloc),
+        })
+    }
+
+    /// Makes room for so many events in all. An `Err` is want of memory.
+    pub(crate) fn reserve(&mut self, network: &Network, room: usize) -> Result<(), AllocError>
+        requires { IsState network.now self.old }
+        ensures state { IsState network.now self.new }
+        ensures trail { self.new.trail.items ≡ self.old.trail.items }
+        ensures ok { OnOk result (HasRoom room self.new) }
+        ensures before { (less : ℕ) → HasRoom less self.old → HasRoom less self.new }
+    {
+        if room > MOST_EVENTS {
+            return Err(AllocError);
+        }
+        self.live.reserve(room)?;
+        self.cuts.fresh.reserve(room)?;
+        self.trail.reserve(room)
+    }
+
+    /// The least, or the greatest, residual cost of the live tuples of `f` with `value` at `place`.
+    pub(crate) fn first(
+        &self,
+        network: &Network,
+        f: u32,
+        place: u32,
+        value: u32,
+        sense: Sense,
+    ) -> Option<Found>
+        requires state { IsState network.now self.now }
+        requires place { IsPlace network.now f place value }
+        ensures { MatchOption result (NonePicked network.now (history_of self.now) f place value)
+            (IsExtreme network.now (history_of self.now) f place value sense) }
+    {
+        let scan = self.scan(network, f, place, value, sense);
+        let start = Spot {
+            cell: 0,
+            shift: 0,
+            offset: 0,
+            place: 0,
+        };
+        scan.first(network.scope(f), start)
+    }
+
+    /// The scan over the tuples of `f` with `value` at `place`.
+    fn scan<'a>(
+        &'a self,
+        network: &'a Network,
+        f: u32,
+        place: u32,
+        value: u32,
+        sense: Sense,
+    ) -> Scan<'a>
+        requires state { IsState network.now self.now }
+        requires place { IsPlace network.now f place value }
+        ensures reads { Reads network.now (history_of self.now) f result }
+        ensures place { result.place ≡ place }
+        ensures value { result.value ≡ value }
+        ensures sense { result.sense ≡ sense }
+        ensures spot { IsSpot result (scope_at network.now f) start }
+    {
+        network.limits();
+        let _ = network.scope(f);
+        Scan {
+            sizes: network.sizes(),
+            table: network.table(f),
+            shifts: self.sums.shifts.row(f as usize),
+            flags: self.cuts.flags.row(f as usize),
+            live: &self.live,
+            upper: network.ub(),
+            place: place as usize,
+            value,
+            sense,
+        }
+    }
+
+    /// Goes on by an event.
+    pub(crate) fn enter(&mut self, network: &Network, event: Event)
+        requires state { IsState network.now self.old }
+        requires exact { IsExact network.now (event ∷ history_of self.old) }
+        requires room { (room : ℕ) × HasRoom room self.old × (length self.old.trail.items < room) }
+        ensures state { IsState network.now self.new }
+        ensures trail { self.new.trail.items ≡ self.old.trail.items ++ event ∷ [] }
+        ensures room { (room : ℕ) → HasRoom room self.old → HasRoom room self.new }
+    {
+        known(event);
+        self.change(network, event);
+        self.trail.push_reserved(event);
+    }
+
+    /// Goes back by the newest event.
+    pub(crate) fn leave(&mut self, network: &Network)
+        requires state { IsState network.now self.old }
+        requires some { 0 < length self.old.trail.items }
+        ensures state { IsState network.now self.new }
+        ensures trail { (event : PathEvent) × (self.old.trail.items ≡ self.new.trail.items ++ event ∷ []) }
+        ensures room { (room : ℕ) → HasRoom room self.old → HasRoom room self.new }
+    {
+        if let Some(event) = self.trail.pop() {
+            self.change_back(network, event);
+        }
+    }
+
+    /// Goes back until so many events are left.
+    pub(crate) fn go_back(&mut self, network: &Network, events: usize)
+        requires state { IsState network.now self.old }
+        requires fewer { events ≤ length self.old.trail.items }
+        ensures state { IsState network.now self.new }
+        ensures trail { self.new.trail.items ≡ take events self.old.trail.items }
+        ensures room { (room : ℕ) → HasRoom room self.old → HasRoom room self.new }
+    {
+        while self.trail.len() > events {
+            self.leave(network);
+        }
+    }
+
+    /// Goes on by events, from the first that it has not made.
+    pub(crate) fn go_on(&mut self, network: &Network, events: &[Event])
+        requires state { IsState network.now self.old }
+        requires made { self.old.trail.items ≡ take (length self.old.trail.items) events.now }
+        requires within { length self.old.trail.items ≤ length events.now }
+        requires exact { IsExactAlong network.now (reverse events.now) }
+        requires room { (room : ℕ) × HasRoom room self.old × (length events.now ≤ room) }
+        ensures state { IsState network.now self.new }
+        ensures trail { self.new.trail.items ≡ events.now }
+        ensures room { (room : ℕ) → HasRoom room self.old → HasRoom room self.new }
+    {
+        let made = self.trail.len();
+        for i in made..events.len() {
+            self.enter(network, events[i]);
+        }
+    }
+
+    /// Makes an event's changes.
+    fn change(&mut self, network: &Network, event: Event)
+        requires state { IsState network.now self.old }
+        requires exact { IsExact network.now (event ∷ history_of self.old) }
+        requires room { (room : ℕ) × HasRoom room self.old × (length self.old.trail.items < room) }
+        ensures keeps { Keeps network.now (event ∷ history_of self.old) self.new }
+        ensures trail { self.new.trail ≡ self.old.trail }
+        ensures room { (room : ℕ) → HasRoom room self.old → HasRoom room self.new }
+    {
+        match event {
+            Event::Did(step) => self.make(network, step),
+            Event::Took(decision) => self.live.take(decision),
+            Event::Refused(decision) => self.live.refuse(decision),
+        }
+    }
+
+    /// Undoes an event's changes.
+    fn change_back(&mut self, network: &Network, event: Event)
+        requires place { InPlace network.now event }
+        requires keeps { (history : List PathEvent) × Keeps network.now (event ∷ history) self.old }
+        ensures keeps { (history : List PathEvent) → Keeps network.now (event ∷ history) self.old → Keeps network.now history self.new }
+        ensures trail { self.new.trail ≡ self.old.trail }
+        ensures room { (room : ℕ) → HasRoom room self.old → HasRoom room self.new }
+    {
+        match event {
+            Event::Did(step) => self.unmake(network, step),
+            Event::Took(_) | Event::Refused(_) => self.live.undo(),
+        }
+    }
+
+    /// Makes a step's changes.
+    fn make(&mut self, network: &Network, step: Step)
+        requires state { IsState network.now self.old }
+        requires exact { IsExact network.now (Did step ∷ history_of self.old) }
+        requires room { (room : ℕ) × HasRoom room self.old × (length self.old.trail.items < room) }
+        ensures keeps { Keeps network.now (Did step ∷ history_of self.old) self.new }
+        ensures trail { self.new.trail ≡ self.old.trail }
+        ensures room { (room : ℕ) → HasRoom room self.old → HasRoom room self.new }
+    {
+        network.limits();
+        match step {
+            Step::Project {
+                function,
+                place,
+                value,
+                amount,
+            } => self.sums.give(network, function, place, value, amount),
+            Step::Extend {
+                function,
+                place,
+                value,
+                amount,
+            } => self.sums.take(network, function, place, value, amount),
+            Step::Lift { variable, amount } => self.sums.lift(variable, amount),
+            Step::CutValue { variable, value } => self.live.cut(variable, value),
+            Step::CutTuple { function, cell } => self.cuts.cut(function, cell),
+        }
+    }
+
+    /// Undoes a step's changes.
+    fn unmake(&mut self, network: &Network, step: Step)
+        requires range { InRange network.now step }
+        requires keeps { (history : List PathEvent) × Keeps network.now (Did step ∷ history) self.old }
+        ensures keeps { (history : List PathEvent) → Keeps network.now (Did step ∷ history) self.old → Keeps network.now history self.new }
+        ensures trail { self.new.trail ≡ self.old.trail }
+        ensures room { (room : ℕ) → HasRoom room self.old → HasRoom room self.new }
+    {
+        match step {
+            Step::Project {
+                function,
+                place,
+                value,
+                amount,
+            } => self.sums.take(network, function, place, value, amount),
+            Step::Extend {
+                function,
+                place,
+                value,
+                amount,
+            } => self.sums.give(network, function, place, value, amount),
+            Step::Lift { variable, amount } => self.sums.sink(variable, amount),
+            Step::CutValue { .. } => self.live.undo(),
+            Step::CutTuple { function, cell } => self.cuts.undo(function, cell),
+        }
+    }
+}
+
+/// What an event lifts is a number of 64 bits.
+fn known(event: Event)
+    ensures { lifted event < 2 ^ 64 }
+{
+    match event {
+        Event::Did(step) => match step {
+            Step::Project { .. } | Step::Extend { .. } | Step::Lift { .. } => {}
+            Step::CutValue { .. } | Step::CutTuple { .. } => {}
+        },
+        Event::Took(_) | Event::Refused(_) => {}
+    }
+}
+
+/// How many events two paths have in common from the root on.
+pub(crate) fn in_common(events: &[Event], others: &[Event]) -> usize
+    ensures within { (result ≤ length events.now) × (result ≤ length others.now) }
+    ensures same { take result events.now ≡ take result others.now }
+{
+    let mut common = 0;
+    while common < events.len() && common < others.len() && events[common] == others[common] {
+        common += 1;
+    }
+    common
+}

@@ -1,0 +1,398 @@
+//! The store: what a path makes of a network, step by step and back.
+
+ghost use Rattle.std.specs.Prelude.{◌≡◌, ℕ, ◌+◌, ◌-◌, ◌<◌, ◌≤◌, List, [], ◌∷◌, ◌++◌, length, reverse, slice_index, pos, IsTrue, IfOk, OnOk, OnErr, MatchOption};
+ghost use Rattle.cfn_model.specs.declared.step.Step.TheVariants.{Project, Extend, Lift, CutValue, CutTuple};
+ghost use Rattle.cfn_model.specs.declared.step.Event.{Event as PathEvent};
+ghost use Rattle.cfn_model.specs.declared.step.Event.TheVariants.{Did, Took, Refused};
+ghost use Rattle.cfn_model.specs.Network.{Fits, cell, dims_at};
+ghost use Rattle.cfn_model.specs.Sums.{floor, unary, residual, is_live, is_live_tuple};
+ghost use Rattle.cfn_model.specs.Steps.{IsValue, IsCell, IsPlace, IsDecision};
+ghost use Rattle.cfn_model.specs.Paths.{RunsAlong, TameAlong};
+ghost use Rattle.cfn_model.specs.Text.{IsSpelledStep};
+ghost use Rattle.cfn_store.specs.Exact.{IsExact, IsExactAlong};
+ghost use Rattle.cfn_live.specs.Sets.{AreLive, live_count};
+ghost use Rattle.cfn_store.specs.declared.scan.Sense.TheVariants.{Least, Greatest};
+ghost use Rattle.cfn_store.specs.Extremes.{NonePicked, IsExtreme};
+ghost use Rattle.cfn_store.specs.Rooms.{sets_of, IsProjectRoom, IsExtendRoom, IsLiftRoom, IsAbove, IsToExtend};
+ghost use Rattle.cfn_store.specs.Marking.{IsMark, IsBehind, back_at};
+ghost use Rattle.cfn_store.specs.Standing.{history, at_root, with_step, with_side, FitsProject, FitsExtend, FitsLift};
+
+use crate::block::block_from;
+use crate::mark::Mark;
+use crate::scan::{Found, Sense};
+use crate::state::{State, in_common};
+use cfn_model::{Decision, Event, GREATEST, Step};
+use cfn_net::Network;
+use cfn_proof::{Block, Path};
+use std::alloc::{AllocError, Global};
+use std::marker::Model;
+
+/// What the events along a path make of a network: the floor, the unary and residual costs, and what is live. Contracts
+/// see the network, the events up to the newest decision, the steps since, and for how many more there is room.
+///
+/// Only `build`, `reserve`, `replay` and `block` take memory. Costs of what is dead are kept modulo 2^64.
+#[derive(Drop)]
+pub struct Store<'n> {
+    network: &'n Network,
+    state: State,
+    /// How many events stand before the steps since the newest decision.
+    base: usize,
+    /// For how many events there is room in all.
+    room: usize,
+}
+
+impl<'n> Model for Store<'n> {
+    ghost use Rattle.std.specs.Prelude.{◌-◌, length, reverse, take, drop};
+    ghost use Rattle.cfn_live.specs.Sets.{AreLive, live_count};
+    ghost use Rattle.cfn_store.specs.declared.scan.Sense.TheVariants.{Least, Greatest};
+    ghost use Rattle.cfn_store.specs.Extremes.{NonePicked, IsExtreme};
+    ghost use Rattle.cfn_store.specs.Rooms.{sets_of, IsProjectRoom, IsExtendRoom, IsLiftRoom, IsAbove, IsToExtend};
+    ghost use Rattle.cfn_store.specs.Standing.{Standing};
+    ghost use Rattle.cfn_store.specs.Events.{steps_in};
+    ghost use Rattle.cfn_store.specs.Kept.{IsStore};
+
+    ghost Value = { Standing };
+
+    ghost view = { λ s. record {
+      network = s.network.now;
+      base = reverse (take s.base s.state.trail.items);
+      block = steps_in (drop s.base s.state.trail.items);
+      spare = s.room - length s.state.trail.items;
+    } };
+
+    ghost invariant = { λ s. IsStore s.network.now s.base s.room s.state };
+}
+
+impl<'n> Store<'n> {
+    /// The store of a network at its root, with room for no step. An `Err` is want of memory.
+    pub fn build(alloc: Global, network: &'n Network) -> Result<Store<'n>, AllocError>
+        ensures { IfOk result (λ store. store ≡ at_root network.now) }
+    {
+        Ok(Store {
+            network,
+            state: State::at_root(alloc, network)?,
+            base: 0,
+            room: 0,
+        })
+    }
+
+    /// Makes room for `turns` steps and decisions. An `Err`, want of memory, leaves all as it was.
+    pub fn reserve(&mut self, turns: usize) -> Result<(), AllocError>
+        ensures network { self.new.network ≡ self.old.network }
+        ensures base { self.new.base ≡ self.old.base }
+        ensures block { self.new.block ≡ self.old.block }
+        ensures ok { OnOk result (turns ≤ self.new.spare) }
+        ensures more { self.old.spare ≤ self.new.spare }
+    {
+        let room = self.state.trail.len().checked_add(turns).ok_or(AllocError)?;
+        if self.room < room {
+            self.state.reserve(self.network, room)?;
+            self.room = room;
+        }
+        Ok(())
+    }
+
+    /// Moves an amount from each tuple of `f` with `value` at `place` to that value's unary cost (Cooper et al. 2010,
+    /// project).
+    pub fn project(&mut self, f: u32, place: u32, value: u32, amount: u64)
+        requires room { 0 < self.old.spare }
+        requires fits { FitsProject self.old f place value amount }
+        ensures { self.new ≡ with_step self.old (Project f place value amount) }
+    {
+        self.exact();
+        self.make(Step::Project {
+            function: f,
+            place,
+            value,
+            amount,
+        });
+    }
+
+    /// Moves an amount from a value's unary cost to each tuple of `f` with it at `place` (extend).
+    pub fn extend(&mut self, f: u32, place: u32, value: u32, amount: u64)
+        requires room { 0 < self.old.spare }
+        requires fits { FitsExtend self.old f place value amount }
+        ensures { self.new ≡ with_step self.old (Extend f place value amount) }
+    {
+        self.exact();
+        self.make(Step::Extend {
+            function: f,
+            place,
+            value,
+            amount,
+        });
+    }
+
+    /// Moves an amount from the unary cost of each value of `x` to the floor (unary project).
+    pub fn lift(&mut self, x: u32, amount: u64)
+        requires room { 0 < self.old.spare }
+        requires fits { FitsLift self.old x amount }
+        ensures { self.new ≡ with_step self.old (Lift x amount) }
+    {
+        self.exact();
+        self.make(Step::Lift {
+            variable: x,
+            amount,
+        });
+    }
+
+    /// Takes a value from its variable.
+    pub fn cut_value(&mut self, x: u32, value: u32)
+        requires room { 0 < self.old.spare }
+        requires value { IsValue self.old.network x value }
+        ensures { self.new ≡ with_step self.old (CutValue x value) }
+    {
+        self.exact();
+        self.make(Step::CutValue { variable: x, value });
+    }
+
+    /// Takes a tuple from its function.
+    pub fn cut_tuple(&mut self, f: u32, cell: u32)
+        requires room { 0 < self.old.spare }
+        requires cell { IsCell self.old.network f cell }
+        ensures { self.new ≡ with_step self.old (CutTuple f cell) }
+    {
+        self.exact();
+        self.make(Step::CutTuple { function: f, cell });
+    }
+
+    /// Goes to the first side of a split, where the decision holds.
+    pub fn take(&mut self, decision: Decision)
+        requires room { 0 < self.old.spare }
+        requires decision { IsDecision self.old.network decision }
+        ensures { self.new ≡ with_side self.old (Took decision) }
+    {
+        self.exact();
+        self.turn(Event::Took(decision));
+    }
+
+    /// Goes to the second side of a split, where the decision fails.
+    pub fn refuse(&mut self, decision: Decision)
+        requires room { 0 < self.old.spare }
+        requires decision { IsDecision self.old.network decision }
+        ensures { self.new ≡ with_side self.old (Refused decision) }
+    {
+        self.exact();
+        self.turn(Event::Refused(decision));
+    }
+
+    /// The network that the store was built from.
+    pub fn network(&self) -> &'n Network
+        ensures { result.now ≡ self.now.network }
+    {
+        self.network
+    }
+
+    /// How many steps were made since the newest decision or replay.
+    pub fn block_len(&self) -> usize
+        ensures { result ≡ length self.now.block }
+    {
+        self.state.trail.len() - self.base
+    }
+
+    /// The steps since the newest decision or replay, as a block. An `Err` is want of memory.
+    pub fn block(&self, alloc: Global) -> Result<Block, AllocError>
+        ensures { IfOk result (λ block. block ≡ self.now.block) }
+    {
+        block_from(alloc, &self.state.trail, self.base)
+    }
+
+    /// The floor: a lower bound on the cost of every assignment that agrees with the decisions.
+    pub fn floor(&self) -> u128
+        ensures { result ≡ floor self.now.network (history self.now) }
+    {
+        self.state.sums.floor
+    }
+
+    /// The unary cost of a value; of one that is not live it is modulo 2^64.
+    pub fn unary(&self, x: u32, value: u32) -> u64
+        requires { IsValue self.now.network x value }
+        ensures { IsTrue (is_live (history self.now) x value) → pos result ≡ unary self.now.network (history self.now) x value }
+    {
+        self.exact();
+        self.state.sums.unary(x, value)
+    }
+
+    /// Whether a value is live.
+    pub fn is_live(&self, x: u32, value: u32) -> bool
+        requires { IsValue self.now.network x value }
+        ensures { result ≡ is_live (history self.now) x value }
+    {
+        self.state.live.is_live(x, value)
+    }
+
+    /// How many values of a variable are live.
+    pub fn count(&self, x: u32) -> u32
+        requires { x < length self.now.network.sizes }
+        ensures { result ≡ live_count (sets_of self.now) x }
+    {
+        self.state.live.count(x)
+    }
+
+    /// The live values of a variable, each once, in any order.
+    pub fn live(&self, x: u32) -> &[u32]
+        requires { x < length self.now.network.sizes }
+        ensures { AreLive (sets_of self.now) x result.now }
+    {
+        self.state.live.live(x)
+    }
+
+    /// The least residual cost of the live tuples of `f` with `value` at `place`, and a tuple that has it. There is none
+    /// exactly where no such tuple is live.
+    pub fn least_residual(&self, f: u32, place: u32, value: u32) -> Option<Found>
+        requires { IsPlace self.now.network f place value }
+        ensures { MatchOption result (NonePicked self.now.network (history self.now) f place value)
+            (IsExtreme self.now.network (history self.now) f place value Least) }
+    {
+        self.state
+            .first(self.network, f, place, value, Sense::Least)
+    }
+
+    /// The greatest residual cost of these tuples.
+    pub fn greatest_residual(&self, f: u32, place: u32, value: u32) -> Option<Found>
+        requires { IsPlace self.now.network f place value }
+        ensures { MatchOption result (NonePicked self.now.network (history self.now) f place value)
+            (IsExtreme self.now.network (history self.now) f place value Greatest) }
+    {
+        self.state
+            .first(self.network, f, place, value, Sense::Greatest)
+    }
+
+    /// The greatest amount that can be projected there, limited to what has a spelling and keeps costs below 2^64; 0 where
+    /// none can.
+    pub fn project_room(&self, f: u32, place: u32, value: u32) -> u64
+        requires { IsPlace self.now.network f place value }
+        ensures { IsProjectRoom self.now f place value result }
+    {
+        self.network().limits();
+        let least = match self.least_residual(f, place, value) {
+            Some(found) => found.word,
+            None => GREATEST,
+        };
+        let x = self.network().scope(f)[place as usize];
+        GREATEST.min(least).min(self.above(x, value))
+    }
+
+    /// The greatest amount that can be extended there, with the same limits; 0 where none can.
+    pub fn extend_room(&self, f: u32, place: u32, value: u32) -> u64
+        requires { IsPlace self.now.network f place value }
+        ensures { IsExtendRoom self.now f place value result }
+    {
+        self.network().limits();
+        let above = match self.greatest_residual(f, place, value) {
+            Some(found) => u64::MAX - found.word,
+            None => GREATEST,
+        };
+        let x = self.network().scope(f)[place as usize];
+        GREATEST.min(above).min(self.least_unary(x, value))
+    }
+
+    /// The greatest amount that can be lifted from a variable, limited to what has a spelling; 0 where none can.
+    pub fn lift_room(&self, x: u32) -> u64
+        requires { x < length self.now.network.sizes }
+        ensures { IsLiftRoom self.now x result }
+    {
+        let mut room = GREATEST;
+        for value in self.live(x) {
+            room = room.min(self.unary(x, *value));
+        }
+        room
+    }
+
+    /// What a live value's unary cost has above it, below 2^64.
+    fn above(&self, x: u32, value: u32) -> u64
+        requires { IsValue self.now.network x value }
+        ensures { IsAbove self.now x value result }
+    {
+        if self.is_live(x, value) {
+            u64::MAX - self.unary(x, value)
+        } else {
+            GREATEST
+        }
+    }
+
+    /// What a value has to extend, as much as has a spelling where it is not live.
+    fn least_unary(&self, x: u32, value: u32) -> u64
+        requires { IsValue self.now.network x value }
+        ensures { IsToExtend self.now x value result }
+    {
+        if self.is_live(x, value) {
+            self.unary(x, value)
+        } else {
+            GREATEST
+        }
+    }
+
+    /// Goes from wherever the store stands to the end of a path: back to where the two part, and on from there. An `Err`,
+    /// want of memory, leaves all as it was but for room.
+    pub fn replay(&mut self, path: &Path) -> Result<(), AllocError>
+        requires runs { (k : ℕ) × RunsAlong self.old.network path.now k }
+        requires tame { TameAlong self.old.network path.now }
+        ensures network { self.new.network ≡ self.old.network }
+        ensures ok { OnOk result ((self.new.base ≡ path.now) × (self.new.block ≡ [])) }
+        ensures err { OnErr result ((self.new.base ≡ self.old.base) × (self.new.block ≡ self.old.block)) }
+    {
+        self.network().limits();
+        self.reserve(path.events().len())?;
+        self.go_along(path.events());
+        Ok(())
+    }
+
+    /// Goes to the end of events, where there is room for all of them.
+    fn go_along(&mut self, events: &[Event])
+        requires exact { IsExactAlong self.old.network (reverse events.now) }
+        requires room { length events.now ≤ self.old.spare }
+        ensures network { self.new.network ≡ self.old.network }
+        ensures base { self.new.base ≡ reverse events.now }
+        ensures block { self.new.block ≡ [] }
+    {
+        let common = in_common(&self.state.trail, events);
+        self.state.go_back(self.network, common);
+        self.state.go_on(self.network, events);
+        self.base = self.state.trail.len();
+    }
+
+    /// Where the store stands. It takes no memory.
+    pub fn mark(&self) -> Mark<'n>
+        ensures { result ≡ self.now }
+    {
+        Mark::of(self, self.state.trail.len(), self.base)
+    }
+
+    /// Goes back to a mark: all is as it was there, what is live included. It takes no memory.
+    pub fn undo(&mut self, mark: &Mark<'n>)
+        requires { IsBehind mark.now self.old }
+        ensures { self.new ≡ back_at mark.now self.old }
+    {
+        let (events, base) = mark.places();
+        self.state.go_back(self.network, events);
+        self.base = base;
+    }
+
+    /// Costs of what is live are exact along the path.
+    pub fn exact(&self)
+        ensures { IsExactAlong self.now.network (history self.now) }
+    {
+        let _ = &self.state;
+    }
+
+    /// Goes on by a step.
+    fn make(&mut self, step: Step)
+        requires room { 0 < self.old.spare }
+        requires exact { IsExact self.old.network (Did step ∷ history self.old) }
+        requires spelled { IsSpelledStep step }
+        ensures { self.new ≡ with_step self.old step }
+    {
+        self.state.enter(self.network, Event::Did(step));
+    }
+
+    /// Goes to a side of a split.
+    fn turn(&mut self, side: Event)
+        requires room { 0 < self.old.spare }
+        requires exact { IsExact self.old.network (side ∷ history self.old) }
+        ensures { self.new ≡ with_side self.old side }
+    {
+        self.state.enter(self.network, side);
+        self.base = self.state.trail.len();
+    }
+}
