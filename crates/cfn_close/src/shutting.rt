@@ -138,7 +138,7 @@ fn amount_of(store: &Store<'_>, k: u64, f: u32, a: u32) -> u64
     ensures { IsAmount store.now.network (history store.now) f a k result }
 {
     match store.least_residual(f, 0, a) {
-        Some(found) => found.word.min(k),
+        Some(found) => found.cost.min(k),
         None => k,
     }
 }

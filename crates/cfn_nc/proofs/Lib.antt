@@ -2,3 +2,4 @@ pub mod Stepping
 pub mod Lifting
 pub mod Cutting
 pub mod Reading
+pub mod CallerLemmas

@@ -17,7 +17,7 @@ use Rattle.cfn_nc.specs.Passes.{HasLive, IsLeast, HasRoom, IsLifting}
 use Rattle.cfn_nc.proofs.Stepping.{history_step, adds_step}
 
 -- each live value has at least the least
-at_least : (a m : ℕ) (z : ℤ) → a ≤ m → pos m ≤ℤ z → pos a ≤ℤ z
+pub at_least : (a m : ℕ) (z : ℤ) → a ≤ m → pos m ≤ℤ z → pos a ≤ℤ z
 at_least a m z le h = omega (arith, ints, h)
 
 pub can_lift : (P : Network) (history : List Event) (x m amount : ℕ) → x < length P.sizes → IsLeast P history x m → amount ≤ m → CanLift P history x amount
@@ -83,7 +83,7 @@ lift_some before s k limit x m lacks l there least some sum short less =
 pub lift_to_threshold : (s : Standing) (k x lacks : ℕ) → floor s.network (history s) + lacks ≡ k → IsDead s.network (history (with_step s (Lift x lacks))) k
 lift_to_threshold s k x lacks sum = inl (let is = ap (floor s.network) (history_step s (Lift x lacks)) in omega (arith, is, sum))
 
-no_less : (m : ℕ) (u : ℤ) → 0 < m → pos m ≤ℤ u → u ≡ pos 0 → ⊥
+pub no_less : (m : ℕ) (u : ℤ) → 0 < m → pos m ≤ℤ u → u ≡ pos 0 → ⊥
 no_less m u some le none = absurd (omega (arith, ints, le, none))
 
 not_both : (b : Bool) → b ≡ true → b ≡ false → ⊥

@@ -20,7 +20,7 @@ pub record IsLeastTo (s : Standing) (x : ℕ) (values : List ℕ) (i least : ℕ
   pub cost : unary s.network (history s) x value ≡ pos least
   pub most : (j : ℕ) → j < i → pos least ≤ℤ unary s.network (history s) x (slice_index values j)
 
-value_at : (s : Standing) (x : ℕ) (values : List ℕ) (j : ℕ) → AreLive (sets_of s) x values → j < length values → IsValue s.network x (slice_index values j)
+pub value_at : (s : Standing) (x : ℕ) (values : List ℕ) (j : ℕ) → AreLive (sets_of s) x values → j < length values → IsValue s.network x (slice_index values j)
 value_at s x values j are h = let v = (are.live j h).0 in record { variable = v.variable; value = v.value }
 
 which : (a b : ℕ) → (a ≤ b) ⊎ (b ≤ a)

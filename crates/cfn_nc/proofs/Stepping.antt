@@ -9,11 +9,11 @@ use Rattle.cfn_consistency.specs.Groups.{GainsAtNode, GainAtNodes}
 use Rattle.cfn_store.specs.Standing.{Standing, history, with_step}
 use Rattle.cfn_nc.specs.Settling.{AddsSteps}
 
-after_append : (first second : List Step) (history : List Event) → after (first ++ second) history ≡ after second (after first history)
+pub after_append : (first second : List Step) (history : List Event) → after (first ++ second) history ≡ after second (after first history)
 after_append [] second history = refl
 after_append (step ∷ first) second history = after_append first second (Did step ∷ history)
 
-append_none : (steps : List Step) → steps ≡ steps ++ []
+pub append_none : (steps : List Step) → steps ≡ steps ++ []
 append_none [] = refl
 append_none (step ∷ steps) = ap (λ l. step ∷ l) (append_none steps)
 
@@ -37,7 +37,7 @@ history_is : (before s : Standing) (k limit : ℕ) (adds : AddsSteps before s k 
 history_is before s k limit adds =
     ap (λ b. after b s.base) adds.block ∙ ap (after (before.block ++ adds.steps)) adds.base ∙ after_append before.block adds.steps before.base
 
-run_push : (P : Network) (history : List Event) (steps : List Step) (step : Step) (k : ℕ) → Run P history steps k → Allowed P (after steps history) k step → Run P history (steps ++ step ∷ []) k
+pub run_push : (P : Network) (history : List Event) (steps : List Step) (step : Step) (k : ℕ) → Run P history steps k → Allowed P (after steps history) k step → Run P history (steps ++ step ∷ []) k
 run_push P history [] step k run allowed = (allowed, tt)
 run_push P history (s ∷ steps) step k run allowed = (run.0, run_push P (Did s ∷ history) steps step k run.1 allowed)
 

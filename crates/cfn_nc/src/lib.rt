@@ -7,7 +7,7 @@
 mod nodes;
 mod settling;
 
-pub use nodes::NodeConsistency;
+pub use nodes::{NodeConsistency, is_wiped, least};
 pub use settling::Settling;
 
 #[cfg(test)]

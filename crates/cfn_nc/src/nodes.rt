@@ -67,7 +67,7 @@ fn is_full(store: &Store<'_>, limit: usize) -> bool
 }
 
 /// Whether a variable has no live value.
-fn is_wiped(network: &Network, store: &Store<'_>) -> bool
+pub fn is_wiped(network: &Network, store: &Store<'_>) -> bool
     requires { store.now.network ≡ network.now }
     ensures wiped { result ≡ true → IsWiped network.now (history store.now) }
     ensures some { result ≡ false → (x : ℕ) → x < length network.now.sizes → HasLive network.now (history store.now) x }
@@ -81,7 +81,7 @@ fn is_wiped(network: &Network, store: &Store<'_>) -> bool
 }
 
 /// The least unary cost of the live values of a variable that has some.
-fn least(store: &Store<'_>, x: u32) -> u64
+pub fn least(store: &Store<'_>, x: u32) -> u64
     requires variable { x < length store.now.network.sizes }
     requires some { HasLive store.now.network (history store.now) x }
     ensures { IsLeast store.now.network (history store.now) x result }

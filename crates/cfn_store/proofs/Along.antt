@@ -1,6 +1,6 @@
 -- Histories: what they take, what they lift, and the steps at their end.
-use Rattle.std.proofs.Common.{◌≡◌, ℕ, suc, zero, ◌+◌, ◌*◌, ◌<◌, ◌≤◌, ◌^◌, Bool, true, false, not, ◌&&◌, List, [], ◌∷◌, ◌++◌, length, reverse, refl, sym, ap, subst, ◌∙◌, arith}
-use Rattle.std.proofs.lemmas.List.{reverse-append, append_assoc, append-nil}
+use Rattle.std.proofs.Common.{◌≡◌, ℕ, suc, ◌+◌, ◌*◌, ◌<◌, ◌≤◌, ◌^◌, not, ◌&&◌, List, [], ◌∷◌, ◌++◌, length, reverse, refl, sym, ap, ◌∙◌, arith}
+use Rattle.std.proofs.lemmas.List.{reverse-append, append_assoc}
 use Rattle.std.proofs.lemmas.List.Sums.{sum_by-cons}
 use Rattle.std.proofs.Math.Nat.{mul-le-mul}
 use Rattle.std.specs.Prelude.{sum_by, slice_index, slice_index_or}
@@ -9,7 +9,7 @@ use Rattle.cfn_model.specs.declared.step.Step.TheVariants.{Project, Extend, Lift
 use Rattle.cfn_model.specs.declared.step.Event.{Event}
 use Rattle.cfn_model.specs.declared.step.Event.TheVariants.{Did, Took, Refused}
 use Rattle.cfn_model.specs.Network.{Function, Network, IsNetwork, function_at, no_function}
-use Rattle.cfn_model.specs.Sums.{is_live, removes, lifted, floor, constant, constant_of}
+use Rattle.cfn_model.specs.Sums.{is_live, removes, floor, constant, constant_of}
 use Rattle.cfn_model.specs.Steps.{after, AllInRange, EventInRange}
 use Rattle.cfn_store.specs.Events.{removals, steps_in, AllSteps}
 use Rattle.cfn_store.specs.Exact.{InPlace, AllInPlace, IsExact, IsExactAlong, LiftsFit}

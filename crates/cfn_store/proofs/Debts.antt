@@ -1,15 +1,14 @@
 -- What steps that are allowed, and decisions, keep: no debts, and costs below 2^64.
-use Rattle.std.proofs.Common.{◌≡◌, ℕ, Bool, true, false, ◌&&◌, ◌+◌, ◌<◌, ◌≤◌, ◌^◌, List, [], ◌∷◌, length, refl, sym, ap, subst, ◌∙◌, inl, inr, arith}
+use Rattle.std.proofs.Common.{◌≡◌, ℕ, Bool, true, false, ◌&&◌, ◌<◌, ◌^◌, List, [], ◌∷◌, sym, ap, subst, ◌∙◌, inl, inr, arith}
 use Rattle.std.proofs.lemmas.Bool.{cases_eq}
 use Rattle.std.proofs.lemmas.Int.{ints}
 use Rattle.std.specs.Prelude.{ℤ, pos, neg_ℤ, ◌+ℤ◌, ◌≤ℤ◌, ◌<ℤ◌, ◌==◌, slice_index, IsTrue, nat_lt}
-use Rattle.cfn_model.specs.declared.step.Step.{Step}
-use Rattle.cfn_model.specs.declared.step.Step.TheVariants.{Project, Extend, Lift, CutValue, CutTuple}
+use Rattle.cfn_model.specs.declared.step.Step.TheVariants.{Project, Extend, Lift}
 use Rattle.cfn_model.specs.declared.step.Event.{Event}
-use Rattle.cfn_model.specs.declared.step.Event.TheVariants.{Did, Took, Refused}
+use Rattle.cfn_model.specs.declared.step.Event.TheVariants.{Did}
 use Rattle.cfn_model.specs.Network.{Network, IsNetwork, Fits, cell, dims_at, arity, variable_at, entry_at}
 use Rattle.cfn_model.specs.Sums.{when, unary, unary_by, residual, residual_by, is_live, is_live_tuple}
-use Rattle.cfn_model.specs.Steps.{Allowed, CanProject, CanExtend, CanLift, IsValue}
+use Rattle.cfn_model.specs.Steps.{CanProject, CanExtend, CanLift}
 use Rattle.cfn_model.specs.Paths.{HasSmallCosts}
 use Rattle.cfn_model.proofs.CallerLemmas.{eqb_same, eqb_other, fewer, tuple_fewer}
 use Rattle.cfn_store.specs.Exact.{HasNoDebts, IsExact}

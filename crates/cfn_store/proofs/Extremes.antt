@@ -1,28 +1,28 @@
 -- A scan from the start of a scope finds the extreme residual cost.
-use Rattle.std.proofs.Common.{◌≡◌, ℕ, suc, zero, ◌+◌, ◌*◌, ◌<◌, ◌≤◌, ◌^◌, Bool, true, false, not, ◌&&◌, List, [], ◌∷◌, length, refl, sym, ap, subst, ◌∙◌, arith}
+use Rattle.std.proofs.Common.{◌≡◌, ℕ, ◌+◌, ◌<◌, ◌^◌, Bool, true, false, not, ◌&&◌, List, length, refl, sym, ap, subst, ◌∙◌, arith}
 use Rattle.std.proofs.lemmas.Int.{ints}
-use Rattle.std.specs.Prelude.{ℤ, pos, neg_ℤ, ◌+ℤ◌, ◌≤ℤ◌, ◌<ℤ◌, slice_index, slice_index_or, nat_lt, IsTrue, Option, Some, None, MatchOption}
+use Rattle.std.specs.Prelude.{ℤ, pos, neg_ℤ, ◌+ℤ◌, slice_index, slice_index_or, nat_lt, Option, Some, None, MatchOption}
 use Rattle.cfn_model.specs.declared.step.Event.{Event}
-use Rattle.cfn_model.specs.Network.{Network, IsNetwork, Fits, cells, cell, cell_from, dims, dims_at, scope_at, arity, function_at, entry_at}
-use Rattle.cfn_model.specs.Sums.{when, residual, is_live, is_cut, all_live, is_live_tuple}
-use Rattle.cfn_model.specs.Steps.{IsPlace}
+use Rattle.cfn_model.specs.Network.{Network, Fits, cell, cell_from, dims, dims_at, scope_at, arity, function_at, entry_at}
+use Rattle.cfn_model.specs.Sums.{when, residual, is_live, is_cut, all_live}
 use Rattle.cfn_net.proofs.CallerLemmas.{cell-below, get_or-dims}
 use Rattle.cfn_store.specs.Wrapped.{StandsFor}
 use Rattle.cfn_store.specs.Shifts.{shift, along, offset}
 use Rattle.cfn_store.specs.Exact.{IsExact}
-use Rattle.cfn_store.specs.Extremes.{IsPicked, NonePicked, IsExtreme, Bounds}
+use Rattle.cfn_store.specs.Extremes.{NonePicked, IsExtreme, IsPickedBetween, NoneBetween, IsExtremeBetween, IsLeastBetween, Bounds}
 use Rattle.cfn_store.specs.declared.scan.Scan.{Scan}
-use Rattle.cfn_store.specs.declared.scan.Spot.{Spot}
-use Rattle.cfn_store.specs.declared.scan.Found.{Found}
+use Rattle.cfn_store.specs.declared.scan.Pin.{Pin}
+use Rattle.cfn_store.specs.declared.scan.Extreme.{Extreme}
 use Rattle.cfn_store.specs.declared.scan.Sense.{Sense}
 use Rattle.cfn_store.specs.declared.scan.Sense.TheVariants.{Least, Greatest}
-use Rattle.cfn_store.specs.Scanning.{IsMet, IsFound, NoneMet, Before, is_met, word_of}
+use Rattle.cfn_store.specs.Scanning.{IsMet, IsFound, NoneMet, Before, word_of}
 use Rattle.cfn_live.specs.Sets.{Sets}
 use Rattle.cfn_rows.specs.Jagged.{row_at}
 use Rattle.cfn_store.specs.declared.state.State.{State}
 use Rattle.cfn_store.specs.State.{Keeps, history_of}
 use Rattle.cfn_store.proofs.Along.{all_in_range, live_by_removals}
-use Rattle.cfn_store.proofs.Readings.{met_facts, facts_met, word_stands, is_last}
+use Rattle.cfn_store.proofs.Amounts.{picked_one, picked_twice}
+use Rattle.cfn_store.proofs.Readings.{AgreesFrom, met_facts, facts_met, word_stands, is_last}
 use Rattle.cfn_store.specs.Reading.{Reads, start}
 use Rattle.cfn_store.proofs.Shifting.{residual_is}
 use Rattle.cfn_store.proofs.Wrapping.{exact, itself}
@@ -47,26 +47,31 @@ last_is P history f scan tuple reads fits =
     ∙ ap (λ b. nat_lt (entry_at P f tuple) P.upper && not b) (reads.flags c (cell-below (dims_at P f) tuple fits))
 
 -- what is met is picked, and what is picked is met
-pub picked : (P : Network) (history : List Event) (f i a : ℕ) (scan : Scan) (tuple : List ℕ) → Reads P history f scan → scan.place ≡ i → scan.value ≡ a → i < arity P f → IsMet scan (scope_at P f) start tuple → IsPicked P history f i a tuple
-picked P history f i a scan tuple reads place value l met =
+pub picked : (P : Network) (history : List Event) (f : ℕ) (one two : Pin) (scan : Scan) (tuple : List ℕ) → Reads P history f scan → scan.one ≡ one → scan.two ≡ two → one.place < arity P f → two.place < arity P f → IsMet scan (scope_at P f) start tuple → IsPickedBetween P history f one.place one.value two.place two.value tuple
+picked P history f one two scan tuple reads first second l m met =
     let fits : Fits (dims_at P f) tuple = subst (λ sizes. Fits (dims sizes (scope_at P f)) tuple) reads.sizes met.fits in
     let facts = met_facts scan history reads.live (scope_at P f) tuple start met.fits met.met in
-    let last = both (nat_lt (entry_at P f tuple) P.upper) (not (is_cut history f (cell (dims_at P f) tuple))) (sym (last_is P history f scan tuple reads fits) ∙ facts.2) in
+    let last = both (nat_lt (entry_at P f tuple) P.upper) (not (is_cut history f (cell (dims_at P f) tuple))) (sym (last_is P history f scan tuple reads fits) ∙ facts.3) in
     record {
       fits = fits;
-      value = facts.1 i l (omega (arith, place)) ∙ value;
+      one = subst (λ pin. AgreesFrom pin (scope_at P f) 0 tuple) first facts.1 one.place l (omega arith);
+      other = subst (λ pin. AgreesFrom pin (scope_at P f) 0 tuple) second facts.2 two.place m (omega arith);
       live = join (all_live history (scope_at P f) tuple && nat_lt (entry_at P f tuple) P.upper) (not (is_cut history f (cell (dims_at P f) tuple))) (join (all_live history (scope_at P f) tuple) (nat_lt (entry_at P f tuple) P.upper) facts.0 last.0) last.1;
     }
 
-pub met : (P : Network) (history : List Event) (f i a : ℕ) (scan : Scan) (tuple : List ℕ) → Reads P history f scan → scan.place ≡ i → scan.value ≡ a → IsPicked P history f i a tuple → IsMet scan (scope_at P f) start tuple
-met P history f i a scan tuple reads place value is =
+agrees_all : (pin : Pin) (scope tuple : List ℕ) → slice_index tuple pin.place ≡ pin.value → AgreesFrom pin scope 0 tuple
+agrees_all pin scope tuple is j l e = (let there : j ≡ pin.place = omega (arith, e) in ap (slice_index tuple) there ∙ is)
+
+pub met : (P : Network) (history : List Event) (f : ℕ) (one two : Pin) (scan : Scan) (tuple : List ℕ) → Reads P history f scan → scan.one ≡ one → scan.two ≡ two → IsPickedBetween P history f one.place one.value two.place two.value tuple → IsMet scan (scope_at P f) start tuple
+met P history f one two scan tuple reads first second is =
     let fits = subst (λ sizes. Fits (dims sizes (scope_at P f)) tuple) (sym reads.sizes) is.fits in
     let b = both (all_live history (scope_at P f) tuple && nat_lt (entry_at P f tuple) P.upper) (not (is_cut history f (cell (dims_at P f) tuple))) is.live in
     let d = both (all_live history (scope_at P f) tuple) (nat_lt (entry_at P f tuple) P.upper) b.0 in
     record {
       fits = fits;
       met = facts_met scan history reads.live (scope_at P f) tuple start fits d.0
-          (λ j l e. (let there : j ≡ i = omega (arith, e, place) in ap (slice_index tuple) there ∙ is.value ∙ sym value))
+          (subst (λ pin. AgreesFrom pin (scope_at P f) 0 tuple) (sym first) (agrees_all one (scope_at P f) tuple is.one))
+          (subst (λ pin. AgreesFrom pin (scope_at P f) 0 tuple) (sym second) (agrees_all two (scope_at P f) tuple is.other))
           (last_is P history f scan tuple reads is.fits ∙ join (nat_lt (entry_at P f tuple) P.upper) (not (is_cut history f (cell (dims_at P f) tuple))) d.1 b.1);
     }
 
@@ -74,8 +79,8 @@ some_places : (n : ℕ) (z : ℤ) → 0 < n → when (nat_lt 0 n) z ≡ z
 some_places n z l = (let yes : nat_lt 0 n ≡ true = grind (arith, l) in ap (λ t. when t z) yes)
 
 -- the word of a live tuple is its residual cost
-pub word_is : (P : Network) (history : List Event) (f i a : ℕ) (scan : Scan) (tuple : List ℕ) → Reads P history f scan → IsExact P history → i < arity P f → word_of scan (scope_at P f) start tuple < 2 ^ 64 → IsPicked P history f i a tuple → residual P history f tuple ≡ pos (word_of scan (scope_at P f) start tuple)
-word_is P history f i a scan tuple reads ex l small is =
+pub word_is : (P : Network) (history : List Event) (f i a j b : ℕ) (scan : Scan) (tuple : List ℕ) → Reads P history f scan → IsExact P history → i < arity P f → word_of scan (scope_at P f) start tuple < 2 ^ 64 → IsPickedBetween P history f i a j b tuple → residual P history f tuple ≡ pos (word_of scan (scope_at P f) start tuple)
+word_is P history f i a j b scan tuple reads ex l small is =
     let stands = word_stands P history f scan reads (scope_at P f) tuple 0 start (pos 0) (omega arith)
     (λ j m. (let e : 0 + j ≡ j = omega arith in ap (slice_index (dims_at P f)) e ∙ get_or-dims P.sizes (scope_at P f) j m)) refl (omega arith)
     (subst (λ sizes. Fits (dims sizes (scope_at P f)) tuple) (sym reads.sizes) is.fits) (itself 0) in
@@ -91,23 +96,38 @@ bounded : (sense : Sense) (word other : ℕ) (cost : ℤ) → cost ≡ pos other
 bounded Least word other cost e b = omega (arith, ints, e, b)
 bounded Greatest word other cost e b = omega (arith, ints, e, b)
 
-pub extreme : (P : Network) (history : List Event) (f i a : ℕ) (scan : Scan) (first : Option Found) → Reads P history f scan → scan.place ≡ i → scan.value ≡ a → IsExact P history → i < arity P f → ((rest : List ℕ) → word_of scan (scope_at P f) start rest < 2 ^ 64) → MatchOption first (NoneMet scan (scope_at P f) start) (IsFound scan (scope_at P f) start) → MatchOption first (NonePicked P history f i a) (IsExtreme P history f i a scan.sense)
-extreme P history f i a scan None reads place value ex l small none = λ tuple is. none tuple (met P history f i a scan tuple reads place value is)
-extreme P history f i a scan (Some found) reads place value ex l small is =
-    let this = picked P history f i a scan is.rest reads place value l is.met in
+pub extreme : (P : Network) (history : List Event) (f : ℕ) (one two : Pin) (scan : Scan) (first : Option Extreme) → Reads P history f scan → scan.one ≡ one → scan.two ≡ two → IsExact P history → one.place < arity P f → two.place < arity P f → ((rest : List ℕ) → word_of scan (scope_at P f) start rest < 2 ^ 64) → MatchOption first (NoneMet scan (scope_at P f) start) (IsFound scan (scope_at P f) start) → MatchOption first (NoneBetween P history f one.place one.value two.place two.value) (IsExtremeBetween P history f one.place one.value two.place two.value scan.sense)
+extreme P history f one two scan None reads is_one is_two ex l m small none = λ tuple is. none tuple (met P history f one two scan tuple reads is_one is_two is)
+extreme P history f one two scan (Some found) reads is_one is_two ex l m small is =
+    let this = picked P history f one two scan is.rest reads is_one is_two l m is.met in
     record {
       tuple = is.rest;
       picked = this;
       cell_is = sym (ap (λ sizes. cell_from 0 (dims sizes (scope_at P f)) is.rest) reads.sizes) ∙ is.cell;
-      cost_is = word_is P history f i a scan is.rest reads ex l (small is.rest) this ∙ ap pos is.word;
-      bounds = λ other o. bounded scan.sense found.word (word_of scan (scope_at P f) start other) (residual P history f other) (word_is P history f i a scan other reads ex l (small other) o) (is.first other (met P history f i a scan other reads place value o));
+      cost_is = word_is P history f one.place one.value two.place two.value scan is.rest reads ex l (small is.rest) this ∙ ap pos is.word;
+      bounds = λ other o. bounded scan.sense found.cost (word_of scan (scope_at P f) start other) (residual P history f other) (word_is P history f one.place one.value two.place two.value scan other reads ex l (small other) o) (is.first other (met P history f one two scan other reads is_one is_two o));
     }
 
--- a word is one of 64 bits
-pub small_word : (scan : Scan) (scope : List ℕ) (spot : Spot) (rest : List ℕ) → word_of scan scope spot rest < 2 ^ 64
-small_word scan [] spot rest = omega arith
-small_word scan (x ∷ scope) spot [] = omega arith
-small_word scan (x ∷ scope) spot (v ∷ rest) = small_word scan scope _ rest
+-- what has the same value at one place twice has it once
+pub once : (P : Network) (history : List Event) (f i a : ℕ) (sense : Sense) (first : Option Extreme) → MatchOption first (NoneBetween P history f i a i a) (IsExtremeBetween P history f i a i a sense) → MatchOption first (NonePicked P history f i a) (IsExtreme P history f i a sense)
+once P history f i a sense None none = λ tuple is. none tuple (picked_twice P history f i a tuple is)
+once P history f i a sense (Some found) is = record {
+  tuple = is.tuple;
+  picked = picked_one P history f i a i a is.tuple is.picked;
+  cell_is = is.cell_is;
+  cost_is = is.cost_is;
+  bounds = λ other o. is.bounds other (picked_twice P history f i a other o);
+}
+
+pub least : (P : Network) (history : List Event) (f i a j b : ℕ) (first : Option Extreme) → MatchOption first (NoneBetween P history f i a j b) (IsExtremeBetween P history f i a j b Least) → MatchOption first (NoneBetween P history f i a j b) (IsLeastBetween P history f i a j b)
+least P history f i a j b None none = none
+least P history f i a j b (Some found) is = record {
+  tuple = is.tuple;
+  picked = is.picked;
+  cell_is = is.cell_is;
+  cost_is = is.cost_is;
+  least = is.bounds;
+}
 
 -- what a state's parts let a scan read
 pub state_reads : (P : Network) (s : State) (f : ℕ) (scan : Scan) → f < length P.functions → Keeps P (history_of s) s → scan.sizes.now ≡ P.sizes → scan.table.now ≡ (function_at P f).entries → scan.upper ≡ P.upper → scan.live.now ≡ s.live → scan.flags.now ≡ row_at s.cuts.flags f → scan.shifts.now ≡ row_at s.sums.shifts f → Reads P (history_of s) f scan

@@ -1,10 +1,9 @@
 -- Going back along a path.
-use Rattle.std.proofs.Common.{◌≡◌, ℕ, ◌+◌, ◌-◌, ◌<◌, ◌≤◌, List, [], ◌∷◌, ◌++◌, length, reverse, take, drop, refl, sym, ap, subst, ◌∙◌, arith, take_all}
-use Rattle.std.proofs.lemmas.List.{append-nil, length-take-le, append_assoc, reverse-append, reverse-reverse, length-append, length-reverse, take_at, drop_at, take-append-le}
+use Rattle.std.proofs.Common.{◌≡◌, ℕ, ◌+◌, ◌-◌, ◌<◌, ◌≤◌, List, [], ◌∷◌, ◌++◌, length, reverse, take, drop, sym, ap, subst, ◌∙◌, arith}
+use Rattle.std.proofs.lemmas.List.{append-nil, length-take-le, append_assoc, reverse-append, reverse-reverse, length-append, length-reverse, take_at, drop_at}
 use Rattle.std.specs.List.{AllByRecursion}
 use Rattle.cfn_model.specs.declared.step.Event.{Event}
 use Rattle.cfn_model.specs.Network.{Network}
-use Rattle.cfn_model.specs.Steps.{after}
 use Rattle.cfn_model.specs.Text.{IsSpelledStep}
 use Rattle.cfn_store.specs.declared.state.State.{State}
 use Rattle.cfn_store.specs.Events.{steps_in, AllSteps}

@@ -14,3 +14,5 @@ pub mod Extremes
 pub mod Rooms
 pub mod Going
 pub mod Paths
+pub mod Amounts
+pub mod CallerLemmas

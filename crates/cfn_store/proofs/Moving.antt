@@ -1,15 +1,15 @@
 -- What a move and a lift make of the sums of a history.
-use Rattle.std.proofs.Common.{◌≡◌, ℕ, ◌+◌, ◌-◌, ◌*◌, ◌%◌, ◌<◌, ◌≤◌, ◌^◌, Bool, true, false, ◌&&◌, List, [], ◌∷◌, length, set, refl, sym, ap, subst, ◌∙◌, inl, inr, arith, get_or-set_same, get_or-set_other}
+use Rattle.std.proofs.Common.{◌≡◌, ℕ, ◌+◌, ◌-◌, ◌%◌, ◌<◌, ◌≤◌, ◌^◌, Bool, true, false, ◌&&◌, List, ◌∷◌, length, set, refl, sym, ap, subst, ◌∙◌, inl, inr, arith, get_or-set_same, get_or-set_other}
 use Rattle.std.proofs.lemmas.Int.{ints}
 use Rattle.std.proofs.lemmas.List.{length-set}
 use Rattle.std.proofs.lemmas.Bool.{cases_eq}
 use Rattle.cfn_model.proofs.CallerLemmas.{eqb_same, eqb_other}
 use Rattle.std.specs.Prelude.{ℤ, pos, neg_ℤ, ◌+ℤ◌, ◌==◌, slice_index}
-use Rattle.cfn_model.specs.declared.step.Step.TheVariants.{Project, Extend, Lift, CutValue, CutTuple}
+use Rattle.cfn_model.specs.declared.step.Step.TheVariants.{Project, Extend, Lift}
 use Rattle.cfn_model.specs.declared.step.Event.{Event}
-use Rattle.cfn_model.specs.declared.step.Event.TheVariants.{Did, Took, Refused}
+use Rattle.cfn_model.specs.declared.step.Event.TheVariants.{Did}
 use Rattle.cfn_model.specs.Network.{Network, IsNetwork, dims_at, variable_at, scope_at, arity}
-use Rattle.cfn_model.specs.Sums.{when, unary, unary_by, floor, lifted}
+use Rattle.cfn_model.specs.Sums.{when, unary, unary_by, lifted}
 use Rattle.cfn_model.specs.Steps.{IsValue, IsPlace}
 use Rattle.cfn_net.proofs.CallerLemmas.{length-dims, get_or-dims}
 use Rattle.cfn_rows.specs.Jagged.{row_at}
@@ -18,7 +18,7 @@ use Rattle.cfn_store.specs.Wrapped.{StandsFor}
 use Rattle.cfn_store.specs.Shifts.{shift, shift_by, offset}
 use Rattle.cfn_store.specs.Sums.{has_more, has_less, given_word, lifted_word, shift_word, HasShape, IsSums, Moves, Lifts}
 use Rattle.cfn_store.proofs.Wrapping.{exchange, itself, plus_stands, less_stands}
-use Rattle.cfn_store.proofs.Debts.{when_pair, when_one}
+use Rattle.cfn_store.proofs.Debts.{when_pair}
 use Rattle.cfn_store.proofs.Offsets.{offset_below, offset_apart}
 use Rattle.cfn_store.proofs.Words.{more_here, less_here, word_stays, rows_length, row_length}
 

@@ -1,5 +1,5 @@
 -- Where the values of a function's places stand in its row.
-use Rattle.std.proofs.Common.{◌≡◌, ℕ, suc, zero, ◌+◌, ◌<◌, ◌≤◌, List, [], ◌∷◌, length, refl, sym, ap, subst, arith}
+use Rattle.std.proofs.Common.{◌≡◌, ℕ, suc, zero, ◌+◌, ◌<◌, ◌≤◌, List, [], ◌∷◌, length, refl, ap, subst, arith}
 use Rattle.std.specs.Prelude.{slice_index}
 use Rattle.cfn_store.specs.Shifts.{offset}
 

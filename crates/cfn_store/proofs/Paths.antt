@@ -1,13 +1,13 @@
 -- Costs are exact along a path that runs at some threshold and keeps costs small.
-use Rattle.std.proofs.Common.{◌≡◌, ℕ, ◌+◌, ◌-◌, ◌<◌, ◌≤◌, List, [], ◌∷◌, ◌++◌, length, get_or, reverse, take, drop, refl, sym, ap, subst, ◌∙◌, arith}
-use Rattle.std.proofs.lemmas.List.{take_more, take-append-drop, reverse-append, length-reverse, length-take-le, reverse-reverse}
+use Rattle.std.proofs.Common.{◌≡◌, ℕ, ◌+◌, ◌<◌, List, [], ◌∷◌, ◌++◌, length, get_or, reverse, take, drop, refl, sym, ap, subst, ◌∙◌}
+use Rattle.std.proofs.lemmas.List.{take_more, take-append-drop, reverse-append}
 use Rattle.cfn_model.specs.declared.step.Step.{Step}
 use Rattle.cfn_model.specs.declared.step.Step.TheVariants.{Project, Extend, Lift, CutValue, CutTuple}
 use Rattle.cfn_model.specs.declared.step.Event.{Event}
 use Rattle.cfn_model.specs.declared.step.Event.TheVariants.{Did, Took, Refused}
 use Rattle.cfn_model.specs.Network.{Network, IsNetwork}
 use Rattle.cfn_model.specs.Steps.{Allowed, InRange}
-use Rattle.cfn_model.specs.Paths.{RunsAlong, TameAlong, HasSmallCosts}
+use Rattle.cfn_model.specs.Paths.{RunsAlong, TameAlong}
 use Rattle.cfn_store.specs.Exact.{IsExact, IsExactAlong, HasNoDebts}
 use Rattle.cfn_store.proofs.Along.{exact_here, exact_behind}
 use Rattle.cfn_store.proofs.Debts.{exact_at_root, debts_project, debts_extend, debts_lift, debts_still}

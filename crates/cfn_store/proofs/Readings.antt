@@ -1,19 +1,19 @@
 -- What a scan reads of a history: which tuples it meets, and that their words are their residual costs.
-use Rattle.std.proofs.Common.{◌≡◌, ℕ, suc, zero, ◌+◌, ◌-◌, ◌%◌, ◌<◌, ◌≤◌, ◌^◌, Bool, true, false, not, ◌&&◌, ◌||◌, List, [], ◌∷◌, length, refl, sym, ap, subst, ◌∙◌, inl, inr, arith}
+use Rattle.std.proofs.Common.{◌≡◌, ℕ, suc, zero, ◌+◌, ◌<◌, ◌^◌, Bool, true, false, not, ◌&&◌, ◌||◌, List, [], ◌∷◌, length, refl, sym, ap, subst, ◌∙◌, inl, inr, arith}
 use Rattle.std.proofs.lemmas.Bool.{cases_eq}
 use Rattle.std.proofs.lemmas.Int.{ints}
-use Rattle.std.specs.Prelude.{ℤ, pos, neg_ℤ, ◌+ℤ◌, ◌==◌, slice_index, slice_index_or, nat_lt, IsTrue}
+use Rattle.std.specs.Prelude.{ℤ, pos, neg_ℤ, ◌+ℤ◌, ◌==◌, slice_index, slice_index_or, nat_lt}
 use Rattle.cfn_model.specs.declared.step.Event.{Event}
-use Rattle.cfn_model.specs.Network.{Network, Fits, cells, cell_from, dims, dims_at, scope_at, arity, function_at}
-use Rattle.cfn_model.specs.Sums.{is_live, is_cut, all_live}
-use Rattle.cfn_model.specs.Steps.{IsPlace}
+use Rattle.cfn_model.specs.Network.{Network, Fits, cell_from, dims, dims_at, scope_at, arity}
+use Rattle.cfn_model.specs.Sums.{is_live, all_live}
 use Rattle.cfn_model.proofs.CallerLemmas.{eqb_same, eqb_other}
 use Rattle.cfn_net.proofs.CallerLemmas.{length-dims}
 use Rattle.cfn_store.specs.Wrapped.{StandsFor}
 use Rattle.cfn_store.specs.Shifts.{shift, along, offset}
 use Rattle.cfn_store.specs.declared.scan.Scan.{Scan}
+use Rattle.cfn_store.specs.declared.scan.Pin.{Pin}
 use Rattle.cfn_store.specs.declared.scan.Spot.{Spot}
-use Rattle.cfn_store.specs.Scanning.{is_met, word_of, gone_on, may_stand}
+use Rattle.cfn_store.specs.Scanning.{is_met, word_of, gone_on, may_stand, agrees}
 use Rattle.cfn_store.specs.Reading.{Reads}
 use Rattle.cfn_store.proofs.Wrapping.{sum_stands, difference_stands, itself}
 use Rattle.cfn_store.proofs.Offsets.{offset_next}
@@ -49,35 +49,50 @@ same_number a b h = elim (cases_eq a b) [
 abbrev pub is_last : Scan → ℕ → Bool
 is_last scan c = nat_lt (slice_index scan.table.now c) scan.upper && not (slice_index_or scan.flags.now c false)
 
--- a tuple that is met has live values, the value that is asked for at its place, and is not cut
+-- the values of a scope from a place on are what is asked for
+abbrev pub AgreesFrom : Pin → List ℕ → ℕ → List ℕ → Type 0
+AgreesFrom pin scope place rest = (j : ℕ) → j < length scope → place + j ≡ pin.place → slice_index rest j ≡ pin.value
+
+agrees_more : (pin : Pin) (x : ℕ) (scope : List ℕ) (place v : ℕ) (rest : List ℕ) → agrees pin place v ≡ true → AgreesFrom pin scope (place + 1) rest → AgreesFrom pin (x ∷ scope) place (v ∷ rest)
+agrees_more pin x scope place v rest asked later zero l e = same_number v pin.value (other (place == pin.place) (v == pin.value) asked (eqb_same place pin.place (omega (arith, e))))
+agrees_more pin x scope place v rest asked later (suc j) l e = later j (omega (arith, l)) (omega (arith, e))
+
+agrees_here : (pin : Pin) (x : ℕ) (scope : List ℕ) (place v : ℕ) (rest : List ℕ) → AgreesFrom pin (x ∷ scope) place (v ∷ rest) → agrees pin place v ≡ true
+agrees_here pin x scope place v rest at = either (place == pin.place) (v == pin.value) (λ e. eqb_same v pin.value (at 0 (omega arith) (let s = same_number place pin.place e in omega (arith, s))))
+
+agrees_behind : (pin : Pin) (x : ℕ) (scope : List ℕ) (place v : ℕ) (rest : List ℕ) → AgreesFrom pin (x ∷ scope) place (v ∷ rest) → AgreesFrom pin scope (place + 1) rest
+agrees_behind pin x scope place v rest at = λ j l e. at (suc j) (omega (arith, l)) (omega (arith, e))
+
+-- a tuple that is met has live values, the values that are asked for at their places, and is not cut
 pub met_facts : (scan : Scan) (history : List Event) → ((x a : ℕ) → is_live scan.live.now.history x a ≡ is_live history x a) → (scope rest : List ℕ) (spot : Spot) → Fits (dims scan.sizes.now scope) rest → is_met scan scope spot rest ≡ true →
-    (all_live history scope rest ≡ true) × ((j : ℕ) → j < length scope → spot.place + j ≡ scan.place → slice_index rest j ≡ scan.value) × (is_last scan (cell_from spot.cell (dims scan.sizes.now scope) rest) ≡ true)
-met_facts scan history live [] [] spot fits met = (refl, λ j l e. absurd (omega (arith, l)), met)
+    (all_live history scope rest ≡ true) × AgreesFrom scan.one scope spot.place rest × AgreesFrom scan.two scope spot.place rest × (is_last scan (cell_from spot.cell (dims scan.sizes.now scope) rest) ≡ true)
+met_facts scan history live [] [] spot fits met = (refl, λ j l e. absurd (omega (arith, l)), λ j l e. absurd (omega (arith, l)), met)
 met_facts scan history live [] (v ∷ rest) spot fits met = absurd fits
 met_facts scan history live (x ∷ scope) [] spot fits met = absurd fits
 met_facts scan history live (x ∷ scope) (v ∷ rest) spot fits met =
     let next = gone_on scan spot (slice_index scan.sizes.now x) v in
     let b = both (may_stand scan spot.place x v) (is_met scan scope next rest) met in
-    let d = both (is_live scan.live.now.history x v) (not (spot.place == scan.place) || (v == scan.value)) b.0 in
-    let r = met_facts scan history live scope rest next fits.1 b.1 in
-    (join (is_live history x v) (all_live history scope rest) (sym (live x v) ∙ d.0) r.0, at_each d.1 r.1, r.2)
-  where
-    at_each : (not (spot.place == scan.place) || (v == scan.value)) ≡ true → ((j : ℕ) → j < length scope → spot.place + 1 + j ≡ scan.place → slice_index rest j ≡ scan.value) → (j : ℕ) → j < length (x ∷ scope) → spot.place + j ≡ scan.place → slice_index (v ∷ rest) j ≡ scan.value
-    at_each asked later zero l e = same_number v scan.value (other (spot.place == scan.place) (v == scan.value) asked (eqb_same spot.place scan.place (omega (arith, e))))
-    at_each asked later (suc j) l e = later j (omega (arith, l)) (omega (arith, e))
+    let d = both (is_live scan.live.now.history x v) (agrees scan.one spot.place v && agrees scan.two spot.place v) b.0 in
+    let e = both (agrees scan.one spot.place v) (agrees scan.two spot.place v) d.1 in
+    let r = met_facts scan history live scope rest next fits.1 b.1 in (
+      join (is_live history x v) (all_live history scope rest) (sym (live x v) ∙ d.0) r.0,
+      agrees_more scan.one x scope spot.place v rest e.0 r.1,
+      agrees_more scan.two x scope spot.place v rest e.1 r.2,
+      r.3,
+    )
 
 -- and such a tuple is met
-pub facts_met : (scan : Scan) (history : List Event) → ((x a : ℕ) → is_live scan.live.now.history x a ≡ is_live history x a) → (scope rest : List ℕ) (spot : Spot) → Fits (dims scan.sizes.now scope) rest → all_live history scope rest ≡ true → ((j : ℕ) → j < length scope → spot.place + j ≡ scan.place → slice_index rest j ≡ scan.value) → is_last scan (cell_from spot.cell (dims scan.sizes.now scope) rest) ≡ true → is_met scan scope spot rest ≡ true
-facts_met scan history live [] [] spot fits all at last = last
-facts_met scan history live [] (v ∷ rest) spot fits all at last = absurd fits
-facts_met scan history live (x ∷ scope) [] spot fits all at last = absurd fits
-facts_met scan history live (x ∷ scope) (v ∷ rest) spot fits all at last =
+pub facts_met : (scan : Scan) (history : List Event) → ((x a : ℕ) → is_live scan.live.now.history x a ≡ is_live history x a) → (scope rest : List ℕ) (spot : Spot) → Fits (dims scan.sizes.now scope) rest → all_live history scope rest ≡ true → AgreesFrom scan.one scope spot.place rest → AgreesFrom scan.two scope spot.place rest → is_last scan (cell_from spot.cell (dims scan.sizes.now scope) rest) ≡ true → is_met scan scope spot rest ≡ true
+facts_met scan history live [] [] spot fits all one two last = last
+facts_met scan history live [] (v ∷ rest) spot fits all one two last = absurd fits
+facts_met scan history live (x ∷ scope) [] spot fits all one two last = absurd fits
+facts_met scan history live (x ∷ scope) (v ∷ rest) spot fits all one two last =
     let next = gone_on scan spot (slice_index scan.sizes.now x) v in
     let b = both (is_live history x v) (all_live history scope rest) all in
-    let here : (not (spot.place == scan.place) || (v == scan.value)) ≡ true = either (spot.place == scan.place) (v == scan.value) (λ e. eqb_same v scan.value (at 0 (omega arith) (let s = same_number spot.place scan.place e in omega (arith, s)))) in
+    let here = join (agrees scan.one spot.place v) (agrees scan.two spot.place v) (agrees_here scan.one x scope spot.place v rest one) (agrees_here scan.two x scope spot.place v rest two) in
     join (may_stand scan spot.place x v) (is_met scan scope next rest)
-    (join (is_live scan.live.now.history x v) (not (spot.place == scan.place) || (v == scan.value)) (live x v ∙ b.0) here)
-    (facts_met scan history live scope rest next fits.1 b.1 (λ j l e. at (suc j) (omega (arith, l)) (omega (arith, e))) last)
+    (join (is_live scan.live.now.history x v) (agrees scan.one spot.place v && agrees scan.two spot.place v) (live x v ∙ b.0) here)
+    (facts_met scan history live scope rest next fits.1 b.1 (agrees_behind scan.one x scope spot.place v rest one) (agrees_behind scan.two x scope spot.place v rest two) last)
 
 -- the word of a tuple stands for its entry less what was moved away along it
 pub word_stands : (P : Network) (history : List Event) (f : ℕ) (scan : Scan) → Reads P history f scan → (scope rest : List ℕ) (p : ℕ) (spot : Spot) (z : ℤ) → p + length scope ≡ arity P f → ((j : ℕ) → j < length scope → slice_index (dims_at P f) (p + j) ≡ slice_index P.sizes (slice_index scope j)) → spot.offset ≡ offset (dims_at P f) p → spot.shift < 2 ^ 64 → Fits (dims scan.sizes.now scope) rest → StandsFor spot.shift z →

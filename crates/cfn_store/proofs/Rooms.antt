@@ -1,10 +1,10 @@
 -- The least of the live unary costs is the room of a lift.
-use Rattle.std.proofs.Common.{◌≡◌, ℕ, ◌+◌, ◌<◌, ◌≤◌, List, length, min, refl, sym, ap, subst, ◌∙◌, inl, inr, arith}
+use Rattle.std.proofs.Common.{◌≡◌, ℕ, ◌+◌, ◌<◌, ◌≤◌, List, length, min, subst, inl, inr, arith}
 use Rattle.std.proofs.lemmas.Bool.{cases_eq}
 use Rattle.std.proofs.lemmas.Int.{ints}
-use Rattle.std.specs.Prelude.{pos, ◌≤ℤ◌, slice_index, IsTrue}
+use Rattle.std.specs.Prelude.{pos, ◌≤ℤ◌, slice_index}
 use Rattle.cfn_model.specs.declared.limits.TheConstants.{GREATEST}
-use Rattle.cfn_model.specs.Sums.{unary, is_live}
+use Rattle.cfn_model.specs.Sums.{unary}
 use Rattle.cfn_live.specs.Sets.{AreLive}
 use Rattle.cfn_store.specs.Standing.{Standing, history}
 use Rattle.cfn_store.specs.Rooms.{sets_of, IsLiftRoom}

@@ -1,18 +1,17 @@
 -- Before any step all words are 0, and no tuple is cut.
-use Rattle.std.proofs.Common.{◌≡◌, ℕ, zero, suc, ◌+◌, ◌<◌, ◌≤◌, List, [], ◌∷◌, length, map, get_or, replicate, reverse, refl, sym, ap, subst, ◌∙◌, arith}
+use Rattle.std.proofs.Common.{◌≡◌, ℕ, zero, suc, ◌+◌, ◌<◌, List, [], length, map, get_or, replicate, reverse, refl, sym, ap, subst, ◌∙◌, arith}
 use Rattle.std.proofs.lemmas.List.{get_or-map, length-replicate, length-map}
 use Rattle.std.proofs.lemmas.Int.{ints}
-use Rattle.std.specs.Prelude.{Bool, false, ℤ, pos, ◌+ℤ◌, slice_index}
-use Rattle.cfn_model.specs.Network.{Function, Network, function_at, no_function, cells, dims, dims_at, arity}
-use Rattle.cfn_model.specs.Sums.{floor, unary, is_cut}
-use Rattle.cfn_model.specs.Steps.{IsValue, IsPlace, IsCell}
+use Rattle.std.specs.Prelude.{false, ℤ, pos, ◌+ℤ◌, slice_index}
+use Rattle.cfn_model.specs.Network.{Function, Network, function_at, no_function, cells, dims, dims_at}
+use Rattle.cfn_model.specs.Sums.{floor, unary}
 use Rattle.cfn_rows.specs.Jagged.{row_at}
 use Rattle.cfn_store.specs.declared.sums.Sums.{Sums}
 use Rattle.cfn_store.specs.declared.cuts.Cuts.{Cuts}
 use Rattle.cfn_store.specs.Wrapped.{StandsFor}
 use Rattle.cfn_store.specs.Shifts.{shift, offset}
-use Rattle.cfn_store.specs.Sums.{HasShape, IsSums, given_word, lifted_word, shift_word, width_of}
-use Rattle.cfn_store.specs.Cutting.{HasFlags, IsCuts, fresh}
+use Rattle.cfn_store.specs.Sums.{IsSums, given_word, lifted_word, shift_word, width_of}
+use Rattle.cfn_store.specs.Cutting.{IsCuts}
 use Rattle.cfn_store.proofs.Wrapping.{itself}
 
 -- a row of rows that are filled

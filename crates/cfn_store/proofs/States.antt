@@ -1,14 +1,13 @@
 -- What each event makes of a state.
-use Rattle.std.proofs.Common.{◌≡◌, ℕ, ◌+◌, ◌-◌, ◌<◌, ◌≤◌, ◌^◌, List, [], ◌∷◌, length, drop, refl, sym, ap, subst, ◌∙◌, arith}
+use Rattle.std.proofs.Common.{◌≡◌, ℕ, ◌<◌, ◌≤◌, ◌^◌, List, [], ◌∷◌, length, drop, refl, sym, ap, subst, ◌∙◌, arith}
 use Rattle.std.proofs.lemmas.List.{length-reverse}
-use Rattle.std.specs.Prelude.{pos, neg_ℤ, ℤ, vec_capacity}
+use Rattle.std.specs.Prelude.{pos, neg_ℤ, vec_capacity}
 use Rattle.cfn_model.specs.declared.step.Decision.{Decision}
 use Rattle.cfn_model.specs.declared.step.Step.TheVariants.{Project, Extend, Lift, CutValue, CutTuple}
 use Rattle.cfn_model.specs.declared.step.Event.{Event}
 use Rattle.cfn_model.specs.declared.step.Event.TheVariants.{Did, Took, Refused}
 use Rattle.cfn_model.specs.Network.{Network, IsNetwork}
 use Rattle.cfn_live.specs.Sets.{Sets, with_event, without_newest}
-use Rattle.cfn_store.specs.declared.sums.Sums.{Sums}
 use Rattle.cfn_store.specs.declared.cuts.Cuts.{Cuts}
 use Rattle.cfn_store.specs.declared.state.State.{State}
 use Rattle.cfn_store.specs.Events.{removals}

@@ -1,6 +1,6 @@
 -- What a store stands for, from the events that it keeps.
 use Rattle.std.proofs.Common.{◌≡◌, ℕ, zero, suc, ◌+◌, ◌-◌, ◌<◌, ◌≤◌, List, [], ◌∷◌, ◌++◌, length, get_or, reverse, take, drop, refl, sym, ap, subst, ◌∙◌, arith, take_all}
-use Rattle.std.proofs.lemmas.List.{reverse-append, append_assoc, append-nil, take-append-drop, take-append-le, drop-append-le, length-append, length-drop, drop_all}
+use Rattle.std.proofs.lemmas.List.{reverse-append, take-append-drop, take-append-le, drop-append-le, length-append, length-drop, drop_all}
 use Rattle.std.specs.List.{AllByRecursion}
 use Rattle.std.specs.Prelude.{slice_index, if◌then◌else◌}
 use Rattle.cfn_model.specs.declared.step.Step.{Step}
@@ -9,10 +9,10 @@ use Rattle.cfn_model.specs.declared.step.Event.{Event}
 use Rattle.cfn_model.specs.declared.step.Event.TheVariants.{Did, Took, Refused}
 use Rattle.cfn_model.specs.declared.step.Decision.{Decision}
 use Rattle.cfn_model.specs.Network.{Network}
-use Rattle.cfn_model.specs.Steps.{after, IsValue, IsCell, IsDecision}
+use Rattle.cfn_model.specs.Steps.{IsValue, IsCell, IsDecision}
 use Rattle.cfn_model.specs.Text.{IsSpelledStep}
 use Rattle.cfn_model.specs.Sums.{is_live}
-use Rattle.cfn_live.specs.Sets.{Sets, AreLive, IsValue as IsValueOf, live_below, live_count}
+use Rattle.cfn_live.specs.Sets.{Sets, AreLive, live_below, live_count}
 use Rattle.cfn_store.specs.declared.state.State.{State}
 use Rattle.cfn_store.specs.Events.{steps_in, AllSteps}
 use Rattle.cfn_store.specs.Exact.{IsExact, IsExactAlong}

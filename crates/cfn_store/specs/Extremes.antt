@@ -1,11 +1,11 @@
--- The least and the greatest residual cost of a function's live tuples with one value at one place.
+-- The least and the greatest residual cost of a function's live tuples with one value at one place, or one at each of two.
 use Rattle.std.specs.Prelude.{◌≡◌, ℕ, List, slice_index, ℤ, pos, ◌≤ℤ◌, IsTrue}
 use Rattle.cfn_model.specs.declared.step.Event.{Event}
 use Rattle.cfn_model.specs.Network.{Network, Fits, cell, dims_at}
 use Rattle.cfn_model.specs.Sums.{residual, is_live_tuple}
 use Rattle.cfn_store.specs.declared.scan.Sense.{Sense}
 use Rattle.cfn_store.specs.declared.scan.Sense.TheVariants.{Least, Greatest}
-use Rattle.cfn_store.specs.declared.scan.Found.{Found}
+use Rattle.cfn_store.specs.declared.scan.Extreme.{Extreme}
 
 -- A live tuple of f that has the value a at place i.
 pub record IsPicked (P : Network) (history : List Event) (f i a : ℕ) (tuple : List ℕ) : Type 0 where
@@ -22,9 +22,35 @@ Bounds Least amount cost = pos amount ≤ℤ cost
 Bounds Greatest amount cost = cost ≤ℤ pos amount
 
 -- What was found is the residual cost and the number of such a tuple, and bounds the residual costs of all of them.
-pub record IsExtreme (P : Network) (history : List Event) (f i a : ℕ) (sense : Sense) (found : Found) : Type 0 where
+pub record IsExtreme (P : Network) (history : List Event) (f i a : ℕ) (sense : Sense) (extreme : Extreme) : Type 0 where
   pub tuple : List ℕ
   pub picked : IsPicked P history f i a tuple
-  pub cell_is : cell (dims_at P f) tuple ≡ found.cell
-  pub cost_is : residual P history f tuple ≡ pos found.word
-  pub bounds : (other : List ℕ) → IsPicked P history f i a other → Bounds sense found.word (residual P history f other)
+  pub cell_is : cell (dims_at P f) tuple ≡ extreme.cell
+  pub cost_is : residual P history f tuple ≡ pos extreme.cost
+  pub bounds : (other : List ℕ) → IsPicked P history f i a other → Bounds sense extreme.cost (residual P history f other)
+
+-- A live tuple of f that has the value a at place i and the value b at place j.
+pub record IsPickedBetween (P : Network) (history : List Event) (f i a j b : ℕ) (tuple : List ℕ) : Type 0 where
+  pub fits : Fits (dims_at P f) tuple
+  pub one : slice_index tuple i ≡ a
+  pub other : slice_index tuple j ≡ b
+  pub live : IsTrue (is_live_tuple P history f tuple)
+
+abbrev pub NoneBetween : Network → List Event → ℕ → ℕ → ℕ → ℕ → ℕ → Type 0
+NoneBetween P history f i a j b = (tuple : List ℕ) → IsPickedBetween P history f i a j b tuple → ⊥
+
+-- What was found is the least residual cost of such tuples, and the number of one that has it.
+pub record IsLeastBetween (P : Network) (history : List Event) (f i a j b : ℕ) (extreme : Extreme) : Type 0 where
+  pub tuple : List ℕ
+  pub picked : IsPickedBetween P history f i a j b tuple
+  pub cell_is : cell (dims_at P f) tuple ≡ extreme.cell
+  pub cost_is : residual P history f tuple ≡ pos extreme.cost
+  pub least : (other : List ℕ) → IsPickedBetween P history f i a j b other → pos extreme.cost ≤ℤ residual P history f other
+
+-- The same of the least and the greatest, for a scan that asks for the two values.
+pub record IsExtremeBetween (P : Network) (history : List Event) (f i a j b : ℕ) (sense : Sense) (extreme : Extreme) : Type 0 where
+  pub tuple : List ℕ
+  pub picked : IsPickedBetween P history f i a j b tuple
+  pub cell_is : cell (dims_at P f) tuple ≡ extreme.cell
+  pub cost_is : residual P history f tuple ≡ pos extreme.cost
+  pub bounds : (other : List ℕ) → IsPickedBetween P history f i a j b other → Bounds sense extreme.cost (residual P history f other)

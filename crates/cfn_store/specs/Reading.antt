@@ -1,5 +1,5 @@
 -- What a scan has to read so that it finds the residual costs of a history.
-use Rattle.std.specs.Prelude.{◌≡◌, ℕ, ◌+◌, ◌<◌, Bool, false, List, length, slice_index, slice_index_or}
+use Rattle.std.specs.Prelude.{◌≡◌, ℕ, ◌+◌, ◌<◌, false, List, length, slice_index, slice_index_or}
 use Rattle.cfn_model.specs.declared.step.Event.{Event}
 use Rattle.cfn_model.specs.Network.{Network, cells, dims_at, function_at}
 use Rattle.cfn_model.specs.Sums.{is_live, is_cut}

@@ -1,12 +1,15 @@
 -- What a scan over the live tuples of a function looks at, and what it finds, said of the words that it reads.
-use Rattle.std.specs.Prelude.{◌≡◌, ℕ, ◌+◌, ◌-◌, ◌*◌, ◌%◌, ◌<◌, ◌≤◌, ◌^◌, Bool, true, false, not, ◌&&◌, ◌||◌, ◌==◌, List, [], ◌∷◌, length, slice_index, slice_index_or, nat_lt, IsTrue, Option, Some, None, ◌⊎◌}
-use Rattle.cfn_model.specs.declared.limits.TheConstants.{MOST_TUPLES, MOST_VALUES}
+use Rattle.std.specs.Prelude.{◌≡◌, ℕ, ◌+◌, ◌-◌, ◌*◌, ◌%◌, ◌<◌, ◌≤◌, ◌^◌, Bool, false, not, ◌&&◌, ◌||◌, ◌==◌, List, [], ◌∷◌, length, slice_index, slice_index_or, nat_lt, IsTrue, Option, Some, None, ◌⊎◌}
+use Rattle.cfn_model.specs.declared.limits.TheConstants.{MOST_TUPLES}
 use Rattle.cfn_model.specs.Network.{Fits, dims, cells, cell_from}
 use Rattle.cfn_model.specs.Sums.{is_live}
 use Rattle.cfn_store.specs.Shifts.{offset}
 use Rattle.cfn_store.specs.declared.scan.Scan.{Scan}
+use Rattle.cfn_store.specs.declared.scan.Pin.{Pin}
 use Rattle.cfn_store.specs.declared.scan.Spot.{Spot}
-use Rattle.cfn_store.specs.declared.scan.Found.{Found}
+use Rattle.cfn_store.specs.declared.scan.Tail.{Tail}
+use Rattle.cfn_store.specs.declared.scan.Extreme.{Extreme}
+use Rattle.cfn_store.specs.declared.scan.Best.{Best}
 use Rattle.cfn_store.specs.declared.scan.Sense.{Sense}
 use Rattle.cfn_store.specs.declared.scan.Sense.TheVariants.{Least, Greatest}
 
@@ -19,9 +22,13 @@ gone_on scan spot size value = record {
   place = spot.place + 1;
 }
 
--- Whether a value may stand at a place: it is live, and at the place that is asked for it is the value asked for.
+-- Whether a value at a place is what is asked for there: at another place any value is.
+abbrev pub agrees : Pin → ℕ → ℕ → Bool
+agrees pin place value = not (place == pin.place) || (value == pin.value)
+
+-- Whether a value may stand at a place: it is live, and is what is asked for there.
 abbrev pub may_stand : Scan → ℕ → ℕ → ℕ → Bool
-may_stand scan place x value = is_live scan.live.now.history x value && (not (place == scan.place) || (value == scan.value))
+may_stand scan place x value = is_live scan.live.now.history x value && (agrees scan.one place value && agrees scan.two place value)
 
 -- Whether values may stand from a place on, and the tuple's entry is below the upper bound and not cut.
 abbrev pub is_met : Scan → List ℕ → Spot → List ℕ → Bool
@@ -49,18 +56,19 @@ pub record IsMet (scan : Scan) (scope : List ℕ) (spot : Spot) (rest : List ℕ
 abbrev pub NoneMet : Scan → List ℕ → Spot → Type 0
 NoneMet scan scope spot = (rest : List ℕ) → IsMet scan scope spot rest → ⊥
 
-pub record IsFound (scan : Scan) (scope : List ℕ) (spot : Spot) (found : Found) : Type 0 where
+pub record IsFound (scan : Scan) (scope : List ℕ) (spot : Spot) (found : Extreme) : Type 0 where
   pub rest : List ℕ
   pub met : IsMet scan scope spot rest
-  pub word : word_of scan scope spot rest ≡ found.word
+  pub word : word_of scan scope spot rest ≡ found.cost
   pub cell : cell_from spot.cell (dims scan.sizes.now scope) rest ≡ found.cell
-  pub first : (other : List ℕ) → IsMet scan scope spot other → Before scan.sense found.word (word_of scan scope spot other)
+  pub first : (other : List ℕ) → IsMet scan scope spot other → Before scan.sense found.cost (word_of scan scope spot other)
 
 -- What a scan will read down a scope is there.
 pub record IsSpot (scan : Scan) (scope : List ℕ) (spot : Spot) : Type 0 where
   pub variables : (p : ℕ) → p < length scope → slice_index scope p < length scan.sizes.now
   pub sizes : scan.live.now.sizes ≡ scan.sizes.now
-  pub value : (p : ℕ) → p < length scope → spot.place + p ≡ scan.place → scan.value < slice_index scan.sizes.now (slice_index scope p)
+  pub one : (p : ℕ) → p < length scope → spot.place + p ≡ scan.one.place → scan.one.value < slice_index scan.sizes.now (slice_index scope p)
+  pub two : (p : ℕ) → p < length scope → spot.place + p ≡ scan.two.place → scan.two.value < slice_index scan.sizes.now (slice_index scope p)
   pub inhabited : (x : ℕ) → x < length scan.sizes.now → 0 < slice_index scan.sizes.now x
   pub cells : (spot.cell + 1) * cells (dims scan.sizes.now scope) ≤ length scan.table.now
   pub few : length scan.table.now ≤ MOST_TUPLES
@@ -74,10 +82,41 @@ pub record AreChoices (scan : Scan) (place x : ℕ) (values : List ℕ) : Type 0
   pub all : (a : ℕ) → a < slice_index scan.sizes.now x → IsTrue (may_stand scan place x a) → (i : ℕ) × (i < length values) × (slice_index values i ≡ a)
 
 -- Of two that were found the first, where there is one.
-abbrev pub IsSooner : Sense → Option Found → Option Found → Option Found → Type 0
+abbrev pub IsSooner : Sense → Option Extreme → Option Extreme → Option Extreme → Type 0
 IsSooner sense None other result = result ≡ other
 IsSooner sense (Some a) None result = result ≡ Some a
-IsSooner sense (Some a) (Some b) result = (found : Found) × (result ≡ Some found) × Before sense found.word a.word × Before sense found.word b.word × ((found ≡ a) ⊎ (found ≡ b))
+IsSooner sense (Some a) (Some b) result = (found : Extreme) × (result ≡ Some found) × Before sense found.cost a.cost × Before sense found.cost b.cost × ((found ≡ a) ⊎ (found ≡ b))
+
+-- Where a scan ends that goes on from a spot by a tail.
+abbrev pub ended : Spot → Tail → Spot
+ended spot tail = record {
+  cell = spot.cell * tail.tuples + tail.end.cell;
+  shift = (spot.shift + tail.end.shift) % 2 ^ 64;
+  offset = tail.end.offset;
+  place = tail.end.place;
+}
+
+-- The tail is the one step by which a scan goes from the begin of a scope to its end: what is met there is met before it.
+pub record IsTail (scan : Scan) (scope : List ℕ) (offset place : ℕ) (tail : Tail) : Type 0 where
+  pub spot : (begin : Spot) → begin.offset ≡ offset → begin.place ≡ place → begin.shift < 2 ^ 64 → IsSpot scan scope begin → IsSpot scan [] (ended begin tail)
+  pub none : (begin : Spot) → begin.offset ≡ offset → begin.place ≡ place → begin.shift < 2 ^ 64 → IsSpot scan scope begin → NoneMet scan [] (ended begin tail) → NoneMet scan scope begin
+  pub found : (begin : Spot) → begin.offset ≡ offset → begin.place ≡ place → begin.shift < 2 ^ 64 → IsSpot scan scope begin → (found : Extreme) → IsFound scan [] (ended begin tail) found → IsFound scan scope begin found
+
+-- The number that is least for the cost that stands first; its own number is the cost again.
+abbrev pub key : Sense → ℕ → ℕ
+key Least cost = cost
+key Greatest cost = 2 ^ 64 - 1 - cost
+
+-- What was found, by its key and the number of its tuple; and before there is one the key is the greatest number.
+abbrev pub found_with : Sense → ℕ → Option ℕ → Option Extreme
+found_with sense k None = None
+found_with sense k (Some cell) = Some (record { cost = key sense k; cell = cell })
+
+abbrev pub found_in : Sense → Best → Option Extreme
+found_in sense best = found_with sense best.key best.cell
+
+abbrev pub IsBest : Best → Type 0
+IsBest best = best.cell ≡ None → best.key ≡ 2 ^ 64 - 1
 
 -- A scan can go on by a value of x.
 pub record IsInner (scan : Scan) (x value : ℕ) (spot : Spot) : Type 0 where

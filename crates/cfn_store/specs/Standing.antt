@@ -1,10 +1,8 @@
 -- What a store stands for.
-use Rattle.std.specs.Prelude.{◌≡◌, ℕ, ◌+◌, ◌-◌, ◌<◌, ◌≤◌, ◌^◌, List, [], ◌∷◌, ◌++◌, length, slice_index, ℤ, pos, ◌+ℤ◌, ◌<ℤ◌, IsTrue}
+use Rattle.std.specs.Prelude.{◌≡◌, ℕ, ◌-◌, ◌<◌, ◌≤◌, ◌^◌, List, [], ◌∷◌, ◌++◌, length, slice_index, pos, ◌+ℤ◌, ◌<ℤ◌, IsTrue}
 use Rattle.cfn_model.specs.declared.limits.TheConstants.{GREATEST}
 use Rattle.cfn_model.specs.declared.step.Step.{Step}
-use Rattle.cfn_model.specs.declared.step.Decision.{Decision}
 use Rattle.cfn_model.specs.declared.step.Event.{Event}
-use Rattle.cfn_model.specs.declared.step.Event.TheVariants.{Took, Refused}
 use Rattle.cfn_model.specs.Network.{Network, Fits, dims_at, variable_at}
 use Rattle.cfn_model.specs.Sums.{unary, residual, is_live, is_live_tuple}
 use Rattle.cfn_model.specs.Steps.{IsPlace, CanProject, CanExtend, CanLift, after}

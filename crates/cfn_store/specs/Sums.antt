@@ -1,5 +1,5 @@
 -- The words that a store keeps, and what they stand for.
-use Rattle.std.specs.Prelude.{◌≡◌, ℕ, ◌+◌, ◌-◌, ◌*◌, ◌%◌, ◌<◌, ◌≤◌, ◌^◌, ◌&&◌, List, length, slice_index, slice_set, ℤ, pos, ◌+ℤ◌, neg_ℤ, ◌==◌}
+use Rattle.std.specs.Prelude.{◌≡◌, ℕ, ◌+◌, ◌-◌, ◌%◌, ◌<◌, ◌^◌, ◌&&◌, List, length, slice_index, slice_set, ℤ, pos, ◌+ℤ◌, ◌==◌}
 use Rattle.cfn_model.specs.declared.step.Event.{Event}
 use Rattle.cfn_model.specs.Network.{Function, Network, arity, variable_at, dims, dims_at}
 use Rattle.cfn_model.specs.Sums.{when, floor, unary}

@@ -3,7 +3,7 @@
 //! - `Store` stands for a list of events along a path. Each call that makes a step, or goes to a side of a split, appends
 //!   its event; `mark` and `undo` go back, and `replay` goes to another path by way of what the two have in common. It
 //!   tells the floor, unary costs, live values, extreme residual costs and the greatest amounts that steps take.
-//! - `Mark` is a place on the path; `Found` is a residual cost with a tuple that has it.
+//! - `Mark` is a place on the path; `Extreme` is a residual cost with a tuple that has it.
 //!
 //! Inside, `State` keeps the events and undoes each as it was made: `Sums` has the costs (`sums.rt`), `Cuts` which tuples
 //! are cut, and `cfn_live` which values are live. `scan.rt` is the only loop over tables; `block.rt` packs the newest steps.
@@ -18,7 +18,7 @@ mod store;
 mod sums;
 
 pub use mark::Mark;
-pub use scan::{Found, Sense};
+pub use scan::{Extreme, Sense};
 pub use store::Store;
 
 #[cfg(test)]

@@ -1,11 +1,13 @@
-//! The scan over the live tuples of a function with one value at one place: the least, or the greatest, residual cost.
+//! The scan over the live tuples of a function with one value at one place, or one at each of two: the least, or the
+//! greatest, residual cost.
 //!
 //! It goes down the scope: at each variable over its live values, with the number of the tuple and the sum of what was
-//! moved away so far. A variable that has one value to stand takes no recursion, so its depth is that of the open
-//! variables, of which there are at most 22. What is dead is never gone into.
+//! moved away so far. A variable that has one value to stand takes no recursion, and neither does the last that has more:
+//! the places behind it are one step, the same for each of its values, so that a row of a table is read in one plain loop.
+//! The depth is that of the other open variables, of which there are at most 21. What is dead is never gone into.
 
-ghost use Rattle.std.specs.Prelude.{◌≡◌, ℕ, ◌+◌, ◌<◌, ◌≤◌, List, [], ◌∷◌, length, slice_index, drop, MatchOption};
-ghost use Rattle.cfn_store.specs.Scanning.{IsSpot, IsInner, AreChoices, NoneMet, IsFound, IsSooner, gone_on};
+ghost use Rattle.std.specs.Prelude.{◌≡◌, ℕ, ◌+◌, ◌<◌, ◌≤◌, List, [], ◌∷◌, length, slice_index, drop, Option, MatchOption, IfSome};
+ghost use Rattle.cfn_store.specs.Scanning.{IsSpot, IsInner, AreChoices, NoneMet, IsFound, IsSooner, gone_on, agrees, ended, key, found_in, IsBest, IsTail};
 
 use cfn_live::LiveSets;
 use std::slice;
@@ -27,14 +29,37 @@ pub(crate) struct Spot {
     pub(crate) place: usize,
 }
 
-/// A residual cost, modulo 2^64, and the number of a tuple that has it.
+/// What stands behind a place where each later place has one choice: how many tuples these places have, and where a scan
+/// from their begin ends, with number 0 and nothing moved away before them.
 #[derive(Clone, Copy)]
-pub struct Found {
-    pub word: u64,
+pub(crate) struct Tail {
+    pub(crate) tuples: u32,
+    pub(crate) end: Spot,
+}
+
+/// What was found of a row so far: the least key, and the number of a tuple that has it. Before there is one the key is the
+/// greatest number.
+#[derive(Clone, Copy)]
+pub(crate) struct Best {
+    pub(crate) key: u64,
+    pub(crate) cell: Option<u32>,
+}
+
+/// A residual cost, below 2^64, and the number of a tuple that has it.
+#[derive(Clone, Copy)]
+pub struct Extreme {
+    pub cost: u64,
     pub cell: u32,
 }
 
-/// What a scan reads, and the value that is asked for at a place.
+/// A place, and the value that is asked for there.
+#[derive(Clone, Copy)]
+pub(crate) struct Pin {
+    pub(crate) place: usize,
+    pub(crate) value: u32,
+}
+
+/// What a scan reads, and the values that are asked for at two places, which may be the same place.
 #[derive(Drop)]
 pub(crate) struct Scan<'a> {
     pub(crate) sizes: &'a [u32],
@@ -43,14 +68,14 @@ pub(crate) struct Scan<'a> {
     pub(crate) flags: &'a [bool],
     pub(crate) live: &'a LiveSets,
     pub(crate) upper: u64,
-    pub(crate) place: usize,
-    pub(crate) value: u32,
+    pub(crate) one: Pin,
+    pub(crate) two: Pin,
     pub(crate) sense: Sense,
 }
 
 impl<'a> Scan<'a> {
     /// What stands first, from a place on, among the tuples whose values may stand there.
-    pub(crate) fn first(&self, scope: &[u32], spot: Spot) -> Option<Found>
+    pub(crate) fn first(&self, scope: &[u32], spot: Spot) -> Option<Extreme>
         requires { IsSpot self.now scope.now spot }
         ensures { MatchOption result (NoneMet self.now scope.now spot) (IsFound self.now scope.now spot) }
     {
@@ -58,6 +83,9 @@ impl<'a> Scan<'a> {
         let behind = from(scope, passed);
         if behind.is_empty() {
             return self.here(spot);
+        }
+        if let Some(tail) = self.tail(behind, spot) {
+            return self.row(behind, spot, tail);
         }
         let x = behind[0];
         let rest = from(behind, 1);
@@ -69,6 +97,107 @@ impl<'a> Scan<'a> {
         first
     }
 
+    /// What stands first of a row: over the values of the scope's first variable, where the places behind it are a tail. No
+    /// key is below 0, so the rest of the row need not be read behind it.
+    fn row(&self, scope: &[u32], spot: Spot, tail: Tail) -> Option<Extreme>
+        requires some { 0 < length scope.now }
+        requires spot { IsSpot self.now scope.now spot }
+        requires tail { IsTail self.now (drop 1 scope.now) (spot.offset + slice_index self.now.sizes.now (slice_index scope.now 0)) (spot.place + 1) tail }
+        ensures { MatchOption result (NoneMet self.now scope.now spot) (IsFound self.now scope.now spot) }
+    {
+        let x = scope[0];
+        let mut best = Best {
+            key: u64::MAX,
+            cell: None,
+        };
+        for value in self.choices(x, spot.place) {
+            let end = self.ended(self.gone_on(spot, x, *value), tail);
+            best = self.better(best, end);
+            if best.key == 0 {
+                return self.found_in(best);
+            }
+        }
+        self.found_in(best)
+    }
+
+    /// The tuple that is complete, where it is met and what was found so far does not stand before it.
+    fn better(&self, best: Best, end: Spot) -> Best
+        requires spot { IsSpot self.now [] end }
+        requires best { IsBest best }
+        ensures best { IsBest result }
+        ensures sooner { (other : Option Extreme) × MatchOption other (NoneMet self.now [] end) (IsFound self.now [] end)
+            × IsSooner self.now.sense (found_in self.now.sense best) other (found_in self.now.sense result) }
+    {
+        let Some(found) = self.here(end) else {
+            return best;
+        };
+        let key = self.key(found.cost);
+        if key > best.key {
+            return best;
+        }
+        Best {
+            key,
+            cell: Some(found.cell),
+        }
+    }
+
+    /// The number that is least for the cost that stands first; its own number is the cost again.
+    fn key(&self, cost: u64) -> u64
+        ensures { result ≡ key self.now.sense cost }
+    {
+        match self.sense {
+            Sense::Least => cost,
+            Sense::Greatest => u64::MAX - cost,
+        }
+    }
+
+    /// What was found.
+    fn found_in(&self, best: Best) -> Option<Extreme>
+        ensures { result ≡ found_in self.now.sense best }
+    {
+        let cell = best.cell?;
+        let cost = self.key(best.key);
+        Some(Extreme { cost, cell })
+    }
+
+    /// The tail behind the first place of a scope, where each later place has one choice.
+    fn tail(&self, scope: &[u32], spot: Spot) -> Option<Tail>
+        requires some { 0 < length scope.now }
+        requires spot { IsSpot self.now scope.now spot }
+        ensures { IfSome result (IsTail self.now (drop 1 scope.now) (spot.offset + slice_index self.now.sizes.now (slice_index scope.now 0)) (spot.place + 1)) }
+    {
+        let mut tuples: u32 = 1;
+        let mut end = Spot {
+            cell: 0,
+            shift: 0,
+            offset: spot.offset + self.sizes[scope[0] as usize] as usize,
+            place: spot.place + 1,
+        };
+        let rest = from(scope, 1);
+        for x in rest {
+            let values = self.choices(*x, end.place);
+            if values.len() != 1 {
+                return None;
+            }
+            end = self.gone_on(end, *x, values[0]);
+            tuples *= self.sizes[*x as usize];
+        }
+        Some(Tail { tuples, end })
+    }
+
+    /// Where the scan stands once it has gone on by a tail.
+    fn ended(&self, spot: Spot, tail: Tail) -> Spot
+        requires { IsSpot self.now [] (ended spot tail) }
+        ensures { result ≡ ended spot tail }
+    {
+        Spot {
+            cell: spot.cell * tail.tuples + tail.end.cell,
+            shift: spot.shift.wrapping_add(tail.end.shift),
+            offset: tail.end.offset,
+            place: tail.end.place,
+        }
+    }
+
     /// Passes the places that have one choice, up to the first that has none or more: how many, and where the scan stands
     /// then.
     fn forced(&self, scope: &[u32], spot: Spot) -> (usize, Spot)
@@ -76,7 +205,7 @@ impl<'a> Scan<'a> {
         ensures passed { result.0 ≤ length scope.now }
         ensures spot { IsSpot self.now (drop result.0 scope.now) result.1 }
         ensures none { NoneMet self.now (drop result.0 scope.now) result.1 → NoneMet self.now scope.now spot }
-        ensures found { (found : Found) → IsFound self.now (drop result.0 scope.now) result.1 found → IsFound self.now scope.now spot found }
+        ensures found { (found : Extreme) → IsFound self.now (drop result.0 scope.now) result.1 found → IsFound self.now scope.now spot found }
     {
         let mut passed = 0;
         let mut spot = spot;
@@ -96,15 +225,22 @@ impl<'a> Scan<'a> {
     fn choices(&self, x: u32, place: usize) -> &[u32]
         requires variable { x < length self.now.live.now.sizes }
         requires sizes { self.now.live.now.sizes ≡ self.now.sizes.now }
-        requires value { place ≡ self.now.place → self.now.value < slice_index self.now.sizes.now x }
+        requires one { place ≡ self.now.one.place → self.now.one.value < slice_index self.now.sizes.now x }
+        requires two { place ≡ self.now.two.place → self.now.two.value < slice_index self.now.sizes.now x }
         ensures { AreChoices self.now place x result.now }
     {
-        if place != self.place {
-            self.live.live(x)
-        } else if self.live.is_live(x, self.value) {
-            slice::from_ref(&self.value)
-        } else {
+        if place == self.one.place {
+            if self.live.is_live(x, self.one.value) && agrees(self.two, place, self.one.value) {
+                return slice::from_ref(&self.one.value);
+            }
             &[]
+        } else if place == self.two.place {
+            if self.live.is_live(x, self.two.value) {
+                return slice::from_ref(&self.two.value);
+            }
+            &[]
+        } else {
+            self.live.live(x)
         }
     }
 
@@ -125,7 +261,7 @@ impl<'a> Scan<'a> {
     }
 
     /// The tuple that is complete, where its entry is below the upper bound and it is not cut.
-    fn here(&self, spot: Spot) -> Option<Found>
+    fn here(&self, spot: Spot) -> Option<Extreme>
         requires { IsSpot self.now [] spot }
         ensures { MatchOption result (NoneMet self.now [] spot) (IsFound self.now [] spot) }
     {
@@ -133,21 +269,21 @@ impl<'a> Scan<'a> {
         if entry >= self.upper || self.flags[spot.cell as usize] {
             return None;
         }
-        Some(Found {
-            word: entry.wrapping_sub(spot.shift),
+        Some(Extreme {
+            cost: entry.wrapping_sub(spot.shift),
             cell: spot.cell,
         })
     }
 
     /// What stands first of two.
-    fn sooner(&self, first: Option<Found>, other: Option<Found>) -> Option<Found>
+    fn sooner(&self, first: Option<Extreme>, other: Option<Extreme>) -> Option<Extreme>
         ensures { IsSooner self.now.sense first other result }
     {
         match (first, other) {
             (Some(a), Some(b)) => {
                 let is_later = match self.sense {
-                    Sense::Least => b.word < a.word,
-                    Sense::Greatest => a.word < b.word,
+                    Sense::Least => b.cost < a.cost,
+                    Sense::Greatest => a.cost < b.cost,
                 };
                 if is_later { other } else { first }
             }
@@ -155,6 +291,13 @@ impl<'a> Scan<'a> {
             (None, _) => other,
         }
     }
+}
+
+/// Whether a value at a place is what is asked for there.
+fn agrees(pin: Pin, place: usize, value: u32) -> bool
+    ensures { result ≡ agrees pin place value }
+{
+    place != pin.place || value == pin.value
 }
 
 /// What a scope has from a place on.

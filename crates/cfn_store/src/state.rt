@@ -5,7 +5,7 @@ ghost use Rattle.cfn_model.specs.declared.step.Event.{Event as PathEvent};
 ghost use Rattle.cfn_model.specs.declared.step.Event.TheVariants.{Did};
 ghost use Rattle.cfn_model.specs.Sums.{lifted};
 ghost use Rattle.cfn_model.specs.Steps.{InRange, IsPlace};
-ghost use Rattle.cfn_store.specs.Extremes.{NonePicked, IsExtreme};
+ghost use Rattle.cfn_store.specs.Extremes.{NoneBetween, IsExtremeBetween};
 ghost use Rattle.cfn_store.specs.Reading.{Reads, start};
 ghost use Rattle.cfn_store.specs.Scanning.{IsSpot};
 ghost use Rattle.cfn_model.specs.Network.{scope_at};
@@ -13,7 +13,7 @@ ghost use Rattle.cfn_store.specs.Exact.{InPlace, IsExact, IsExactAlong};
 ghost use Rattle.cfn_store.specs.State.{Keeps, IsState, HasRoom, history_of};
 
 use crate::cuts::Cuts;
-use crate::scan::{Found, Scan, Sense, Spot};
+use crate::scan::{Extreme, Pin, Scan, Sense, Spot};
 use crate::sums::Sums;
 use cfn_live::LiveSets;
 use cfn_model::{Event, Step};
@@ -63,21 +63,22 @@ impl State {
         self.trail.reserve(room)
     }
 
-    /// The least, or the greatest, residual cost of the live tuples of `f` with `value` at `place`.
+    /// The least, or the greatest, residual cost of the live tuples of `f` with the values that are asked for at two places.
     pub(crate) fn first(
         &self,
         network: &Network,
         f: u32,
-        place: u32,
-        value: u32,
+        one: Pin,
+        two: Pin,
         sense: Sense,
-    ) -> Option<Found>
+    ) -> Option<Extreme>
         requires state { IsState network.now self.now }
-        requires place { IsPlace network.now f place value }
-        ensures { MatchOption result (NonePicked network.now (history_of self.now) f place value)
-            (IsExtreme network.now (history_of self.now) f place value sense) }
+        requires one { IsPlace network.now f one.place one.value }
+        requires two { IsPlace network.now f two.place two.value }
+        ensures { MatchOption result (NoneBetween network.now (history_of self.now) f one.place one.value two.place two.value)
+            (IsExtremeBetween network.now (history_of self.now) f one.place one.value two.place two.value sense) }
     {
-        let scan = self.scan(network, f, place, value, sense);
+        let scan = self.scan(network, f, one, two, sense);
         let start = Spot {
             cell: 0,
             shift: 0,
@@ -87,20 +88,21 @@ impl State {
         scan.first(network.scope(f), start)
     }
 
-    /// The scan over the tuples of `f` with `value` at `place`.
+    /// The scan over these tuples.
     fn scan<'a>(
         &'a self,
         network: &'a Network,
         f: u32,
-        place: u32,
-        value: u32,
+        one: Pin,
+        two: Pin,
         sense: Sense,
     ) -> Scan<'a>
         requires state { IsState network.now self.now }
-        requires place { IsPlace network.now f place value }
+        requires one { IsPlace network.now f one.place one.value }
+        requires two { IsPlace network.now f two.place two.value }
         ensures reads { Reads network.now (history_of self.now) f result }
-        ensures place { result.place ≡ place }
-        ensures value { result.value ≡ value }
+        ensures one { result.one ≡ one }
+        ensures two { result.two ≡ two }
         ensures sense { result.sense ≡ sense }
         ensures spot { IsSpot result (scope_at network.now f) start }
     {
@@ -113,8 +115,8 @@ impl State {
             flags: self.cuts.flags.row(f as usize),
             live: &self.live,
             upper: network.ub(),
-            place: place as usize,
-            value,
+            one,
+            two,
             sense,
         }
     }

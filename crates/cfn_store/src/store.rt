@@ -12,14 +12,14 @@ ghost use Rattle.cfn_model.specs.Text.{IsSpelledStep};
 ghost use Rattle.cfn_store.specs.Exact.{IsExact, IsExactAlong};
 ghost use Rattle.cfn_live.specs.Sets.{AreLive, live_count};
 ghost use Rattle.cfn_store.specs.declared.scan.Sense.TheVariants.{Least, Greatest};
-ghost use Rattle.cfn_store.specs.Extremes.{NonePicked, IsExtreme};
+ghost use Rattle.cfn_store.specs.Extremes.{NonePicked, IsExtreme, NoneBetween, IsLeastBetween};
 ghost use Rattle.cfn_store.specs.Rooms.{sets_of, IsProjectRoom, IsExtendRoom, IsLiftRoom, IsAbove, IsToExtend};
 ghost use Rattle.cfn_store.specs.Marking.{IsMark, IsBehind, back_at};
 ghost use Rattle.cfn_store.specs.Standing.{history, at_root, with_step, with_side, FitsProject, FitsExtend, FitsLift};
 
 use crate::block::block_from;
 use crate::mark::Mark;
-use crate::scan::{Found, Sense};
+use crate::scan::{Extreme, Pin, Sense};
 use crate::state::{State, in_common};
 use cfn_model::{Decision, Event, GREATEST, Step};
 use cfn_net::Network;
@@ -45,7 +45,7 @@ impl<'n> Model for Store<'n> {
     ghost use Rattle.std.specs.Prelude.{◌-◌, length, reverse, take, drop};
     ghost use Rattle.cfn_live.specs.Sets.{AreLive, live_count};
     ghost use Rattle.cfn_store.specs.declared.scan.Sense.TheVariants.{Least, Greatest};
-    ghost use Rattle.cfn_store.specs.Extremes.{NonePicked, IsExtreme};
+    ghost use Rattle.cfn_store.specs.Extremes.{NonePicked, IsExtreme, NoneBetween, IsLeastBetween};
     ghost use Rattle.cfn_store.specs.Rooms.{sets_of, IsProjectRoom, IsExtendRoom, IsLiftRoom, IsAbove, IsToExtend};
     ghost use Rattle.cfn_store.specs.Standing.{Standing};
     ghost use Rattle.cfn_store.specs.Events.{steps_in};
@@ -239,23 +239,56 @@ impl<'n> Store<'n> {
 
     /// The least residual cost of the live tuples of `f` with `value` at `place`, and a tuple that has it. There is none
     /// exactly where no such tuple is live.
-    pub fn least_residual(&self, f: u32, place: u32, value: u32) -> Option<Found>
+    pub fn least_residual(&self, f: u32, place: u32, value: u32) -> Option<Extreme>
         requires { IsPlace self.now.network f place value }
         ensures { MatchOption result (NonePicked self.now.network (history self.now) f place value)
             (IsExtreme self.now.network (history self.now) f place value Least) }
     {
-        self.state
-            .first(self.network, f, place, value, Sense::Least)
+        let pin = Pin {
+            place: place as usize,
+            value,
+        };
+        self.state.first(self.network, f, pin, pin, Sense::Least)
     }
 
     /// The greatest residual cost of these tuples.
-    pub fn greatest_residual(&self, f: u32, place: u32, value: u32) -> Option<Found>
+    pub fn greatest_residual(&self, f: u32, place: u32, value: u32) -> Option<Extreme>
         requires { IsPlace self.now.network f place value }
         ensures { MatchOption result (NonePicked self.now.network (history self.now) f place value)
             (IsExtreme self.now.network (history self.now) f place value Greatest) }
     {
-        self.state
-            .first(self.network, f, place, value, Sense::Greatest)
+        let pin = Pin {
+            place: place as usize,
+            value,
+        };
+        self.state.first(self.network, f, pin, pin, Sense::Greatest)
+    }
+
+    /// The least residual cost of the live tuples of `f` with `value` at `place` and `other_value` at `other`, and the
+    /// number of one that has it. There is none exactly where no such tuple is live; so too where the places are the same
+    /// and the values are not.
+    pub fn least_between(
+        &self,
+        f: u32,
+        place: u32,
+        value: u32,
+        other: u32,
+        other_value: u32,
+    ) -> Option<Extreme>
+        requires one { IsPlace self.now.network f place value }
+        requires two { IsPlace self.now.network f other other_value }
+        ensures { MatchOption result (NoneBetween self.now.network (history self.now) f place value other other_value)
+            (IsLeastBetween self.now.network (history self.now) f place value other other_value) }
+    {
+        let one = Pin {
+            place: place as usize,
+            value,
+        };
+        let two = Pin {
+            place: other as usize,
+            value: other_value,
+        };
+        self.state.first(self.network, f, one, two, Sense::Least)
     }
 
     /// The greatest amount that can be projected there, limited to what has a spelling and keeps costs below 2^64; 0 where
@@ -266,7 +299,7 @@ impl<'n> Store<'n> {
     {
         self.network().limits();
         let least = match self.least_residual(f, place, value) {
-            Some(found) => found.word,
+            Some(found) => found.cost,
             None => GREATEST,
         };
         let x = self.network().scope(f)[place as usize];
@@ -280,7 +313,7 @@ impl<'n> Store<'n> {
     {
         self.network().limits();
         let above = match self.greatest_residual(f, place, value) {
-            Some(found) => u64::MAX - found.word,
+            Some(found) => u64::MAX - found.cost,
             None => GREATEST,
         };
         let x = self.network().scope(f)[place as usize];

@@ -1,4 +1,4 @@
-use Rattle.std.proofs.Common.{◌≡◌, ◌+◌, ◌++◌, ◌∷◌, [], take, get_or, subst, sym, ap, ◌∙◌, arith}
+use Rattle.std.proofs.Common.{◌++◌, ◌∷◌, [], take, get_or, sym, ap, ◌∙◌}
 use Rattle.std.proofs.lemmas.List.{take_more}
 use Rattle.cfn_model.specs.declared.step.Step.TheVariants.{Project}
 use Rattle.cfn_model.specs.declared.step.Event.{Event}

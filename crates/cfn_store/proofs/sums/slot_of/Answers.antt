@@ -1,7 +1,7 @@
-use Rattle.std.proofs.Common.{◌≡◌, ℕ, ◌+◌, ◌<◌, ◌≤◌, List, length, get_or, arith, ap, sym, ◌∙◌}
+use Rattle.std.proofs.Common.{◌≡◌, ◌+◌, ◌<◌, length, get_or, arith, ap, sym, ◌∙◌}
 use Rattle.std.proofs.lemmas.List.{get_or-take, length-take-le}
 use Rattle.std.specs.Prelude.{slice_index, take}
-use Rattle.cfn_model.specs.Network.{dims_at, scope_at, arity}
+use Rattle.cfn_model.specs.Network.{dims_at, scope_at}
 use Rattle.cfn_net.proofs.CallerLemmas.{get_or-dims, length-dims}
 use Rattle.cfn_store.specs.Shifts.{offset}
 use Rattle.cfn_store.proofs.Offsets.{offset_next, offset_least}

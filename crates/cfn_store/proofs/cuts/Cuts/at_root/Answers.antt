@@ -1,4 +1,4 @@
-use Rattle.std.proofs.Common.{◌≡◌, ◌∙◌, ◌≤◌, ap, map, replicate, length, arith, take_all}
+use Rattle.std.proofs.Common.{◌∙◌, ◌≤◌, ap, map, replicate, length, arith, take_all}
 use Rattle.std.specs.Prelude.{false}
 use Rattle.cfn_model.specs.Network.{cells, dims}
 use Rattle.cfn_store.proofs.Roots.{cuts_at_root}

@@ -1,6 +1,6 @@
-use Rattle.std.proofs.Common.{◌≡◌, ℕ, ◌+◌, ◌<◌, ◌≤◌, List, [], ◌∷◌, length, slice_index, drop, MatchOption, subst, sym, ap, ◌∙◌, arith}
+use Rattle.std.proofs.Common.{◌≡◌, ◌<◌, ◌∷◌, length, slice_index, drop, MatchOption, subst, sym, ap, ◌∙◌, arith}
 use Rattle.std.proofs.lemmas.List.{drop_more, length-drop}
-use Rattle.cfn_store.specs.Scanning.{IsSpot, NoneMet, IsFound, gone_on}
+use Rattle.cfn_store.specs.Scanning.{IsSpot, NoneMet, IsFound}
 use Rattle.cfn_store.proofs.Scans.{first_of_none, next_choice, all_choices, match_through, spot_behind}
 use Rattle.cfn_store.proofs.scan.Scan.+first.Goals as goal
 

@@ -1,17 +1,23 @@
-use Rattle.std.proofs.Common.{◌≡◌, ℕ, ◌+◌, ◌<◌, ◌≤◌, List, ◌∷◌, length, slice_index, drop, subst, sym, ap, ◌∙◌, arith}
+use Rattle.std.proofs.Common.{◌+◌, drop, subst, sym, arith}
 use Rattle.std.proofs.lemmas.List.{drop_more}
-use Rattle.cfn_store.specs.Scanning.{IsSpot, IsInner, AreChoices}
+use Rattle.cfn_store.specs.Scanning.{IsSpot}
 use Rattle.cfn_store.proofs.Scans.{Passed, passed_none, passed_more}
 use Rattle.cfn_store.proofs.scan.Scan.forced.Goals as goal
 
 pub loop-passed-init : goal.loop-passed-init
 loop-passed-init c = passed_none c.args.self.now c.args.scope.now c.args.spot c.requires
 
-pub choices-choices-requires-clause-value : goal.choices-choices-requires-clause-value
-choices-choices-requires-clause-value c = λ e.
+pub choices-choices-requires-clause-one : goal.choices-choices-requires-clause-one
+choices-choices-requires-clause-one c = λ e.
     (let front = drop_more c.args.scope.now c.loop-passed.passed 0 c.loop-passed-test.true in
     let here = subst (λ s. IsSpot c.args.self.now s c.loop-passed.spot) front c.loop-passed.invariant.spot_is in
-    here.value 0 (omega arith) (omega (arith, e)))
+    here.one 0 (omega arith) (omega (arith, e)))
+
+pub choices-choices-requires-clause-two : goal.choices-choices-requires-clause-two
+choices-choices-requires-clause-two c = λ e.
+    (let front = drop_more c.args.scope.now c.loop-passed.passed 0 c.loop-passed-test.true in
+    let here = subst (λ s. IsSpot c.args.self.now s c.loop-passed.spot) front c.loop-passed.invariant.spot_is in
+    here.two 0 (omega arith) (omega (arith, e)))
 
 pub gone_on-spot-requires : goal.gone_on-spot-requires
 gone_on-spot-requires c = record {

@@ -1,4 +1,4 @@
-use Rattle.std.proofs.Common.{◌≡◌, ℕ, ◌+◌, ◌*◌, ◌<◌, ◌≤◌, length, slice_index, Fits, w32, arith}
+use Rattle.std.proofs.Common.{◌+◌, ◌*◌, ◌<◌, slice_index, arith}
 use Rattle.cfn_store.proofs.Scans.{spot_behind, small_cell}
 use Rattle.cfn_store.proofs.scan.Scan.gone_on.Goals as goal
 

@@ -1,6 +1,5 @@
-use Rattle.std.proofs.Common.{◌≡◌, List, [], ◌∷◌, reverse, refl, sym, ap, subst, ◌∙◌}
+use Rattle.std.proofs.Common.{◌≡◌, [], reverse, sym, ap, subst, ◌∙◌}
 use Rattle.cfn_live.specs.Sets.{Sets}
-use Rattle.cfn_model.specs.declared.step.Event.{Event}
 use Rattle.cfn_store.specs.Exact.{IsExactAlong, LiftsFit}
 use Rattle.cfn_store.specs.State.{Keeps}
 use Rattle.cfn_store.specs.declared.state.State.{State}

@@ -1,4 +1,4 @@
-use Rattle.std.proofs.Common.{◌<◌, arith}
+use Rattle.std.proofs.Common.{arith}
 use Rattle.cfn_store.proofs.Going.{one_back}
 use Rattle.cfn_store.proofs.state.State.go_back.Goals as goal
 

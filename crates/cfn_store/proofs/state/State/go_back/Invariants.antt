@@ -1,5 +1,4 @@
-use Rattle.std.proofs.Common.{◌≡◌, ℕ, ◌≤◌, length, take}
-use Rattle.cfn_store.specs.State.{IsState, HasRoom}
+use Rattle.std.proofs.Common.{length}
 use Rattle.cfn_store.proofs.Going.{GoesBack}
 use Rattle.cfn_store.proofs.state.State.go_back.Given as goal
 

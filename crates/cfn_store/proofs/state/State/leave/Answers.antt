@@ -1,5 +1,4 @@
-use Rattle.std.proofs.Common.{◌≡◌, ◌≤◌, arith, ap}
-use Rattle.std.specs.Prelude.{vec_capacity}
+use Rattle.std.proofs.Common.{arith}
 use Rattle.cfn_store.proofs.state.State.leave.Goals as goal
 
 pub returns-in-Some-clause-room : goal.returns-in-Some-clause-room

@@ -1,9 +1,7 @@
-use Rattle.std.proofs.Common.{◌≡◌, ◌<◌, List, ◌∷◌, ◌++◌, [], length, reverse, refl, sym, ap, subst, ◌∙◌, arith}
-use Rattle.cfn_model.specs.declared.step.Event.{Event}
-use Rattle.cfn_model.specs.declared.step.Event.TheVariants.{Did, Took, Refused}
-use Rattle.cfn_store.specs.State.{Keeps, IsState, HasRoom, history_of}
+use Rattle.std.proofs.Common.{◌∷◌, refl, sym, subst, arith}
+use Rattle.cfn_model.specs.declared.step.Event.TheVariants.{Did}
+use Rattle.cfn_store.specs.State.{Keeps, history_of}
 use Rattle.cfn_model.specs.Steps.{InRange}
-use Rattle.cfn_store.specs.Exact.{InPlace}
 use Rattle.cfn_store.proofs.States.{project_made, extend_made, lift_made, tuple_cut, live_room, fresh_room, floor_room}
 use Rattle.cfn_store.proofs.state.State.make.Goals as goal
 

@@ -1,7 +1,6 @@
-use Rattle.std.proofs.Common.{◌≡◌, ◌<◌, List, ◌∷◌, ◌++◌, [], length, reverse, refl, sym, ap, subst, ◌∙◌, arith}
-use Rattle.cfn_model.specs.declared.step.Event.{Event}
-use Rattle.cfn_model.specs.declared.step.Event.TheVariants.{Did, Took, Refused}
-use Rattle.cfn_store.specs.State.{Keeps, IsState, HasRoom, history_of}
+use Rattle.std.proofs.Common.{◌∷◌, refl, subst}
+use Rattle.cfn_model.specs.declared.step.Event.TheVariants.{Did}
+use Rattle.cfn_store.specs.State.{Keeps}
 use Rattle.cfn_model.specs.Steps.{InRange}
 use Rattle.cfn_store.proofs.States.{project_unmade, extend_unmade, lift_unmade}
 use Rattle.cfn_store.proofs.state.State.unmake.Goals as goal

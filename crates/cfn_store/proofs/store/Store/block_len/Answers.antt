@@ -1,8 +1,5 @@
-use Rattle.std.proofs.Common.{◌≡◌, ◌<◌, ◌-◌, length, subst, sym, ap, ◌∙◌, arith, refl, MatchOption}
-use Rattle.std.proofs.lemmas.Int.{ints}
-use Rattle.cfn_store.specs.Standing.{Standing, history}
-use Rattle.cfn_store.specs.Rooms.{sets_of}
-use Rattle.cfn_store.proofs.Stores.{over, same_count, same_live, agree_live, live_sizes}
+use Rattle.std.proofs.Common.{length, ap, arith}
+use Rattle.cfn_store.specs.Standing.{Standing}
 use Rattle.cfn_store.proofs.Stores.{block_length}
 use Rattle.cfn_store.proofs.store.Store.block_len.Goals as goal
 

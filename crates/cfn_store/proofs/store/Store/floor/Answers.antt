@@ -1,8 +1,5 @@
-use Rattle.std.proofs.Common.{◌≡◌, ◌<◌, ◌-◌, length, subst, sym, ap, ◌∙◌, arith, refl, MatchOption}
-use Rattle.std.proofs.lemmas.Int.{ints}
-use Rattle.cfn_store.specs.Standing.{Standing, history}
-use Rattle.cfn_store.specs.Rooms.{sets_of}
-use Rattle.cfn_store.proofs.Stores.{over, same_count, same_live, agree_live, live_sizes}
+use Rattle.std.proofs.Common.{◌≡◌}
+use Rattle.cfn_store.proofs.Stores.{over}
 use Rattle.cfn_model.specs.Sums.{floor}
 use Rattle.cfn_store.proofs.store.Store.floor.Goals as goal
 

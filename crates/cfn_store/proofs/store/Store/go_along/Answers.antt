@@ -1,4 +1,4 @@
-use Rattle.std.proofs.Common.{◌≡◌, ◌≤◌, ◌-◌, length, ap, arith}
+use Rattle.std.proofs.Common.{length, ap, arith}
 use Rattle.cfn_store.specs.Standing.{Standing}
 use Rattle.cfn_store.proofs.Stores.{at_end}
 use Rattle.cfn_store.proofs.store.Store.go_along.Goals as goal

@@ -1,11 +1,10 @@
-use Rattle.std.proofs.Common.{◌≡◌, ◌<◌, ◌-◌, length, subst, sym, ap, ◌∙◌, arith, refl, MatchOption}
-use Rattle.std.proofs.lemmas.Int.{ints}
-use Rattle.cfn_store.specs.Standing.{Standing, history}
-use Rattle.cfn_store.specs.Rooms.{sets_of}
-use Rattle.cfn_store.proofs.Stores.{over, same_count, same_live, agree_live, live_sizes}
+use Rattle.std.proofs.Common.{MatchOption}
 use Rattle.cfn_store.specs.Extremes.{NonePicked, IsExtreme}
 use Rattle.cfn_store.specs.declared.scan.Sense.TheVariants.{Greatest}
+use Rattle.cfn_store.proofs.Extremes.{once}
+use Rattle.cfn_store.proofs.Stores.{over}
 use Rattle.cfn_store.proofs.store.Store.greatest_residual.Goals as goal
 
 pub returns : goal.returns
-returns c = over c.self.inside.network.now c.self.inside.base c.self.inside.room c.self.inside.state c.args.self.now c.self.invariant c.self.view_is (λ N h. MatchOption c.first.result (NonePicked N h c.args.f c.args.place c.args.value) (IsExtreme N h c.args.f c.args.place c.args.value Greatest)) c.first.ensures
+returns c = over c.self.inside.network.now c.self.inside.base c.self.inside.room c.self.inside.state c.args.self.now c.self.invariant c.self.view_is (λ N h. MatchOption c.first.result (NonePicked N h c.args.f c.args.place c.args.value) (IsExtreme N h c.args.f c.args.place c.args.value Greatest))
+    (once c.self.inside.network.now _ c.args.f c.args.place c.args.value Greatest c.first.result c.first.ensures)

@@ -1,4 +1,4 @@
-use Rattle.std.proofs.Common.{◌≡◌, ◌+◌, ◌<◌, ◌≤◌, length, min, subst, sym, ◌∙◌, arith}
+use Rattle.std.proofs.Common.{◌+◌, subst, sym, arith}
 use Rattle.cfn_store.proofs.Rooms.{LeastBefore, one_more, whole}
 use Rattle.cfn_store.proofs.store.Store.lift_room.Goals as goal
 

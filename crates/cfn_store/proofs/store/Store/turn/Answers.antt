@@ -1,9 +1,8 @@
-use Rattle.std.proofs.Common.{◌≡◌, ◌<◌, ◌-◌, ◌∷◌, length, subst, sym, ap, ◌∙◌, arith, refl}
-use Rattle.cfn_model.specs.declared.step.Event.TheVariants.{Did}
+use Rattle.std.proofs.Common.{◌∷◌, subst, sym, ap, ◌∙◌, arith}
 use Rattle.cfn_store.specs.Exact.{IsExact}
 use Rattle.cfn_store.specs.Kept.{IsStore}
-use Rattle.cfn_store.specs.Standing.{Standing, history, with_step, with_side}
-use Rattle.cfn_store.proofs.Stores.{view_of, history_is, step_kept, step_view, side_kept, side_view}
+use Rattle.cfn_store.specs.Standing.{Standing, history, with_side}
+use Rattle.cfn_store.proofs.Stores.{view_of, history_is, side_kept, side_view}
 use Rattle.cfn_store.proofs.store.Store.turn.Goals as goal
 
 pub enter-requires-clause-exact : goal.enter-requires-clause-exact

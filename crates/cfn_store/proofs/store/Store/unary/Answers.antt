@@ -1,9 +1,7 @@
-use Rattle.std.proofs.Common.{◌≡◌, ◌<◌, ◌-◌, length, subst, sym, ap, ◌∙◌, arith, refl, MatchOption}
-use Rattle.std.proofs.lemmas.Int.{ints}
+use Rattle.std.proofs.Common.{subst, sym}
 use Rattle.cfn_store.specs.Standing.{Standing, history}
-use Rattle.cfn_store.specs.Rooms.{sets_of}
-use Rattle.cfn_store.proofs.Stores.{over, same_count, same_live, agree_live, live_sizes}
-use Rattle.cfn_model.specs.Sums.{unary, is_live}
+use Rattle.cfn_store.proofs.Stores.{over}
+use Rattle.cfn_model.specs.Sums.{unary}
 use Rattle.cfn_model.specs.Steps.{IsValue}
 use Rattle.cfn_store.specs.Wrapped.{StandsFor}
 use Rattle.cfn_store.proofs.Along.{exact_here}

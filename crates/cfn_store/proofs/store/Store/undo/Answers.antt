@@ -1,4 +1,4 @@
-use Rattle.std.proofs.Common.{◌≤◌, length, arith}
+use Rattle.std.proofs.Common.{arith}
 use Rattle.cfn_store.proofs.Going.{fewer, back_kept, back_view}
 use Rattle.cfn_store.proofs.store.Store.undo.Goals as goal
 

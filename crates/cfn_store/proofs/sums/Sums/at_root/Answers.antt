@@ -1,5 +1,4 @@
-use Rattle.std.proofs.Common.{◌≡◌, ◌∙◌, ap, map, replicate}
-use Rattle.cfn_store.specs.Sums.{width_of}
+use Rattle.std.proofs.Common.{◌∙◌, ap, map, replicate}
 use Rattle.cfn_store.proofs.Roots.{sums_at_root}
 use Rattle.cfn_store.proofs.sums.Sums.at_root.Goals as goal
 

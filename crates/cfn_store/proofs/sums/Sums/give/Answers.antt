@@ -1,5 +1,5 @@
-use Rattle.std.proofs.Common.{◌≡◌, ◌+◌, ◌<◌, length, arith, ap, sym, subst, ◌∙◌}
-use Rattle.std.specs.Prelude.{ℕ, List, pos, neg_ℤ, slice_index}
+use Rattle.std.proofs.Common.{◌≡◌, arith, ap, sym, subst, ◌∙◌}
+use Rattle.std.specs.Prelude.{pos, slice_index}
 use Rattle.cfn_model.specs.Network.{variable_at}
 use Rattle.cfn_model.specs.Steps.{IsValue}
 use Rattle.cfn_store.specs.Sums.{Moves, has_more}

@@ -1,6 +1,5 @@
-use Rattle.std.proofs.Common.{◌≡◌, ◌+◌, ◌-◌, ◌%◌, ◌^◌, ◌<◌, length, arith, refl, ap, set}
+use Rattle.std.proofs.Common.{◌≡◌, ◌+◌, ◌%◌, ◌^◌, arith, refl, ap, set}
 use Rattle.std.proofs.lemmas.List.{get_or_read}
-use Rattle.std.specs.Prelude.{slice_index}
 use Rattle.cfn_store.specs.Sums.{lifted_word}
 use Rattle.cfn_store.proofs.Moving.{lifts_up}
 use Rattle.cfn_store.proofs.sums.Sums.lift.Goals as goal

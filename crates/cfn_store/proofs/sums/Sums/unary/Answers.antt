@@ -1,10 +1,10 @@
-use Rattle.std.proofs.Common.{◌≡◌, ◌<◌, length, arith, ap, sym, subst, ◌∙◌}
+use Rattle.std.proofs.Common.{◌≡◌, arith, ap, sym, subst}
 use Rattle.std.proofs.lemmas.List.{get_or_read}
 use Rattle.std.proofs.lemmas.Int.{ints}
 use Rattle.std.specs.Prelude.{slice_index, pos, neg_ℤ, ◌+ℤ◌}
 use Rattle.cfn_model.specs.Sums.{unary}
 use Rattle.cfn_store.specs.Wrapped.{StandsFor}
-use Rattle.cfn_store.specs.Sums.{given_word, lifted_word}
+use Rattle.cfn_store.specs.Sums.{lifted_word}
 use Rattle.cfn_store.proofs.sums.Sums.unary.Goals as goal
 
 pub returns : goal.returns
