@@ -1,0 +1,6 @@
+pub mod Ordering
+pub mod Scores
+pub mod Passes
+pub mod Counting
+pub mod Seconds
+pub mod Least

@@ -1,0 +1,3 @@
+pub mod Weighing
+pub mod Choosing
+pub mod Passing

@@ -1,0 +1,22 @@
+-- What holds within a pass over the variables.
+use Rattle.std.specs.Prelude.{◌≡◌, ℕ, ◌<◌, ◌≤◌, ◌⊎◌, List, Option, Some, None}
+use Rattle.cfn_store.specs.Standing.{Standing}
+use Rattle.cfn_branch.specs.declared.choosing.Score.{Score}
+use Rattle.cfn_branch.specs.declared.choosing.Candidate.{Candidate}
+use Rattle.cfn_branch.specs.Choosing.{choices, IsOpen, HasScore, IsBetter, ComesBefore}
+
+-- The first of the best so far and a variable behind it.
+abbrev pub IsFirstOf : Option Candidate → Candidate → Candidate → Type 0
+IsFirstOf None next result = result ≡ next
+IsFirstOf (Some best) next result = (IsBetter next.score best.score × (result ≡ next)) ⊎ ((IsBetter next.score best.score → ⊥) × (result ≡ best))
+
+-- None of the variables below n is open.
+pub record NoneYet (s : Standing) (n : ℕ) : Type 0 where
+  pub none : (y : ℕ) → y < n → choices s y ≤ 1
+
+-- Of the variables below n, no open one comes before this one.
+pub record BestYet (s : Standing) (weights : List ℕ) (n : ℕ) (best : Candidate) : Type 0 where
+  pub below : best.variable < n
+  pub undecided : IsOpen s best.variable
+  pub is : HasScore s weights best.variable best.score
+  pub first : (y : ℕ) (other : Score) → y < n → IsOpen s y → HasScore s weights y other → ComesBefore other y best.score best.variable → ⊥

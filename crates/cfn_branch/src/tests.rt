@@ -1,0 +1,38 @@
+use super::*;
+use cfn_incidence::Incidence;
+use cfn_net::{Builder, Network};
+use cfn_store::Store;
+use std::alloc::{AllocError, Global};
+use std::test::*;
+
+/// Three variables with two values in a row, a function over each two that are next to each other and one over the last.
+fn row(alloc: Global) -> Result<Network, AllocError> {
+    let mut builder = Builder::make(alloc, b"row", &[2, 2, 2], 10)?;
+    builder.function(&[0, 1], 1, &[])?;
+    builder.function(&[1, 2], 1, &[])?;
+    builder.function(&[2], 1, &[])?;
+    builder.finish()
+}
+
+#[test]
+fn blame_raises_a_weight(rt: HostRuntime) -> Result<(), Fail> {
+    let network = row(rt.alloc())?;
+    let mut weights = Weights::make(rt.alloc(), &network)?;
+    if network.functions() == 3 {
+        weights.blame(1);
+        weights.blame(1);
+        assert_eq!(rt; weights.of(0), 1);
+        assert_eq!(rt; weights.of(1), 3);
+    }
+    Ok(())
+}
+
+#[test]
+fn variable_in_the_middle_is_chosen(rt: HostRuntime) -> Result<(), Fail> {
+    let network = row(rt.alloc())?;
+    let weights = Weights::make(rt.alloc(), &network)?;
+    let incidence = Incidence::build(rt.alloc(), &network)?;
+    let store = Store::build(rt.alloc(), &network)?;
+    assert_eq!(rt; choose(&weights, &incidence, &store), Some(1));
+    Ok(())
+}

@@ -1,0 +1,4 @@
+pub mod Agreeing
+pub mod Setting
+pub mod Noting
+pub mod CallerLemmas

@@ -1,0 +1,10 @@
+pub mod Counting
+pub mod Places
+pub mod Opening
+pub mod Planning
+pub mod Costs
+pub mod Trimming
+pub mod Spreading
+pub mod Collecting
+pub mod Directing
+pub mod CallerLemmas

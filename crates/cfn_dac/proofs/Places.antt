@@ -1,0 +1,69 @@
+-- What is read of places: the two of a pair are those of different variables, and a live tuple's values are live.
+use Rattle.std.proofs.Common.{◌≡◌, ◌⊎◌, ℕ, zero, suc, ◌<◌, ◌≤◌, List, [], ◌∷◌, length, Bool, true, false, ◌&&◌, not, refl, sym, inl, inr, arith}
+use Rattle.std.proofs.lemmas.Bool.{cases_eq}
+use Rattle.std.specs.Prelude.{slice_index, nat_lt, IsTrue}
+use Rattle.cfn_model.specs.declared.step.Event.{Event}
+use Rattle.cfn_model.specs.Network.{Network, IsNetwork, Fits, arity, scope_at, variable_at, dims, dims_at, entry_at, cell}
+use Rattle.cfn_model.specs.Sums.{is_live, is_live_tuple, all_live, is_cut}
+use Rattle.cfn_model.specs.Steps.{IsValue, IsPlace}
+use Rattle.cfn_net.proofs.CallerLemmas.{get_or-dims}
+use Rattle.cfn_dac.specs.declared.pair.Pair.{Pair}
+use Rattle.cfn_dac.specs.Full.{IsPair, first_of, second_of}
+
+pub cases_lt : (a b : ℕ) → (a < b) ⊎ (b ≤ a)
+cases_lt a zero = inr (omega arith)
+cases_lt a (suc b) = elim (cases_lt a b) [
+  | inl h ↦ inl (omega (arith, h))
+  | inr h ↦ (elim (cases_eq a b) [
+    | inl e ↦ inl (omega (arith, e))
+    | inr d ↦ inr (omega (arith, h, d))
+  ])
+]
+
+pub not_both : {A : Type 0} (b : Bool) → b ≡ true → b ≡ false → A
+not_both true e d = absurd cc
+not_both false e d = absurd cc
+
+-- the values at the two places of a pair are values of two different variables
+value_of : (P : Network) (f i a : ℕ) → IsNetwork P → IsPlace P f i a → IsValue P (variable_at P f i) a
+value_of P f i a net place = record {
+  variable = (net.functions f place.function).variables i place.place;
+  value = let v = place.value in let d = get_or-dims P.sizes (scope_at P f) i place.place in omega (arith, v, d);
+}
+
+pub place_of : (P : Network) (f i a : ℕ) → f < length P.functions → i < arity P f → a < slice_index P.sizes (variable_at P f i) → IsPlace P f i a
+place_of P f i a there place value = record { function = there; place = place; value = let d = get_or-dims P.sizes (scope_at P f) i place in omega (arith, value, d) }
+
+pub first_value : (P : Network) (pair : Pair) (a : ℕ) → IsNetwork P → IsPlace P pair.function pair.place a → IsValue P (first_of P pair) a
+first_value P pair a net place = value_of P pair.function pair.place a net place
+
+pub second_value : (P : Network) (pair : Pair) (b : ℕ) → IsNetwork P → IsPlace P pair.function pair.other b → IsValue P (second_of P pair) b
+second_value P pair b net place = value_of P pair.function pair.other b net place
+
+pub variables_apart : (P : Network) (pair : Pair) → IsNetwork P → IsPair P pair → second_of P pair ≡ first_of P pair → ⊥
+variables_apart P pair net is same = elim (cases_lt pair.place pair.other) [
+  | inl less ↦ (net.functions pair.function is.function).different pair.place pair.other less is.other (sym same)
+  | inr more ↦ (net.functions pair.function is.function).different pair.other pair.place (let d = is.different in omega (arith, more, d)) is.place same
+]
+
+-- each value of a live tuple is one of its variable's, and live
+both : (a b : Bool) → (a && b) ≡ true → (a ≡ true) × (b ≡ true)
+both true true e = (refl, refl)
+both true false e = absurd cc
+both false b e = absurd cc
+
+live_at : (history : List Event) (sizes scope tuple : List ℕ) (j : ℕ) → j < length scope → Fits (dims sizes scope) tuple → all_live history scope tuple ≡ true
+    → (slice_index tuple j < slice_index sizes (slice_index scope j)) × (is_live history (slice_index scope j) (slice_index tuple j) ≡ true)
+live_at history sizes [] tuple j h fits live = absurd (omega (arith, h))
+live_at history sizes (x ∷ scope) [] j h fits live = absurd fits
+live_at history sizes (x ∷ scope) (a ∷ tuple) zero h fits live = (fits.0, (both (is_live history x a) (all_live history scope tuple) live).0)
+live_at history sizes (x ∷ scope) (a ∷ tuple) (suc j) h fits live =
+    live_at history sizes scope tuple j (omega (arith, h)) fits.1 (both (is_live history x a) (all_live history scope tuple) live).1
+
+pub tuple_at : (P : Network) (history : List Event) (f j : ℕ) (tuple : List ℕ) → j < arity P f → Fits (dims_at P f) tuple → IsTrue (is_live_tuple P history f tuple)
+    → (slice_index tuple j < slice_index P.sizes (variable_at P f j)) × IsTrue (is_live history (variable_at P f j) (slice_index tuple j))
+tuple_at P history f j tuple h fits live =
+    let below = nat_lt (entry_at P f tuple) P.upper in
+    let first = both (all_live history (scope_at P f) tuple && below) (not (is_cut history f (cell (dims_at P f) tuple))) live in
+    let second = both (all_live history (scope_at P f) tuple) below first.0 in
+    live_at history P.sizes (scope_at P f) tuple j h fits second.0

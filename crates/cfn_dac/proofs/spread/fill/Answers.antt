@@ -1,0 +1,27 @@
+use Rattle.std.proofs.Common.{◌<◌, subst, arith}
+use Rattle.cfn_model.specs.Network.{IsNetwork}
+use Rattle.cfn_store.specs.Standing.{history}
+use Rattle.cfn_gain.proofs.CallerLemmas.{does_then, on_ok}
+use Rattle.cfn_dac.proofs.Spreading.{share_due, fits_extend, filled_covers, filled_within}
+use Rattle.cfn_dac.proofs.spread.fill.Goals as goal
+
+pub extend-requires-clause-fits : goal.extend-requires-clause-fits
+extend-requires-clause-fits c =
+    let s = c.args.store.now in let pair = c.args.pair in let q = c.requires in
+    let some : 0 < c.share-share.result = (let f = c.if-share-eq0.false in omega (arith, f)) in
+    let due = share_due s.network (history s) pair c.args.limits.threshold c.args.moves.now c.args.value c.share-share.result c.exact.ensures q.pair q.covers q.within c.share-share.ensures some in
+    let trim = c.in_ok-trim.ensures in
+    fits_extend s c.trim.new.store c.args.limits pair c.args.value c.share-share.result (subst IsNetwork c.network.ensures c.limits.ensures) q.goes trim.does.adds.network q.value some due trim.trims trim.below
+
+pub returns-clause-does : goal.returns-clause-does
+returns-clause-does c = does_then c.args.store.now c.trim.new.store c.extend.new.store c.args.limits c.extend.result c.in_ok-trim.ensures.does c.extend.ensures.does
+
+pub returns-clause-covers : goal.returns-clause-covers
+returns-clause-covers c =
+    let trim = c.in_ok-trim.ensures in
+    on_ok c.extend.result (filled_covers c.args.store.now c.trim.new.store c.extend.new.store c.args.limits c.args.pair c.args.moves.now c.args.value c.share-share.result trim.does.adds.network trim.trims c.requires.covers c.share-share.ensures) c.extend.ensures.made
+
+pub returns-clause-within : goal.returns-clause-within
+returns-clause-within c =
+    let trim = c.in_ok-trim.ensures in
+    on_ok c.extend.result (filled_within c.args.store.now c.trim.new.store c.extend.new.store c.args.limits c.args.pair c.args.moves.now c.args.value c.share-share.result (subst IsNetwork c.network.ensures c.limits.ensures) c.requires.pair trim.does.adds.network trim.trims c.requires.within) c.extend.ensures.made

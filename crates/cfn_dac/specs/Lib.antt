@@ -1,0 +1,3 @@
+pub mod Opens
+pub mod Full
+pub mod Moves

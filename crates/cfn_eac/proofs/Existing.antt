@@ -1,0 +1,136 @@
+-- A value with full supports in the arms makes its variable existential.
+use Rattle.std.proofs.Common.{◌≡◌, ◌⊎◌, ℕ, zero, suc, ◌+◌, ◌<◌, ◌≤◌, inl, inr, List, length, refl, sym, ap, ◌∙◌, subst, arith}
+use Rattle.std.proofs.lemmas.Int.{ints}
+use Rattle.std.specs.Prelude.{min, Ok, ℤ, pos, ◌<ℤ◌, IsTrue, slice_index, Result, OnOk}
+use Rattle.cfn_model.specs.declared.step.Event.{Event}
+use Rattle.cfn_model.specs.Network.{Network, IsNetwork, arity, variable_at, dims_at, scope_at}
+use Rattle.cfn_model.specs.Sums.{floor, unary, is_live}
+use Rattle.cfn_model.specs.Steps.{IsValue, IsPlace}
+use Rattle.cfn_consistency.specs.Openness.{HasOpenPair}
+use Rattle.cfn_consistency.specs.Consistency.{IsFree, HasFullSupport, IsFirst, IsExistential}
+use Rattle.cfn_net.proofs.CallerLemmas.{get_or-dims}
+use Rattle.cfn_store.specs.Standing.{Standing, history}
+use Rattle.cfn_dac.specs.declared.pair.Pair.{Pair}
+use Rattle.cfn_dac.specs.Full.{IsPair, AreFullBelow}
+use Rattle.cfn_gain.specs.declared.limits.Limits.{Limits}
+use Rattle.cfn_gain.specs.declared.limits.Halt.{Halt}
+use Rattle.cfn_gain.specs.Calls.{Does, Passing, Shows, IsUnchanged}
+use Rattle.cfn_gain.specs.Levels.{IsLevel}
+use Rattle.cfn_gain.proofs.CallerLemmas.{passing_adds, shows_after}
+use Rattle.cfn_eac.specs.Arms.{IsArm, IsReached, AreArms, IsGood, HasGood, pair_at, other_of}
+use Rattle.cfn_eac.proofs.Gather.{which}
+
+-- a variable stands at one place of a function
+pub same_place : (P : Network) (f i p : ℕ) → IsNetwork P → f < length P.functions → i < arity P f → p < arity P f → variable_at P f i ≡ variable_at P f p → i ≡ p
+same_place P f i p net there one other same = elim (which i p) [
+  | inl h ↦ absurd ((net.functions f there).different i p h other same)
+  | inr r ↦ (elim r [
+    | inl e ↦ e
+    | inr h ↦ absurd ((net.functions f there).different p i h one (sym same))
+  ])
+]
+
+moved : (P : Network) (history : List Event) (f g i p j q a : ℕ) → g ≡ f → p ≡ i → q ≡ j → HasFullSupport P history g p q a → HasFullSupport P history f i j a
+moved P history f g i p j q a e d b full =
+    subst (λ n. HasFullSupport P history f i n a) b (subst (λ n. HasFullSupport P history f n q a) d (subst (λ n. HasFullSupport P history n p q a) e full))
+
+pub existential_of : (P : Network) (history : List Event) (x : ℕ) (pairs : List Pair) → IsNetwork P → AreArms P history x pairs → HasGood P history x pairs → IsExistential P history x
+existential_of P history x pairs net are good = record {
+  value = good.0;
+  free = good.1.free;
+  supports = λ f i j pair at first.
+      (let r = are.all f i j pair at in
+      let arm = are.each r.arm r.within in
+      let mine = pair_at pairs r.arm in
+      let low = r.first in
+      let high = first mine.function mine.place mine.other arm.both (arm.at ∙ sym at) r.other in
+      let same : mine.function ≡ f = omega (arith, low, high) in
+      let there = pair.active.function in
+      let place_there = subst (λ g. mine.place < arity P g) same arm.both.one.0 in
+      let other_there = subst (λ g. mine.other < arity P g) same arm.both.other.0 in
+      let place_is = same_place P f mine.place i net there place_there pair.one.0 (sym (ap (λ g. variable_at P g mine.place) same) ∙ arm.at ∙ sym at) in
+      let other_is = same_place P f mine.other j net there other_there pair.other.0 (sym (ap (λ g. variable_at P g mine.other) same) ∙ r.other) in
+      moved P history f mine.function i mine.place j mine.other good.0 same place_is other_is (good.1.full r.arm r.within));
+}
+
+-- an arm is a pair of places, and a value of x one of the values there
+pub pair_of_arm : (P : Network) (history : List Event) (x : ℕ) (pair : Pair) → IsArm P history x pair → IsPair P pair
+pair_of_arm P history x pair arm = record {
+  function = arm.both.active.function;
+  place = arm.both.one.0;
+  other = arm.both.other.0;
+  different = arm.both.different;
+}
+
+-- what has been added up, over the first n arms, is 0 only where the value costs nothing and has full supports in them
+pub record IsAsked (P : Network) (history : List Event) (x : ℕ) (pairs : List Pair) (a n sum : ℕ) : Type 0 where
+  pub free : sum ≡ 0 → unary P history x a ≡ pos 0
+  pub full : sum ≡ 0 → (k : ℕ) → k < n → HasFullSupport P history (pair_at pairs k).function (pair_at pairs k).place (pair_at pairs k).other a
+
+pub asked_start : (P : Network) (history : List Event) (x : ℕ) (pairs : List Pair) (a sum : ℕ) → pos sum ≡ unary P history x a → IsAsked P history x pairs a 0 sum
+asked_start P history x pairs a sum is = record { free = λ none. sym is ∙ ap pos none; full = λ none k h. absurd (omega (arith, h)) }
+
+pub asked_more : (P : Network) (history : List Event) (x : ℕ) (pairs : List Pair) (a n sum more new : ℕ) → IsAsked P history x pairs a n sum → (more ≡ 0 → HasFullSupport P history (pair_at pairs n).function (pair_at pairs n).place (pair_at pairs n).other a) → sum ≤ new → more ≤ new → IsAsked P history x pairs a (n + 1) new
+asked_more P history x pairs a n sum more new old here one two = record {
+  free = λ none. old.free (omega (arith, one, none));
+  full = λ none k h. elim (which k n) [
+    | inl less ↦ old.full (omega (arith, one, none)) k less
+    | inr r ↦ (elim r [
+      | inl e ↦ subst (λ i. HasFullSupport P history (pair_at pairs i).function (pair_at pairs i).place (pair_at pairs i).other a) (sym e) (here (omega (arith, two, none)))
+      | inr past ↦ absurd (omega (arith, h, past))
+    ])
+  ];
+}
+
+pub good_of_asked : (P : Network) (history : List Event) (x : ℕ) (pairs : List Pair) (a n sum : ℕ) → IsValue P x a → IsTrue (is_live history x a) → length pairs ≤ n → IsAsked P history x pairs a n sum → sum ≡ 0 → IsGood P history x pairs a
+good_of_asked P history x pairs a n sum value live all asked none = record {
+  free = record { value = value; live = live; free = asked.free none };
+  full = λ k h. asked.full none k (omega (arith, h, all));
+}
+
+-- the values that cost less than an amount have full supports in the first n arms
+abbrev pub AreFullTo : Network → List Event → List Pair → ℕ → ℕ → Type 0
+AreFullTo P history pairs alpha n = (k : ℕ) → k < n → AreFullBelow P history (pair_at pairs k) alpha
+
+pub full_none : (P : Network) (history : List Event) (pairs : List Pair) (alpha : ℕ) → AreFullTo P history pairs alpha 0
+full_none P history pairs alpha k h = absurd (omega (arith, h))
+
+pub full_more : (before now next : Standing) (limits : Limits) (pairs : List Pair) (alpha cap lacks n : ℕ) → Passing before now limits (AreFullTo before.network (history before) pairs alpha n) → Does now next limits (Ok tt) → (IsUnchanged now next → AreFullBelow now.network (history now) (pair_at pairs n) cap) → floor before.network (history before) + alpha ≤ limits.threshold → floor now.network (history now) + lacks ≡ limits.threshold → cap ≡ min alpha lacks → Passing before next limits (AreFullTo before.network (history before) pairs alpha (n + 1))
+full_more before now next limits pairs alpha cap lacks n p does here below sum least =
+    passing_adds before now next limits _ _ p does.adds does.ends
+    (λ is fact same k h. elim (which k n) [
+      | inl less ↦ fact k less
+      | inr r ↦ (elim r [
+        | inl e ↦
+            (let floors = ap (λ t. floor t.network (history t)) is in
+            let whole : cap ≡ alpha = omega (arith, floors, below, sum, least) in
+            subst (λ i. AreFullBelow before.network (history before) (pair_at pairs i) alpha) (sym e)
+            (subst (λ m. AreFullBelow before.network (history before) (pair_at pairs n) m) whole
+            (subst (λ t. AreFullBelow t.network (history t) (pair_at pairs n) cap) is (here same))))
+        | inr past ↦ absurd (omega (arith, h, past))
+      ])
+    ])
+
+-- where a variable is level and values below an amount have full supports, one is good
+pub good_of_level : (P : Network) (history : List Event) (k x : ℕ) (pairs : List Pair) (alpha n : ℕ) → AreArms P history x pairs → length pairs ≤ n → 0 < alpha → AreFullTo P history pairs alpha n → IsLevel P history k x → HasGood P history x pairs
+good_of_level P history k x pairs alpha n are all some each level =
+    let a = level.free.0 in let free = level.free.1 in (
+      a,
+      record {
+        free = free;
+        full = λ m h.
+            (let arm = are.each m h in
+            let pair = pair_at pairs m in
+            let size = get_or-dims P.sizes (scope_at P pair.function) pair.place arm.both.one.0 ∙ ap (slice_index P.sizes) arm.at in
+            let value = free.value.value in
+            each m (omega (arith, h, all)) a
+            (record { function = arm.both.active.function; place = arm.both.one.0; value = omega (arith, size, value) })
+            (subst (λ v. IsTrue (is_live history v a)) (sym arm.at) free.live)
+            (subst (λ v. unary P history v a <ℤ pos alpha) (sym arm.at) (let none = free.free in omega (arith, ints, none, some))));
+      },
+    )
+
+pub good_after : (before now next : Standing) (limits : Limits) (x : ℕ) (pairs : List Pair) (alpha n : ℕ) (result : Result (Unit {0}) Halt) → AreArms before.network (history before) x pairs → length pairs ≤ n → 0 < alpha → Passing before now limits (AreFullTo before.network (history before) pairs alpha n) → Does now next limits result → Shows now next result (IsLevel now.network (history now) limits.threshold x) → Shows before next result (HasGood before.network (history before) x pairs)
+good_after before now next limits x pairs alpha n result are all some p does level =
+    shows_after before now next limits result p.adds does.adds p.fact level
+    (λ is fact flat. good_of_level before.network (history before) limits.threshold x pairs alpha n are all some fact (subst (λ t. IsLevel t.network (history t) limits.threshold x) is flat))

@@ -1,0 +1,48 @@
+-- The functions between a variable and other open variables.
+use Rattle.std.specs.Prelude.{◌≡◌, ℕ, ◌<◌, ◌≤◌, List, length, slice_index_or}
+use Rattle.cfn_model.specs.declared.step.Event.{Event}
+use Rattle.cfn_model.specs.Network.{Network, variable_at}
+use Rattle.cfn_consistency.specs.Openness.{HasOpenPair}
+use Rattle.cfn_consistency.specs.Consistency.{IsFree, HasFullSupport}
+use Rattle.cfn_dac.specs.declared.pair.Pair.{Pair}
+
+-- A pair of a list, and the variable at its other place.
+abbrev pub pair_at : List Pair → ℕ → Pair
+pair_at pairs k = slice_index_or pairs k (record { function = 0; place = 0; other = 0 })
+
+abbrev pub other_of : Network → Pair → ℕ
+other_of P pair = variable_at P pair.function pair.other
+
+-- An arm of x: the open pair of a function, with x at the first place.
+pub record IsArm (P : Network) (history : List Event) (x : ℕ) (pair : Pair) : Type 0 where
+  pub both : HasOpenPair P history pair.function pair.place pair.other
+  pub at : variable_at P pair.function pair.place ≡ x
+
+-- A list has an arm to y, by f or a function of a lower number.
+pub record IsReached (P : Network) (pairs : List Pair) (f y : ℕ) : Type 0 where
+  pub arm : ℕ
+  pub within : arm < length pairs
+  pub first : (pair_at pairs arm).function ≤ f
+  pub other : other_of P (pair_at pairs arm) ≡ y
+
+-- A list has arms of x, and one to each open variable that is with x the open pair of a function, by the first such one.
+pub record AreArms (P : Network) (history : List Event) (x : ℕ) (pairs : List Pair) : Type 0 where
+  pub each : (k : ℕ) → k < length pairs → IsArm P history x (pair_at pairs k)
+  pub all : (f i j : ℕ) → HasOpenPair P history f i j → variable_at P f i ≡ x → IsReached P pairs f (variable_at P f j)
+
+-- A network, and the pairs that were gathered.
+pub record Gathered : Type 0 where
+  pub network : Network
+  pub pairs : List Pair
+
+-- A live value of x has the unary cost 0 and a full support in each of the arms.
+pub record IsGood (P : Network) (history : List Event) (x : ℕ) (pairs : List Pair) (a : ℕ) : Type 0 where
+  pub free : IsFree P history x a
+  pub full : (k : ℕ) → k < length pairs → HasFullSupport P history (pair_at pairs k).function (pair_at pairs k).place (pair_at pairs k).other a
+
+abbrev pub HasGood : Network → List Event → ℕ → List Pair → Type 0
+HasGood P history x pairs = (a : ℕ) × IsGood P history x pairs a
+
+-- The pairs are of functions of the network.
+abbrev pub AreOfFunctions : Network → List Pair → Type 0
+AreOfFunctions P pairs = (k : ℕ) → k < length pairs → (pair_at pairs k).function < length P.functions

@@ -1,0 +1,134 @@
+//! The arms of a variable: for each other open variable the first function whose two open variables they are.
+
+ghost use Rattle.std.specs.Prelude.{◌≡◌, ◌<◌, length, IfOk, IfSome, MatchOption};
+ghost use Rattle.cfn_incidence.specs.Places.{StandsAt};
+ghost use Rattle.cfn_model.specs.Network.{variable_at};
+ghost use Rattle.cfn_store.specs.Standing.{history};
+ghost use Rattle.cfn_eac.specs.Arms.{AreArms, AreOfFunctions};
+ghost use Rattle.cfn_eac.specs.Gathering.{HasNoArm, IsArmAt, ArePairs, AreMarks, IsClear};
+
+use cfn_dac::{Opens, Pair, open_places};
+use cfn_incidence::{Incidence, Place};
+use cfn_net::Network;
+use cfn_store::Store;
+use std::alloc::{AllocError, Global};
+use std::marker::Model;
+
+/// Room for the arms of one variable. Contracts see the network, and the arms that were gathered last.
+#[derive(Drop)]
+pub struct Arms<'n> {
+    network: &'n Network,
+    pairs: Vec<Pair>,
+    /// Which variables are at the other end of an arm, while arms are gathered.
+    met: Vec<bool>,
+}
+
+impl<'n> Model for Arms<'n> {
+    ghost use Rattle.std.specs.Prelude.{◌≤◌, length, vec_capacity};
+    ghost use Rattle.cfn_eac.specs.Arms.{Gathered};
+    ghost use Rattle.cfn_eac.specs.Gathering.{IsClear};
+
+    ghost Value = { Gathered };
+
+    ghost view = { λ s. record { network = s.network.now; pairs = s.pairs.items } };
+
+    ghost invariant = { λ s. (length s.network.now.functions ≤ vec_capacity s.pairs) × IsClear s.network.now s.met.items };
+}
+
+impl<'n> Arms<'n> {
+    /// No arm yet, for stores of a network. An `Err` is want of memory; no other call takes any.
+    pub fn make(alloc: Global, network: &'n Network) -> Result<Arms<'n>, AllocError>
+        ensures { IfOk result (λ arms. arms.network ≡ network.now) }
+    {
+        Ok(Arms {
+            network,
+            pairs: Vec::with_capacity(alloc, network.functions() as usize)?,
+            met: vec![in alloc; false; network.variables() as usize]?,
+        })
+    }
+
+    /// The arms that were gathered last.
+    pub fn pairs(&self) -> &[Pair]
+        ensures { result.now ≡ self.now.pairs }
+    {
+        self.pairs.as_slice()
+    }
+
+    /// The function of the last arm, where there is one.
+    pub fn last_function(&self) -> Option<u32>
+        requires { AreOfFunctions self.now.network self.now.pairs }
+        ensures { IfSome result (λ f. f < length self.now.network.functions) }
+    {
+        match self.pairs.last() {
+            Some(pair) => Some(pair.function),
+            None => None,
+        }
+    }
+
+    /// Gathers the arms of a variable.
+    pub fn gather(&mut self, store: &Store<'_>, incidence: &Incidence, x: u32)
+        requires incidence { incidence.now ≡ self.old.network }
+        requires network { store.now.network ≡ self.old.network }
+        requires variable { x < length self.old.network.sizes }
+        ensures network { self.new.network ≡ self.old.network }
+        ensures arms { AreArms self.new.network (history store.now) x self.new.pairs }
+    {
+        let network = self.network;
+        network.limits();
+        self.pairs.clear();
+        for place in incidence.places(x) {
+            if let Some(pair) = arm_at(store, *place) {
+                let y = network.scope(pair.function)[pair.other as usize] as usize;
+                if !self.met[y] {
+                    self.met[y] = true;
+                    self.pairs.push_reserved(pair);
+                }
+            }
+        }
+        unmark(network, self.pairs.as_slice(), &mut self.met);
+    }
+}
+
+/// The open pair of a place's function with that place first, where there is one.
+fn arm_at(store: &Store<'_>, place: Place) -> Option<Pair>
+    requires { StandsAt store.now.network (variable_at store.now.network place.function place.place) place }
+    ensures { MatchOption result (HasNoArm store.now.network (history store.now) place) (IsArmAt store.now.network (history store.now) place) }
+{
+    match open_places(store, place.function) {
+        Opens::Few => None,
+        Opens::Many => None,
+        Opens::Two { place: i, other: j } => {
+            if i == place.place {
+                Some(pair_of(place, j))
+            } else if j == place.place {
+                Some(pair_of(place, i))
+            } else {
+                None
+            }
+        }
+    }
+}
+
+/// A place and another one of its function.
+fn pair_of(place: Place, other: u32) -> Pair
+    ensures { result ≡ record { function = place.function; place = place.place; other = other } }
+{
+    Pair {
+        function: place.function,
+        place: place.place,
+        other,
+    }
+}
+
+/// Takes the marks of the variables at the other ends of arms away.
+fn unmark(network: &Network, pairs: &[Pair], met: &mut [bool])
+    requires pairs { ArePairs network.now pairs.now }
+    requires marks { AreMarks network.now met.old pairs.now 0 }
+    ensures { IsClear network.now met.new }
+{
+    network.limits();
+    for pair in pairs {
+        let y = network.scope(pair.function)[pair.other as usize];
+        met[y as usize] = false;
+    }
+}

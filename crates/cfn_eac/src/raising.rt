@@ -1,0 +1,112 @@
+//! One variable made existential.
+//!
+//! What a live value asks is its unary cost and, for each arm, what the least live tuple with it costs together with the
+//! unary cost of its other value. A value that asks nothing is what is looked for. Where each asks something, the least that
+//! is asked can be lifted: each arm moves to the values what they lack of it, as far as the arm has it, and the lift follows.
+
+ghost use Rattle.std.specs.Prelude.{◌≡◌, ℕ, ◌+◌, ◌<◌, ◌≤◌, length, slice_index, MatchOption, IsTrue};
+ghost use Rattle.cfn_model.specs.Sums.{floor, is_live};
+ghost use Rattle.cfn_model.specs.Steps.{IsValue};
+ghost use Rattle.cfn_consistency.specs.Consistency.{IsExistential};
+ghost use Rattle.cfn_store.specs.Standing.{history};
+ghost use Rattle.cfn_gain.specs.Calls.{GoesOn, Does, Shows};
+ghost use Rattle.cfn_eac.specs.Arms.{AreArms, AreOfFunctions, HasGood, IsGood};
+
+use crate::arms::Arms;
+use cfn_dac::{Pair, full_supports, least_total};
+use cfn_gain::{Halt, Limits, lacking, level};
+use cfn_incidence::Incidence;
+use cfn_store::Store;
+
+/// Makes a variable existential: where no step was made, a live value of unary cost 0 has a full support in each first
+/// function of the variable and another open one. `moves` is room for an amount for each of its values.
+pub fn existential(
+    arms: &mut Arms<'_>,
+    store: &mut Store<'_>,
+    incidence: &Incidence,
+    limits: Limits,
+    x: u32,
+    moves: &mut [u64],
+) -> Result<(), Halt>
+    requires goes { GoesOn store.old limits }
+    requires network { store.old.network ≡ arms.old.network }
+    requires incidence { incidence.now ≡ arms.old.network }
+    requires variable { x < length store.old.network.sizes }
+    requires moves { slice_index store.old.network.sizes x ≤ length moves.old }
+    ensures does { Does store.old store.new limits result }
+    ensures existential { Shows store.old store.new result (IsExistential store.old.network (history store.old) x) }
+    ensures network { arms.new.network ≡ arms.old.network }
+    ensures functions { AreOfFunctions arms.new.network arms.new.pairs }
+    ensures same { length moves.new ≡ length moves.old }
+{
+    store.network().limits();
+    arms.gather(store, incidence, x);
+    match ask(arms.pairs(), store, limits, x) {
+        Some(alpha) => raise(arms.pairs(), store, limits, x, alpha, moves),
+        None => Ok(()),
+    }
+}
+
+/// Moves to the values of a variable what they lack of `alpha`, as far as its arms have it, and lifts what all of them have
+/// then.
+fn raise(
+    pairs: &[Pair],
+    store: &mut Store<'_>,
+    limits: Limits,
+    x: u32,
+    alpha: u64,
+    moves: &mut [u64],
+) -> Result<(), Halt>
+    requires goes { GoesOn store.old limits }
+    requires variable { x < length store.old.network.sizes }
+    requires arms { AreArms store.old.network (history store.old) x pairs.now }
+    requires some { 0 < alpha }
+    requires alpha { floor store.old.network (history store.old) + alpha ≤ limits.threshold }
+    requires moves { slice_index store.old.network.sizes x ≤ length moves.old }
+    ensures does { Does store.old store.new limits result }
+    ensures good { Shows store.old store.new result (HasGood store.old.network (history store.old) x pairs.now) }
+    ensures same { length moves.new ≡ length moves.old }
+{
+    for pair in pairs {
+        let cap = alpha.min(lacking(store, limits));
+        full_supports(store, limits, *pair, cap, moves)?;
+    }
+    level(store, limits, x)
+}
+
+/// The least that a live value of a variable asks, up to what the floor lacks; `None` where one asks nothing.
+fn ask(pairs: &[Pair], store: &Store<'_>, limits: Limits, x: u32) -> Option<u64>
+    requires goes { GoesOn store.now limits }
+    requires variable { x < length store.now.network.sizes }
+    requires arms { AreArms store.now.network (history store.now) x pairs.now }
+    ensures { MatchOption result (HasGood store.now.network (history store.now) x pairs.now)
+        (λ alpha. (0 < alpha) × (floor store.now.network (history store.now) + alpha ≤ limits.threshold)) }
+{
+    let mut least = lacking(store, limits);
+    for value in store.live(x) {
+        let asked = asked(pairs, store, x, *value, least);
+        if asked == 0 {
+            return None;
+        }
+        least = least.min(asked);
+    }
+    Some(least)
+}
+
+/// What a live value asks, or `most`, at least 1, where that is no more. 0 only where it asks nothing.
+fn asked(pairs: &[Pair], store: &Store<'_>, x: u32, value: u32, most: u64) -> u64
+    requires value { IsValue store.now.network x value }
+    requires live { IsTrue (is_live (history store.now) x value) }
+    requires arms { AreArms store.now.network (history store.now) x pairs.now }
+    requires most { 0 < most }
+    ensures { result ≡ 0 → IsGood store.now.network (history store.now) x pairs.now value }
+{
+    let mut sum = store.unary(x, value);
+    for pair in pairs {
+        if sum >= most {
+            return most;
+        }
+        sum = sum.saturating_add(least_total(store, *pair, value));
+    }
+    sum
+}

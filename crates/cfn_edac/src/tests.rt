@@ -1,0 +1,33 @@
+use super::*;
+use cfn_gain::Limits;
+use cfn_incidence::Incidence;
+use cfn_nc::Settling;
+use cfn_net::{Builder, Network};
+use cfn_store::Store;
+use std::alloc::{AllocError, Global};
+use std::test::*;
+
+/// Two variables with two values; what both agree on costs 2 or 1.
+fn arc(alloc: Global) -> Result<Network, AllocError> {
+    let mut builder = Builder::make(alloc, b"arc", &[2, 2], 10)?;
+    builder.function(&[0, 1], 2, &[])?;
+    builder.finish()
+}
+
+#[test]
+fn what_all_tuples_cost_is_lifted(rt: HostRuntime) -> Result<(), Fail> {
+    let network = arc(rt.alloc())?;
+    let incidence = Incidence::build(rt.alloc(), &network)?;
+    let mut store = Store::build(rt.alloc(), &network)?;
+    store.reserve(100)?;
+    let mut enforcer = Enforcer::make(rt.alloc(), &network)?;
+    let limits = Limits {
+        threshold: 10,
+        steps: 100,
+    };
+    if network.ub() == 10 {
+        let answer = enforcer.settle(&mut store, &incidence, limits);
+        assert!(rt; answer == Settling::Settled);
+    }
+    Ok(())
+}

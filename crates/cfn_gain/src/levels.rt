@@ -1,0 +1,45 @@
+//! A variable's unary costs (Larrosa and Schiex, Solving weighted CSP by maintaining arc consistency, 2004).
+
+ghost use Rattle.std.specs.Prelude.{◌≡◌, ◌<◌, length};
+ghost use Rattle.cfn_store.specs.Standing.{history};
+ghost use Rattle.cfn_gain.specs.Calls.{GoesOn, Does, Shows};
+ghost use Rattle.cfn_gain.specs.Levels.{AreBelow, IsLevel};
+
+use crate::limits::{Halt, Limits};
+use crate::moves::{cut_value, lacking, lift};
+use cfn_nc::least;
+use cfn_store::Store;
+
+/// Lifts from a variable what its live values have in common, and cuts those whose unary cost reaches what the floor lacks
+/// then. Where no step was made, a live value costs nothing, and none reaches the threshold.
+pub fn level(store: &mut Store<'_>, limits: Limits, x: u32) -> Result<(), Halt>
+    requires goes { GoesOn store.old limits }
+    requires variable { x < length store.old.network.sizes }
+    ensures does { Does store.old store.new limits result }
+    ensures level { Shows store.old store.new result (IsLevel store.old.network (history store.old) limits.threshold x) }
+{
+    if store.live(x).is_empty() {
+        return Err(Halt::Dead);
+    }
+    let least = least(store, x);
+    if least > 0 {
+        lift(store, limits, x, least)?;
+    }
+    cut_costly(store, limits, x)
+}
+
+/// Cuts the live values of a variable whose unary cost reaches what the floor lacks.
+fn cut_costly(store: &mut Store<'_>, limits: Limits, x: u32) -> Result<(), Halt>
+    requires goes { GoesOn store.old limits }
+    requires variable { x < length store.old.network.sizes }
+    ensures does { Does store.old store.new limits result }
+    ensures below { Shows store.old store.new result (AreBelow store.old.network (history store.old) limits.threshold x) }
+{
+    let lacks = lacking(store, limits);
+    for value in 0..store.network().size(x) {
+        if store.is_live(x, value) && store.unary(x, value) >= lacks {
+            cut_value(store, limits, x, value)?;
+        }
+    }
+    Ok(())
+}

@@ -1,0 +1,20 @@
+//! Gains: what an enforcer of soft local consistencies does with a store, one value of one function at a time (Cooper et
+//! al., Soft arc consistency revisited, 2010).
+//!
+//! - `limits.rt`: the threshold and the number of steps that a call works under, and how it halts;
+//! - `moves.rt`: one step, where there is room for it;
+//! - `levels.rt`: a variable's unary costs: what all live values have in common goes to the floor, and costly ones are cut;
+//! - `supports.rt`: arc consistency of a value, and of a function.
+//!
+//! Each call adds steps that run at the threshold, and says what holds where it added none.
+#![tactic(auto)]
+
+mod levels;
+mod limits;
+mod moves;
+mod supports;
+
+pub use levels::level;
+pub use limits::{Halt, Limits};
+pub use moves::{cut_tuple, cut_value, extend, lacking, lift, project};
+pub use supports::{gain, support, support_all};
