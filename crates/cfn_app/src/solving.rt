@@ -11,9 +11,9 @@ use crate::loading::{load_bytes, read_bytes};
 use crate::output::put_out;
 use crate::status::{Status, ending};
 use cfn_cli::SolveArguments;
+use cfn_depth::solve;
 use cfn_desk::Desk;
 use cfn_net::Network;
-use cfn_search::solve;
 use std::alloc::{AllocError, Global};
 
 /// Loads and reads the file that is asked for, opens the certificate's file, searches, writes the certificate and says

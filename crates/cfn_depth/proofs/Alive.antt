@@ -11,7 +11,7 @@ use Rattle.cfn_model.specs.Tree.{CanClose}
 use Rattle.cfn_live.proofs.CallerLemmas.{live_below_none, live_below_two}
 use Rattle.cfn_consistency.specs.Consistency.{IsNodeConsistent}
 use Rattle.cfn_store.specs.Standing.{Standing, history}
-use Rattle.cfn_depth.specs.Choosing.{choices, AllDecided, IsChoice}
+use Rattle.cfn_branch.specs.Choosing.{choices, AllDecided, IsChoice}
 use Rattle.cfn_depth.specs.Enforcing.{OnlyOf}
 
 both : {b : Rattle.std.specs.Prelude.Bool} → IsTrue b → IsFalse b → ⊥

@@ -10,8 +10,8 @@ use Rattle.cfn_proof.specs.Nodes.{IsTree, close_at}
 use Rattle.cfn_store.specs.Standing.{Standing, history}
 use Rattle.cfn_model.specs.Network.{Fits, cost}
 use Rattle.cfn_model.specs.Steps.{IsValue}
-use Rattle.cfn_close.specs.Leaves.{IsLeaf}
-use Rattle.cfn_depth.specs.Enforcing.{OnlyOf}
+use Rattle.cfn_close.specs.Leaves.{IsLeaf, AddsShifts}
+use Rattle.cfn_depth.specs.Enforcing.{GoesOn, OnlyOf}
 use Rattle.cfn_depth.specs.declared.search.State.{State}
 use Rattle.cfn_depth.specs.Sound.{Sound, AreOpen, price_of}
 use Rattle.cfn_depth.specs.Waiting.{leaves_of, AreWaiting}
@@ -38,4 +38,14 @@ is_leaf P s values k same fits only dear = record {
   live = λ x h. only.live x (subst (λ (Q : Network). x < length Q.sizes) same h);
   only = λ x a value live. only.each x a (subst (λ Q. IsValue Q x a) same value) live;
   dear = subst (λ Q. k ≤ cost Q values) (sym same) dear;
+}
+
+-- the shifts that close it run at every threshold
+pub goes_by : (before now : Standing) (k : ℕ) → AddsShifts before now → GoesOn before now k
+goes_by before now k adds = record {
+  network = adds.network;
+  base = adds.base;
+  steps = adds.steps;
+  block = adds.block;
+  runs = adds.runs k;
 }

@@ -18,7 +18,7 @@ use Rattle.cfn_store.specs.Standing.{Standing, history, with_side}
 use Rattle.cfn_depth.specs.declared.search.Waiting.{Waiting}
 use Rattle.cfn_depth.specs.declared.search.State.{State}
 use Rattle.cfn_depth.specs.Sound.{Sound, AreOpen, StandsBehind, price_of}
-use Rattle.cfn_depth.specs.Choosing.{IsFewest, IsCheapest}
+use Rattle.cfn_branch.specs.Choosing.{IsOpen, IsCheapest}
 use Rattle.cfn_depth.specs.Waiting.{leaves_of, AreWaiting, Along}
 use Rattle.cfn_depth.specs.Searching.{IsExpanding}
 use Rattle.cfn_depth.proofs.Growing.{divided, open_divided, behind_divided, behind_first, behind_second, last_there, last_free}
@@ -57,15 +57,15 @@ not_same : (v b : ℕ) → v ≢ b → IsFalse (v == b)
 not_same v b h = grind arith
 
 -- the split leaves a live value on either side
-pub strict_here : (s : Standing) (x v : ℕ) → IsFewest s x → IsCheapest s x v → IsStrictSplit s.network (history s) (Is x v)
-strict_here s x v fewest cheapest =
-    let o = other_live (history s) x (slice_index s.network.sizes x) v fewest.undecided in
+pub strict_here : (s : Standing) (x v : ℕ) → IsOpen s x → IsCheapest s x v → IsStrictSplit s.network (history s) (Is x v)
+strict_here s x v undecided cheapest =
+    let o = other_live (history s) x (slice_index s.network.sizes x) v undecided.undecided in
     record {
       first = (v, cheapest.value.value, eq-eqb v v refl, cheapest.live);
       second = (o.0, o.1, not_same v o.0 o.3, o.2);
     }
 
-module _ (P : Network) (leaf one two : NodeId) (s : State) (block : List Step) (x v : ℕ) (network : s.store.network ≡ P) (is : block ≡ s.store.block) (tree : IsTree s.tree) (room : length s.tree + 2 ≤ 2 ^ 32) (expanding : IsExpanding P leaf s) (fewest : IsFewest s.store x) (cheapest : IsCheapest s.store x v) (is_one : one.number ≡ length s.tree) (is_two : two.number ≡ length s.tree + 1) where
+module _ (P : Network) (leaf one two : NodeId) (s : State) (block : List Step) (x v : ℕ) (network : s.store.network ≡ P) (is : block ≡ s.store.block) (tree : IsTree s.tree) (room : length s.tree + 2 ≤ 2 ^ 32) (expanding : IsExpanding P leaf s) (undecided : IsOpen s.store x) (cheapest : IsCheapest s.store x v) (is_one : one.number ≡ length s.tree) (is_two : two.number ≡ length s.tree + 1) where
   there : leaf.number < length s.tree
   there = last_there s.tree (leaves_of s.waiting.items) leaf expanding.path.leaves.names
 
@@ -79,7 +79,7 @@ module _ (P : Network) (leaf one two : NodeId) (s : State) (block : List Step) (
   halved_sound = divided s.tree leaf.number block (Is x v) tree.linked there free P s.best s.nodes room expanding.path.sound
       (λ path before. subst (λ b. Run P path b (price_of s.best)) (sym is) (subst (λ h. Run P h s.store.block (price_of s.best)) (sym (expanding.behind.only path before)) expanding.runs))
       (subst (λ Q. Rattle.cfn_model.specs.Steps.IsDecision Q (Is x v)) network cheapest.value)
-      (λ path before. subst (λ b. IsStrictSplit P (after b path) (Is x v)) (sym is) (subst (λ h. IsStrictSplit P (after s.store.block h) (Is x v)) (sym (expanding.behind.only path before)) (subst (λ Q. IsStrictSplit Q (history s.store) (Is x v)) network (strict_here s.store x v fewest cheapest))))
+      (λ path before. subst (λ b. IsStrictSplit P (after b path) (Is x v)) (sym is) (subst (λ h. IsStrictSplit P (after s.store.block h) (Is x v)) (sym (expanding.behind.only path before)) (subst (λ Q. IsStrictSplit Q (history s.store) (Is x v)) network (strict_here s.store x v undecided cheapest))))
 
   pub halved_leaves : (w : Waiting) → w.leaf ≡ two → AreOpen (split_behind_at s.tree leaf.number block (Is x v)) (leaves_of (s.waiting.items ++ w ∷ []) ++ one ∷ [])
   halved_leaves w at = subst (λ l. AreOpen (split_behind_at s.tree leaf.number block (Is x v)) l)

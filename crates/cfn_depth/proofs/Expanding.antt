@@ -2,32 +2,22 @@
 use Rattle.std.proofs.Common.{◌≡◌, ◌≢◌, ℕ, ◌+◌, ◌≤◌, ◌⊎◌, inl, inr, List, [], ◌∷◌, ◌++◌, length, refl, sym, ap, ◌∙◌, subst, arith}
 use Rattle.std.proofs.lemmas.List.{length-append}
 use Rattle.std.specs.Prelude.{Some, OnOk, OnErr}
-use Rattle.cfn_model.specs.Network.{Network, IsNetwork}
+use Rattle.cfn_model.specs.Network.{Network}
 use Rattle.cfn_model.specs.Steps.{Run, after}
-use Rattle.cfn_model.specs.Tree.{CanClose}
-use Rattle.cfn_nc.specs.declared.settling.Settling.{Settling}
-use Rattle.cfn_nc.specs.declared.settling.Settling.TheVariants.{Settled, Dead, Spent}
-use Rattle.cfn_nc.specs.Settling.{AddsSteps, Answers}
+use Rattle.cfn_gain.specs.declared.limits.Limits.{Limits}
+use Rattle.cfn_gain.specs.Calls.{Adds}
 use Rattle.cfn_proof.specs.declared.tree.NodeId.{NodeId}
 use Rattle.cfn_store.specs.Standing.{Standing, history}
 use Rattle.cfn_depth.specs.declared.search.State.{State}
 use Rattle.cfn_depth.specs.Enforcing.{GoesOn}
 use Rattle.cfn_depth.specs.Sound.{price_of}
 use Rattle.cfn_depth.specs.Searching.{IsSearching, IsExpanding, IsStopped}
-use Rattle.cfn_depth.proofs.Alive.{consistent_alive}
 use Rattle.cfn_depth.proofs.States.{goes_on, begins, behind_goes, stop_here, current_path, current_at}
 
--- what is not dead is alive
-pub alive : (s : Standing) (k limit : ℕ) (answer : Settling) → IsNetwork s.network → Answers s k limit answer → answer ≢ Dead → CanClose s.network (history s) k → ⊥
-alive s k limit Settled network answers other = consistent_alive s.network (history s) k network answers
-alive s k limit Dead network answers other = λ dead. other refl
-alive s k limit Spent network answers other = answers.2
+abbrev pub limits_of : ℕ → ℕ → Limits
+limits_of k limit = record { threshold = k; steps = limit }
 
-pub not_dead : (answer : Settling) → (answer ≡ Settled) ⊎ (answer ≡ Spent) → answer ≢ Dead
-not_dead answer (inl is) dead = (let e : Settled ≡ Dead = sym is ∙ dead in cc)
-not_dead answer (inr is) dead = (let e : Spent ≡ Dead = sym is ∙ dead in cc)
-
-module _ (P : Network) (leaf : NodeId) (old : State) (mid new : Standing) (enforcer : Network) (k limit : ℕ) (searching : IsSearching P old.nodes old) (current : old.current ≡ Some leaf) (same_network : mid.network ≡ old.store.network) (same_base : mid.base ≡ old.store.base) (same_block : mid.block ≡ old.store.block) (adds : AddsSteps mid new k limit) (is_k : k ≡ price_of old.best) (same : enforcer ≡ old.enforcer) where
+module _ (P : Network) (leaf : NodeId) (old : State) (mid new : Standing) (enforcer : Network) (k limit : ℕ) (searching : IsSearching P old.nodes old) (current : old.current ≡ Some leaf) (same_network : mid.network ≡ old.store.network) (same_base : mid.base ≡ old.store.base) (same_block : mid.block ≡ old.store.block) (adds : Adds mid new (limits_of k limit)) (is_k : k ≡ price_of old.best) (same : enforcer ≡ old.enforcer) where
   way : history mid ≡ history old.store
   way = ap (λ b. after b mid.base) same_block ∙ ap (after old.store.block) same_base
 
@@ -45,10 +35,10 @@ module _ (P : Network) (leaf : NodeId) (old : State) (mid new : Standing) (enfor
 
   pub expanding : IsExpanding new.network leaf (record old { store = new; enforcer = enforcer })
   expanding = subst (λ Q. IsExpanding Q leaf (record old { store = new; enforcer = enforcer })) (sym network_now)
-      (goes_on P leaf old (record old { store = new; enforcer = enforcer }) (begins P old leaf searching current) goes refl refl refl same searching.path.values searching.path.sound.network searching.path.sound.solution (omega arith))
+      (goes_on P leaf old (record old { store = new; enforcer = enforcer }) (begins P old leaf searching current) goes refl refl refl same searching.path.branching searching.path.values searching.path.sound.network searching.path.sound.solution (omega arith))
 
   pub first_stop : IsStopped P old (record old { store = new; enforcer = enforcer })
-  first_stop = stop_here P old.nodes _ old (record old { store = new; enforcer = enforcer }) searching.path refl refl refl same refl refl refl refl (behind_goes old.store new (price_of old.best) goes)
+  first_stop = stop_here P old.nodes _ old (record old { store = new; enforcer = enforcer }) searching.path refl refl refl same searching.path.branching refl refl refl refl (behind_goes old.store new (price_of old.best) goes)
 
   -- as much room is left as was beyond the limit
   pub room_left : (more : ℕ) → limit + more ≤ mid.spare → more ≤ new.spare

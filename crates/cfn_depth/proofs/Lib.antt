@@ -1,6 +1,5 @@
 pub mod Growing
 pub mod Waits
-pub mod Choices
 pub mod Going
 pub mod Judging
 pub mod Closing

@@ -15,7 +15,7 @@ use Rattle.cfn_store.specs.Standing as standing
 use Rattle.cfn_depth.specs.declared.search.State.{State}
 use Rattle.cfn_depth.specs.Sound.{Sound, AreOpen, StandsBehind, number_at, price_of}
 use Rattle.cfn_depth.specs.Waiting.{leaves_of, AreWaiting, Along}
-use Rattle.cfn_depth.specs.Searching.{IsSearching, StandsAt, leaf_list}
+use Rattle.cfn_depth.specs.Searching.{CanBranch, IsSearching, StandsAt, leaf_list}
 
 abbrev root : List Node
 root = open_node None ∷ []
@@ -69,13 +69,14 @@ root_open = record {
   complete = λ i h free. (0, omega arith, (let e : 0 ≡ i = omega (arith, h) in e));
 }
 
-pub started : (P : Network) (s : State) → s.tree ≡ root → s.store ≡ standing.at_root P → s.enforcer ≡ P → s.current ≡ Some (record { number = 0 }) → s.floor ≡ floor P [] → s.waiting.items ≡ [] → s.best ≡ record { network = P; held = None } → length s.values.items ≡ length P.sizes → IsSearching P 0 s
-started P s tree store enforcer current low waiting best values = record {
+pub started : (P : Network) (s : State) → s.tree ≡ root → s.store ≡ standing.at_root P → s.enforcer ≡ P → CanBranch P s.weights s.incidence → s.current ≡ Some (record { number = 0 }) → s.floor ≡ floor P [] → s.waiting.items ≡ [] → s.best ≡ record { network = P; held = None } → length s.values.items ≡ length P.sizes → IsSearching P 0 s
+started P s tree store enforcer branching current low waiting best values = record {
   path = record {
     sound = subst (λ m. Sound P m s.best 0) (sym tree) (root_sound P s.best best);
     leaves = subst (λ m. AreOpen m (leaves_of s.waiting.items ++ leaf_list s.current)) (sym tree) (subst (λ w. AreOpen root (leaves_of w ++ leaf_list s.current)) (sym waiting) (subst (λ o. AreOpen root (leaf_list o)) (sym current) root_open));
     network = ap (λ (b : standing.Standing). b.network) store;
     enforcer = enforcer;
+    branching = branching;
     waiting = subst (λ w. AreWaiting P s.tree w) (sym waiting) tt;
     along = subst (λ w. Along w (standing.history s.store)) (sym waiting) tt;
     values = values;

@@ -1,7 +1,7 @@
 -- The current leaf of a search, and what an expansion that lacks memory leaves.
 use Rattle.std.proofs.Common.{◌≡◌, ℕ, ◌+◌, ◌≤◌, List, [], ◌∷◌, ◌++◌, length, refl, sym, ap, ◌∙◌, subst, arith}
 use Rattle.std.specs.Prelude.{Option, Some, None}
-use Rattle.std.proofs.lemmas.List.{append-nil}
+use Rattle.std.proofs.lemmas.List.{append-nil, length-set}
 use Rattle.cfn_model.specs.declared.step.Event.{Event}
 use Rattle.cfn_model.specs.declared.step.Event.TheVariants.{Took, Refused}
 use Rattle.cfn_model.specs.Network.{Network}
@@ -13,11 +13,12 @@ use Rattle.cfn_proof.specs.declared.tree.Node.{Node}
 use Rattle.cfn_proof.specs.Nodes.{Before}
 use Rattle.cfn_store.specs.Standing.{Standing, history}
 use Rattle.cfn_store.specs.Marking.{IsBehind, back_at}
+use Rattle.cfn_branch.specs.Weighing.{blamed}
 use Rattle.cfn_depth.specs.declared.search.Waiting.{Waiting}
 use Rattle.cfn_depth.specs.declared.search.State.{State}
 use Rattle.cfn_depth.specs.Sound.{StandsBehind, AreOpen, price_of}
 use Rattle.cfn_depth.specs.Waiting.{leaves_of, IsWaiting}
-use Rattle.cfn_depth.specs.Searching.{IsOnPath, IsAtLeaf, StandsAt, IsSearching, IsExpanding, IsStopped, leaf_list}
+use Rattle.cfn_depth.specs.Searching.{CanBranch, IsOnPath, IsAtLeaf, StandsAt, IsSearching, IsExpanding, IsStopped, leaf_list}
 use Rattle.cfn_depth.specs.Enforcing.{GoesOn}
 use Rattle.cfn_depth.specs.Judging.{AreJudged}
 use Rattle.cfn_depth.proofs.Growing.{lowered}
@@ -41,8 +42,8 @@ waiting_floor P nodes w is path before = ap (floor P) (is.behind.only path befor
     refused = let f = is.floor in omega (arith, f)
 
 -- the store goes on by steps at a threshold that is the price then
-pub goes_on : (P : Network) (leaf : NodeId) (s new : State) → IsExpanding P leaf s → GoesOn s.store new.store (price_of new.best) → new.tree ≡ s.tree → new.waiting.items ≡ s.waiting.items → new.nodes ≡ s.nodes → new.enforcer ≡ s.enforcer → length new.values.items ≡ length P.sizes → new.best.network ≡ P → Rattle.cfn_model.specs.Certificate.IsBest P new.best.held → price_of new.best ≤ price_of s.best → IsExpanding P leaf new
-goes_on P leaf s new was goes tree waiting nodes enforcer values network solution better =
+pub goes_on : (P : Network) (leaf : NodeId) (s new : State) → IsExpanding P leaf s → GoesOn s.store new.store (price_of new.best) → new.tree ≡ s.tree → new.waiting.items ≡ s.waiting.items → new.nodes ≡ s.nodes → new.enforcer ≡ s.enforcer → CanBranch P new.weights new.incidence → length new.values.items ≡ length P.sizes → new.best.network ≡ P → Rattle.cfn_model.specs.Certificate.IsBest P new.best.held → price_of new.best ≤ price_of s.best → IsExpanding P leaf new
+goes_on P leaf s new was goes tree waiting nodes enforcer branching values network solution better =
     let way : history new.store ≡ after goes.steps (history s.store) = ap (λ b. after b new.store.base) goes.block ∙ ap (after (s.store.block ++ goes.steps)) goes.base ∙ after_append s.store.block goes.steps s.store.base in
     let later = block_later goes.steps (history s.store) in
     let sound = lowered P s.tree s.best new.best s.nodes network solution better was.path.sound in
@@ -52,6 +53,7 @@ goes_on P leaf s new was goes tree waiting nodes enforcer values network solutio
         leaves = subst (λ m. AreOpen m (leaves_of new.waiting.items ++ leaf ∷ [])) (sym tree) (subst (λ l. AreOpen s.tree (leaves_of l ++ leaf ∷ [])) (sym waiting) was.path.leaves);
         network = goes.network ∙ was.path.network;
         enforcer = enforcer ∙ was.path.enforcer;
+        branching = branching;
         waiting = subst (λ m. Rattle.cfn_depth.specs.Waiting.AreWaiting P m new.waiting.items) (sym tree) (subst (λ l. Rattle.cfn_depth.specs.Waiting.AreWaiting P s.tree l) (sym waiting) was.path.waiting);
         along = subst (λ l. Rattle.cfn_depth.specs.Waiting.Along l (history new.store)) (sym waiting) (subst (λ h. Rattle.cfn_depth.specs.Waiting.Along s.waiting.items h) (sym (way ∙ later.1)) (along_later s.waiting.items later.0 (history s.store) was.path.along));
         values = values;
@@ -96,6 +98,7 @@ stopped P old new back leaf was is stop at =
         leaves = subst (λ o. AreOpen new.tree (leaves_of new.waiting.items ++ leaf_list o)) (sym now) (subst (λ m. AreOpen m (leaves_of new.waiting.items ++ leaf ∷ [])) (sym stop.tree) (subst (λ l. AreOpen old.tree (leaves_of l ++ leaf ∷ [])) (sym stop.waiting) path.leaves));
         network = ap (λ (b : Standing). b.network) at ∙ sym stop.behind.network ∙ path.network;
         enforcer = stop.enforcer ∙ path.enforcer;
+        branching = stop.branching;
         waiting = subst (λ m. Rattle.cfn_depth.specs.Waiting.AreWaiting P m new.waiting.items) (sym stop.tree) (subst (λ l. Rattle.cfn_depth.specs.Waiting.AreWaiting P old.tree l) (sym stop.waiting) path.waiting);
         along = subst (λ l. Rattle.cfn_depth.specs.Waiting.Along l (history back)) (sym stop.waiting) (subst (λ b. Rattle.cfn_depth.specs.Waiting.Along old.waiting.items (history b)) (sym at) path.along);
         values = stop.values;
@@ -119,12 +122,13 @@ pub behind_is : (s new : Standing) → new.network ≡ s.network → new.base �
 behind_is s new network base block = record { network = sym network; later = []; path = ap (λ b. after b new.base) block ∙ ap (after s.block) base }
 
 -- an expansion that stops at once, and one that stops later
-pub stop_here : (P : Network) (spent : ℕ) (ids : List NodeId) (s new : State) → IsOnPath P ids spent s → new.tree ≡ s.tree → new.waiting.items ≡ s.waiting.items → new.current ≡ s.current → new.enforcer ≡ s.enforcer → new.floor ≡ s.floor → new.nodes ≡ s.nodes → new.values.items ≡ s.values.items → new.best ≡ s.best → IsBehind s.store new.store → IsStopped P s new
-stop_here P spent ids s new path tree waiting current enforcer floor nodes values best behind = record {
+pub stop_here : (P : Network) (spent : ℕ) (ids : List NodeId) (s new : State) → IsOnPath P ids spent s → new.tree ≡ s.tree → new.waiting.items ≡ s.waiting.items → new.current ≡ s.current → new.enforcer ≡ s.enforcer → CanBranch P new.weights new.incidence → new.floor ≡ s.floor → new.nodes ≡ s.nodes → new.values.items ≡ s.values.items → new.best ≡ s.best → IsBehind s.store new.store → IsStopped P s new
+stop_here P spent ids s new path tree waiting current enforcer branching floor nodes values best behind = record {
   tree = tree;
   waiting = waiting;
   current = current;
   enforcer = enforcer;
+  branching = branching;
   floor = floor;
   nodes = nodes;
   values = ap length values ∙ path.values;
@@ -140,6 +144,7 @@ stop_trans P old s new first second = record {
   waiting = second.waiting ∙ first.waiting;
   current = second.current ∙ first.current;
   enforcer = second.enforcer ∙ first.enforcer;
+  branching = second.branching;
   floor = second.floor ∙ first.floor;
   nodes = second.nodes ∙ first.nodes;
   values = second.values;
@@ -147,4 +152,43 @@ stop_trans P old s new first second = record {
   solution = second.solution;
   better = let a = first.better in let b = second.better in omega (arith, a, b);
   behind = behind_trans old.store s.store new.store first.behind second.behind;
+}
+
+-- an expansion in which a function was blamed
+weights_kept : (P : Network) (weights : List ℕ) (incidence : Network) (f : ℕ) → CanBranch P weights incidence → CanBranch P (blamed weights f) incidence
+weights_kept P weights incidence f can = record {
+  weights_are = length-set weights f _ ∙ can.weights_are;
+  incidence_is = can.incidence_is;
+}
+
+pub expanding_blamed : (P : Network) (leaf : NodeId) (s : State) (f : ℕ) → IsExpanding P leaf s → IsExpanding P leaf (record s { weights = blamed s.weights f })
+expanding_blamed P leaf s f was = record {
+  path = record {
+    sound = was.path.sound;
+    leaves = was.path.leaves;
+    network = was.path.network;
+    enforcer = was.path.enforcer;
+    branching = weights_kept P s.weights s.incidence f was.path.branching;
+    waiting = was.path.waiting;
+    along = was.path.along;
+    values = was.path.values;
+  };
+  behind = was.behind;
+  runs = was.runs;
+}
+
+pub stopped_blamed : (P : Network) (old s : State) (f : ℕ) → IsStopped P old s → IsStopped P old (record s { weights = blamed s.weights f })
+stopped_blamed P old s f was = record {
+  tree = was.tree;
+  waiting = was.waiting;
+  current = was.current;
+  enforcer = was.enforcer;
+  branching = weights_kept P s.weights s.incidence f was.branching;
+  floor = was.floor;
+  nodes = was.nodes;
+  values = was.values;
+  network = was.network;
+  solution = was.solution;
+  better = was.better;
+  behind = was.behind;
 }

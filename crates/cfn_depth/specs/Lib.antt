@@ -1,5 +1,4 @@
 pub mod Sound
-pub mod Choosing
 pub mod Waiting
 pub mod Searching
 pub mod Judging

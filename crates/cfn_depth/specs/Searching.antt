@@ -11,12 +11,18 @@ use Rattle.cfn_depth.specs.declared.search.State.{State}
 use Rattle.cfn_depth.specs.Sound.{Sound, AreOpen, StandsBehind, price_of}
 use Rattle.cfn_depth.specs.Waiting.{leaves_of, AreWaiting, Along}
 
+-- There is a weight for each function, and the places of each variable are known.
+pub record CanBranch (P : Network) (weights : List ℕ) (incidence : Network) : Type 0 where
+  pub weights_are : length weights ≡ length P.functions
+  pub incidence_is : incidence ≡ P
+
 -- The tree is sound, its open leaves are those that wait and one more or none, and the store's path goes through all marks.
 pub record IsOnPath (P : Network) (current : List NodeId) (spent : ℕ) (s : State) : Type 0 where
   pub sound : Sound P s.tree s.best spent
   pub leaves : AreOpen s.tree (leaves_of s.waiting.items ++ current)
   pub network : s.store.network ≡ P
   pub enforcer : s.enforcer ≡ P
+  pub branching : CanBranch P s.weights s.incidence
   pub waiting : AreWaiting P s.tree s.waiting.items
   pub along : Along s.waiting.items (history s.store)
   pub values : length s.values.items ≡ length P.sizes
@@ -46,13 +52,14 @@ pub record IsExpanding (P : Network) (leaf : NodeId) (s : State) : Type 0 where
   pub behind : StandsBehind s.tree leaf.number s.store.base
   pub runs : Run P s.store.base s.store.block (price_of s.best)
 
--- What an expansion that lacks memory leaves: all but the store and the best is as it was, the store stands no less far on
--- its path, and what is held is no worse.
+-- What an expansion that lacks memory leaves: all but the store, the best and the weights is as it was, the store stands no
+-- less far on its path, and what is held is no worse.
 pub record IsStopped (P : Network) (old new : State) : Type 0 where
   pub tree : new.tree ≡ old.tree
   pub waiting : new.waiting.items ≡ old.waiting.items
   pub current : new.current ≡ old.current
   pub enforcer : new.enforcer ≡ old.enforcer
+  pub branching : CanBranch P new.weights new.incidence
   pub floor : new.floor ≡ old.floor
   pub nodes : new.nodes ≡ old.nodes
   pub values : length new.values.items ≡ length P.sizes

@@ -3,12 +3,9 @@
 //! `solve` makes the outcome that a report and a certificate are written from. Its contract is the promise of every
 //! search, as `cfn_proof` defines it: a good certificate with its tree's bound, and why the search stopped.
 //!
-//! - `choosing.rt`: the variable and the value that a split names;
-//! - `search.rt`: the search.
+//! The search stands in `search.rt`.
 #![tactic(auto)]
 
-mod choosing;
-mod enforcing;
 mod search;
 
 pub use search::solve;

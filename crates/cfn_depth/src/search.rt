@@ -1,14 +1,15 @@
 //! Depth-first branch and bound with propagation (Lawler and Wood 1966; Larrosa and Schiex 2004).
 //!
-//! The store stands at the leaf that is expanded next. An expansion makes the store node consistent at the price of the best
-//! assignment, and then closes the leaf behind the store's block, or splits it there. The first child is expanded next; the
-//! second waits with a mark of where the store stood at the split. After a closing the store goes back to the newest mark
-//! whose leaf has a floor below the price, and refuses the decision there.
+//! The store stands at the leaf that is expanded next. An expansion makes the store fully consistent at the price of the best
+//! assignment, and then closes the leaf behind the store's block, or splits it there, on the variable of the least ratio of
+//! live values to weighted degree. The first child is expanded next; the second waits with a mark of where the store stood
+//! at the split. After a closing the store goes back to the newest mark whose leaf has a floor below the price, and refuses
+//! the decision there.
 //!
 //! Invariant: the open leaves of the tree are the current one and those that wait, and the store's path goes through each
 //! mark, in the order of the list.
 
-ghost use Rattle.std.specs.Prelude.{◌≡◌, ℕ, ◌+◌, ◌*◌, ◌<◌, ◌≤◌, min, List, [], ◌∷◌, ◌++◌, length, slice_index, IsTrue, is_some, IfOk, OnOk, OnErr, Some};
+ghost use Rattle.std.specs.Prelude.{true, false, ◌≡◌, ℕ, ◌+◌, ◌*◌, ◌<◌, ◌≤◌, min, List, [], ◌∷◌, ◌++◌, length, slice_index, IsTrue, is_some, IfOk, OnOk, OnErr, Some};
 ghost use Rattle.std.specs.Option.{ForSome};
 ghost use Rattle.cfn_model.specs.declared.limits.TheConstants.{GREATEST};
 ghost use Rattle.cfn_model.specs.Certificate.{IsBest};
@@ -19,15 +20,19 @@ ghost use Rattle.cfn_proof.specs.Nodes.{node_at, IsFree, close_at};
 ghost use Rattle.cfn_proof.specs.Certificates.{solution_of};
 ghost use Rattle.cfn_proof.specs.Outcome.{IsOutcome, opening};
 ghost use Rattle.cfn_store.specs.Standing.{history};
+ghost use Rattle.cfn_branch.specs.Weighing.{blamed};
+ghost use Rattle.cfn_branch.specs.Choosing.{choices, AllDecided, IsOpen, IsChoice};
+ghost use Rattle.cfn_gain.specs.Calls.{Adds};
 ghost use Rattle.cfn_depth.specs.Sound.{Sound, StandsBehind, price_of};
 ghost use Rattle.cfn_depth.specs.Judging.{AreJudged};
-ghost use Rattle.cfn_depth.specs.Choosing.{choices, AllDecided, IsFewest, IsChoice};
-ghost use Rattle.cfn_depth.specs.Enforcing.{OnlyOf};
 
-use crate::choosing::{cheapest, fewest};
-use crate::enforcing::shut;
+use cfn_branch::{Weights, cheapest, choose};
+use cfn_close::shut;
+use cfn_edac::Enforcer;
+use cfn_gain::Limits;
+use cfn_incidence::Incidence;
 use cfn_model::Decision;
-use cfn_nc::{NodeConsistency, Settling};
+use cfn_nc::{Settling, is_wiped};
 use cfn_net::{Network, Scored};
 use cfn_proof::{Certificate, NodeId, Outcome, Row, Stop, Tree};
 use cfn_store::{Mark, Store};
@@ -52,7 +57,10 @@ pub struct Waiting<'n> {
 pub struct State<'n> {
     pub tree: Tree,
     pub store: Store<'n>,
-    pub enforcer: NodeConsistency<'n>,
+    pub enforcer: Enforcer<'n>,
+    /// How often each function was to blame, and where each variable stands: what the brancher goes by.
+    pub weights: Weights,
+    pub incidence: Incidence,
     /// The open leaf that the store stands at; none is open where there is none.
     pub current: Option<NodeId>,
     /// The floor of that leaf.
@@ -80,7 +88,9 @@ impl<'n> State<'n> {
         Ok(State {
             tree: Tree::new(alloc)?,
             store,
-            enforcer: NodeConsistency::make(alloc, network)?,
+            enforcer: Enforcer::make(alloc, network)?,
+            weights: Weights::make(alloc, network)?,
+            incidence: Incidence::build(alloc, network)?,
             current: Some(Tree::ROOT),
             floor,
             waiting: Vec::new(alloc),
@@ -146,10 +156,25 @@ impl<'n> State<'n> {
         let closing = network.variables() as usize + 2 * network.functions() as usize;
         self.store.reserve(STEPS + closing + 1)?;
         let k = self.best.price();
-        match self.enforcer.settle(&mut self.store, k, STEPS) {
-            Settling::Dead => self.close(alloc, leaf),
-            Settling::Settled | Settling::Spent => self.branch(alloc, network, leaf),
+        if propagate(&mut self.enforcer, &mut self.store, &self.incidence, k) {
+            self.close_dead(alloc, leaf)
+        } else {
+            self.branch(alloc, network, leaf)
         }
+    }
+
+    /// Blames the function by which a leaf was found dead, where there is one, and closes the leaf.
+    fn close_dead(&mut self, alloc: Global, leaf: NodeId) -> Result<(), AllocError>
+        requires expanding { IsExpanding self.old.store.network leaf self.old }
+        requires closes { CanClose self.old.store.network (history self.old.store) (price_of self.old.best) }
+        ensures ok { OnOk result (IsSearching self.old.store.network (self.old.nodes + 1) self.new) }
+        ensures err { OnErr result (IsStopped self.old.store.network self.old self.new) }
+        ensures nodes { self.new.nodes ≡ self.old.nodes }
+    {
+        if let Some(f) = self.enforcer.blamed() {
+            self.blame(f);
+        }
+        self.close(alloc, leaf)
     }
 
     /// Splits a leaf that is not dead, or closes it where one assignment is left.
@@ -162,17 +187,25 @@ impl<'n> State<'n> {
         ensures err { OnErr result (IsStopped self.old.store.network self.old self.new) }
         ensures nodes { self.new.nodes ≡ self.old.nodes }
     {
-        match fewest(&self.store) {
+        match choose(&self.weights, &self.incidence, &self.store) {
             Some(x) => self.divide(alloc, leaf, x),
             None => self.conclude(alloc, network, leaf),
         }
+    }
+
+    /// Raises the weight of the function by which a leaf was found dead. All else is as it was.
+    pub fn blame(&mut self, f: u32)
+        requires { f < length self.old.weights }
+        ensures { self.new ≡ record self.old { weights = blamed self.old.weights f } }
+    {
+        self.weights.blame(f);
     }
 
     /// Splits a leaf behind the store's block, on the cheapest live value of a variable that has another one. The first child
     /// is the current leaf then.
     fn divide(&mut self, alloc: Global, leaf: NodeId, x: u32) -> Result<(), AllocError>
         requires expanding { IsExpanding self.old.store.network leaf self.old }
-        requires fewest { IsFewest self.old.store x }
+        requires undecided { IsOpen self.old.store x }
         requires room { 0 < self.old.store.spare }
         ensures ok { OnOk result (IsSearching self.old.store.network (self.old.nodes + 1) self.new) }
         ensures err { OnErr result (IsStopped self.old.store.network self.old self.new) }
@@ -211,7 +244,7 @@ impl<'n> State<'n> {
     {
         take_values(&self.store, &mut self.values);
         offer(&mut self.best, network, &self.values);
-        shut(network, &mut self.store, &self.values, self.best.price());
+        shut(&mut self.store, self.best.price());
         self.close(alloc, leaf)
     }
 
@@ -304,6 +337,8 @@ impl<'n> State<'n> {
             tree,
             store: _,
             enforcer: _,
+            weights: _,
+            incidence: _,
             current: _,
             floor: _,
             waiting: _,
@@ -332,6 +367,42 @@ impl<'n> State<'n> {
             stop,
         }
     }
+}
+
+/// Makes a store fully consistent at a threshold, as far as its steps go, and answers whether it is dead then.
+fn propagate(
+    enforcer: &mut Enforcer<'_>,
+    store: &mut Store<'_>,
+    incidence: &Incidence,
+    k: u64,
+) -> bool
+    requires network { store.old.network ≡ enforcer.old }
+    requires incidence { incidence.now ≡ enforcer.old }
+    requires threshold { k ≤ enforcer.old.upper }
+    requires room { 65536 ≤ length store.old.block + store.old.spare }
+    ensures adds { Adds store.old store.new (record { threshold = k; steps = 65536 }) }
+    ensures dead { result ≡ true → CanClose store.new.network (history store.new) k }
+    ensures alive { result ≡ false → CanClose store.new.network (history store.new) k → ⊥ }
+    ensures same { enforcer.new ≡ enforcer.old }
+{
+    store.network().limits();
+    let limits = Limits {
+        threshold: k,
+        steps: STEPS,
+    };
+    match enforcer.settle(store, incidence, limits) {
+        Settling::Dead => true,
+        Settling::Settled => false,
+        Settling::Spent => is_dead(store, k),
+    }
+}
+
+/// Whether the floor reaches a threshold, or a variable has no live value.
+fn is_dead(store: &Store<'_>, k: u64) -> bool
+    ensures dead { result ≡ true → CanClose store.now.network (history store.now) k }
+    ensures alive { result ≡ false → CanClose store.now.network (history store.now) k → ⊥ }
+{
+    store.floor() >= u128::from(k) || is_wiped(store.network(), store)
 }
 
 /// Searches a network for an assignment of least cost, expanding at most `budget` leaves.

@@ -1,9 +1,9 @@
 //! Searches of small networks, judged by the plain program, by costs that are known from elsewhere, and by `check`.
 
 use crate::judging::Verdict;
+use cfn_depth::solve;
 use cfn_net::Network;
 use cfn_proof::{Outcome, Stop};
-use cfn_search::solve;
 use cfn_testing::drawing::{Dice, MOST, draw, file_of, least_of};
 use cfn_testing::running::{certificate_of, check_answers};
 use std::alloc::{AllocError, Global};

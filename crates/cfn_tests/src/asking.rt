@@ -8,6 +8,9 @@ const FOUR: &[u8] = b"const 1 2 1 10\n2\n0 4 0\n";
 
 const TEN: &[u8] = b"const 1 2 1 10\n2\n0 10 0\n";
 
+/// Two variables with two values. One tuple costs 3, and all others 2.
+const ARC: &[u8] = b"arc 2 2 1 10\n2 2\n2 0 1 2 1\n0 0 3\n";
+
 /// Two costs of the greatest number on one value.
 const TOP: &[u8] =
     b"top 1 1 2 9223372036854775807\n1\n1 0 9223372036854775807 0\n1 0 9223372036854775807 0\n";
@@ -23,6 +26,29 @@ fn one_node_splits_the_root(rt: HostRuntime) -> Result<(), Fail> {
     let certificate =
         b"wcspcert 2\nnetwork 3 3 10\nlower 0\nbest none\ntree\nsplit 0 0\nopen\nopen\nend\n";
     assert_eq!(rt; run.certificate(), certificate.as_slice());
+    Ok(())
+}
+
+/// What all tuples cost is the bound before the root is split.
+#[test]
+fn root_lifts_what_all_tuples_cost(rt: HostRuntime) -> Result<(), Fail> {
+    let words = ["wcspsolve", "solve", "in", "out", "--budget", "1"];
+    let run = Run::of(&rt, &words, ARC, &[])?;
+    assert_eq!(rt; run.status, 2);
+    let said =
+        b"variables 2\nfunctions 1\nworkers 1\nrow 0 none\nlower 2\nupper none\nnodes 1\nresult budget\n";
+    assert_eq!(rt; run.said(), said.as_slice());
+    let certificate =
+        b"wcspcert 2\nnetwork 2 1 10\nlower 2\nbest none\ntree\np 0 0 0 2\np 0 0 1 2\nu 0 2\nsplit 0 0\nopen\nopen\nend\n";
+    assert_eq!(rt; run.certificate(), certificate.as_slice());
+    Ok(())
+}
+
+#[test]
+fn what_is_lifted_is_the_optimum(rt: HostRuntime) -> Result<(), Fail> {
+    let run = Run::of(&rt, &["wcspsolve", "solve", "in", "out"], ARC, &[])?;
+    assert_eq!(rt; run.status, 0);
+    assert!(rt; run.says(b"lower 2\nupper 2\n"));
     Ok(())
 }
 
@@ -55,15 +81,14 @@ fn closed_root_needs_no_budget(rt: HostRuntime) -> Result<(), Fail> {
     Ok(())
 }
 
-/// The plainest search takes three nodes on one variable with two values, so each smaller budget is spent whole.
+/// On one variable with two values the search takes two nodes, the root and a leaf, so each smaller budget is spent whole.
 #[test]
 fn budget_is_spent_to_its_end(rt: HostRuntime) -> Result<(), Fail> {
-    let rows: [(&str, u8, &[u8]); 5] = [
+    let rows: [(&str, u8, &[u8]); 4] = [
         ("0", 2, b"nodes 0"),
         ("1", 2, b"nodes 1"),
-        ("2", 2, b"nodes 2"),
-        ("3", 0, b"nodes 3"),
-        ("4", 0, b"nodes 3"),
+        ("2", 0, b"nodes 2"),
+        ("3", 0, b"nodes 2"),
     ];
     for (budget, status, nodes) in rows {
         let words = ["wcspsolve", "solve", "in", "out", "--budget", budget];
@@ -117,7 +142,7 @@ fn options_stand_anywhere(rt: HostRuntime) -> Result<(), Fail> {
     for words in rows {
         let run = Run::of(&rt, words, TINY, &[])?;
         assert_eq!(rt; run.status, 0);
-        assert!(rt; run.says(b"workers 64\nlower 1\nupper 1\nvalues 1\nnodes 3\nresult optimum"));
+        assert!(rt; run.says(b"workers 64\nlower 1\nupper 1\nvalues 1\nnodes 2\nresult optimum"));
         assert!(rt; run.certifies(b"network 1 1 10\nlower 1\nbest 1\nvalues 1\n"));
     }
     Ok(())

@@ -44,8 +44,8 @@ fn earlier_certificate_survives_each_fault(rt: HostRuntime) -> Result<(), Fail> 
             assert_eq!(rt; run.certificate(), whole.certificate());
         }
     }
-    // the load, the opening, 35 puts and the closing
-    assert_eq!(rt; kept, 38);
+    // the load, the opening, 32 puts and the closing
+    assert_eq!(rt; kept, 35);
     Ok(())
 }
 

@@ -1,6 +1,6 @@
 use Rattle.std.proofs.Common.{◌≡◌, ℕ, ◌<◌, length}
 use Rattle.std.specs.Prelude.{slice_index}
-use Rattle.cfn_depth.specs.Choosing.{IsChoice}
+use Rattle.cfn_branch.specs.Choosing.{IsChoice}
 use Rattle.cfn_depth.proofs.search.take_values.Given as goal
 
 abbrev pub invariant-loop-x : goal.invariant-loop-x

@@ -22,6 +22,7 @@ go_back-requires c =
         leaves = subst (λ m. AreOpen m (leaves_of old.waiting.items ++ [])) (sym c.close.ensures) t.1;
         network = c.requires.expanding.path.network;
         enforcer = c.requires.expanding.path.enforcer;
+        branching = c.requires.expanding.path.branching;
         waiting = subst (λ m. AreWaiting P m old.waiting.items) (sym c.close.ensures) t.2;
         along = c.requires.expanding.path.along;
         values = c.requires.expanding.path.values;

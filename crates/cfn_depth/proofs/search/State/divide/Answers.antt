@@ -13,7 +13,7 @@ use Rattle.cfn_depth.specs.declared.search.Waiting.{Waiting}
 use Rattle.cfn_depth.proofs.search.State.divide.Goals as goal
 
 pub cheapest-value-requires-clause-some : goal.cheapest-value-requires-clause-some
-cheapest-value-requires-clause-some c = let u = c.requires.fewest.undecided in omega (arith, u)
+cheapest-value-requires-clause-some c = let u = c.requires.undecided.undecided in omega (arith, u)
 
 pub split_behind-requires-clause-there : goal.split_behind-requires-clause-there
 split_behind-requires-clause-there c = last_there c.args.self.now.tree (leaves_of c.args.self.now.waiting.items) c.args.leaf c.requires.expanding.path.leaves.names
@@ -38,17 +38,18 @@ returns-clause-ok c =
     let new = split_behind_at old.tree c.args.leaf.number block (Is c.args.x v) in
     record {
       path = record {
-        sound = subst (λ m. Sound P m old.best (old.nodes + 1)) (sym at) (halved_sound P c.args.leaf one two old block c.args.x v refl c.in_ok-block.ensures c.linked.ensures room c.requires.expanding c.requires.fewest c.cheapest-value.ensures c.in_ok-first.ensures.children.0 c.in_ok-first.ensures.children.1);
-        leaves = subst (λ m. AreOpen m (leaves_of c.push_reserved.new.self.items ++ one ∷ [])) (sym at) (subst (λ l. AreOpen new (leaves_of l ++ one ∷ [])) (sym items) (halved_leaves P c.args.leaf one two old block c.args.x v refl c.in_ok-block.ensures c.linked.ensures room c.requires.expanding c.requires.fewest c.cheapest-value.ensures c.in_ok-first.ensures.children.0 c.in_ok-first.ensures.children.1 w refl));
+        sound = subst (λ m. Sound P m old.best (old.nodes + 1)) (sym at) (halved_sound P c.args.leaf one two old block c.args.x v refl c.in_ok-block.ensures c.linked.ensures room c.requires.expanding c.requires.undecided c.cheapest-value.ensures c.in_ok-first.ensures.children.0 c.in_ok-first.ensures.children.1);
+        leaves = subst (λ m. AreOpen m (leaves_of c.push_reserved.new.self.items ++ one ∷ [])) (sym at) (subst (λ l. AreOpen new (leaves_of l ++ one ∷ [])) (sym items) (halved_leaves P c.args.leaf one two old block c.args.x v refl c.in_ok-block.ensures c.linked.ensures room c.requires.expanding c.requires.undecided c.cheapest-value.ensures c.in_ok-first.ensures.children.0 c.in_ok-first.ensures.children.1 w refl));
         network = ap (λ (n : Standing). n.network) c.take.ensures;
         enforcer = c.requires.expanding.path.enforcer;
-        waiting = subst (λ m. AreWaiting P m c.push_reserved.new.self.items) (sym at) (subst (λ l. AreWaiting P new l) (sym items) (halved_waiting P c.args.leaf one two old block c.args.x v refl c.in_ok-block.ensures c.linked.ensures room c.requires.expanding c.requires.fewest c.cheapest-value.ensures c.in_ok-first.ensures.children.0 c.in_ok-first.ensures.children.1 w refl c.mark.ensures refl c.floor-floor.ensures));
-        along = subst (λ l. Along l (history c.take.new.self)) (sym items) (halved_along P c.args.leaf one two old block c.args.x v refl c.in_ok-block.ensures c.linked.ensures room c.requires.expanding c.requires.fewest c.cheapest-value.ensures c.in_ok-first.ensures.children.0 c.in_ok-first.ensures.children.1 w c.take.new.self c.mark.ensures refl c.take.ensures);
+        branching = c.requires.expanding.path.branching;
+        waiting = subst (λ m. AreWaiting P m c.push_reserved.new.self.items) (sym at) (subst (λ l. AreWaiting P new l) (sym items) (halved_waiting P c.args.leaf one two old block c.args.x v refl c.in_ok-block.ensures c.linked.ensures room c.requires.expanding c.requires.undecided c.cheapest-value.ensures c.in_ok-first.ensures.children.0 c.in_ok-first.ensures.children.1 w refl c.mark.ensures refl c.floor-floor.ensures));
+        along = subst (λ l. Along l (history c.take.new.self)) (sym items) (halved_along P c.args.leaf one two old block c.args.x v refl c.in_ok-block.ensures c.linked.ensures room c.requires.expanding c.requires.undecided c.cheapest-value.ensures c.in_ok-first.ensures.children.0 c.in_ok-first.ensures.children.1 w c.take.new.self c.mark.ensures refl c.take.ensures);
         values = c.requires.expanding.path.values;
       };
       at = record {
         block = ap (λ (n : Standing). n.block) c.take.ensures;
-        behind = subst (λ m. StandsBehind m one.number c.take.new.self.base) (sym at) (halved_behind P c.args.leaf one two old block c.args.x v refl c.in_ok-block.ensures c.linked.ensures room c.requires.expanding c.requires.fewest c.cheapest-value.ensures c.in_ok-first.ensures.children.0 c.in_ok-first.ensures.children.1 c.take.new.self c.take.ensures);
-        floor = halved_floor P c.args.leaf one two old block c.args.x v refl c.in_ok-block.ensures c.linked.ensures room c.requires.expanding c.requires.fewest c.cheapest-value.ensures c.in_ok-first.ensures.children.0 c.in_ok-first.ensures.children.1 c.take.new.self c.floor-floor.result c.take.ensures c.floor-floor.ensures;
+        behind = subst (λ m. StandsBehind m one.number c.take.new.self.base) (sym at) (halved_behind P c.args.leaf one two old block c.args.x v refl c.in_ok-block.ensures c.linked.ensures room c.requires.expanding c.requires.undecided c.cheapest-value.ensures c.in_ok-first.ensures.children.0 c.in_ok-first.ensures.children.1 c.take.new.self c.take.ensures);
+        floor = halved_floor P c.args.leaf one two old block c.args.x v refl c.in_ok-block.ensures c.linked.ensures room c.requires.expanding c.requires.undecided c.cheapest-value.ensures c.in_ok-first.ensures.children.0 c.in_ok-first.ensures.children.1 c.take.new.self c.floor-floor.result c.take.ensures c.floor-floor.ensures;
       };
     }
