@@ -2,7 +2,7 @@
 use Rattle.std.proofs.Common.{◌≡◌, ℕ, ◌+◌, ◌<◌, ◌≤◌, ◌^◌, max, inl, inr, List, ◌∷◌, length, false, sym, ap, ◌∙◌, subst, arith}
 use Rattle.std.proofs.lemmas.Bool.{cases_eq}
 use Rattle.std.proofs.lemmas.Int.{ints}
-use Rattle.std.specs.Prelude.{Ok, ℤ, pos, ◌+ℤ◌, ◌≤ℤ◌, ◌<ℤ◌, slice_index, IsTrue}
+use Rattle.std.specs.Prelude.{Ok, Option, Some, None, MatchOption, ℤ, pos, ◌+ℤ◌, ◌≤ℤ◌, ◌<ℤ◌, slice_index, IsTrue}
 use Rattle.cfn_model.specs.declared.step.Step.TheVariants.{Extend}
 use Rattle.cfn_model.specs.declared.step.Event.{Event}
 use Rattle.cfn_model.specs.declared.step.Event.TheVariants.{Did}
@@ -12,15 +12,16 @@ use Rattle.cfn_model.specs.Steps.{IsPlace}
 use Rattle.cfn_model.proofs.CallerLemmas.{tuple_fewer}
 use Rattle.cfn_nc.proofs.CallerLemmas.{history_step}
 use Rattle.cfn_store.specs.Exact.{IsExactAlong}
-use Rattle.cfn_store.specs.Extremes.{IsPicked}
+use Rattle.cfn_store.specs.declared.scan.Extreme.{Extreme}
+use Rattle.cfn_store.specs.Extremes.{IsPicked, NoneBetween, IsLeastBetween}
 use Rattle.cfn_store.specs.Standing.{Standing, history, with_step, FitsExtend}
-use Rattle.cfn_store.proofs.CallerLemmas.{exact_now}
+use Rattle.cfn_store.proofs.CallerLemmas.{exact_now, picked_swapped}
 use Rattle.cfn_gain.specs.declared.limits.Limits.{Limits}
 use Rattle.cfn_gain.specs.Calls.{GoesOn, Does, Passing}
 use Rattle.cfn_gain.proofs.CallerLemmas.{passing_adds}
 use Rattle.cfn_dac.specs.declared.pair.Pair.{Pair}
 use Rattle.cfn_dac.specs.Full.{IsPair, first_of, second_of}
-use Rattle.cfn_dac.specs.Moves.{IsLiveTuple, Covers, AreWithin, AreLent, IsShare, IsLack, Trims, CostBelow}
+use Rattle.cfn_dac.specs.Moves.{IsLiveTuple, Covers, AreWithin, AreLent, IsShare, IsLack, lack_of, Trims, CostBelow}
 use Rattle.cfn_dac.proofs.Places.{tuple_at, cases_lt, not_both, place_of, variables_apart}
 use Rattle.cfn_dac.proofs.Costs.{residual_extended, residual_kept, unary_kept}
 
@@ -207,3 +208,14 @@ pub all_lent : (P : Network) (history : List Event) (pair : Pair) (moves : List 
 all_lent P history pair moves b is all covers tuple live h =
     let at = tuple_at P history pair.function pair.other tuple is.other live.fits live.live in let l = at.0 in
     covers.done tuple live (omega (arith, l, all))
+
+-- what the tuple of a line lacks of an amount
+pub lack_along : (P : Network) (history : List Event) (pair : Pair) (a b amount : ℕ) (found : Option Extreme) → MatchOption found (NoneBetween P history pair.function pair.other b pair.place a) (IsLeastBetween P history pair.function pair.other b pair.place a) → IsLack P history pair a b amount (lack_of amount found)
+lack_along P history pair a b amount None none = record {
+  enough = λ tuple picked. absurd (none tuple (picked_swapped P history pair.function pair.place a pair.other b tuple picked));
+  due = λ some. absurd (omega (arith, some));
+}
+lack_along P history pair a b amount (Some found) is = record {
+  enough = λ tuple picked. (let l = is.least tuple (picked_swapped P history pair.function pair.place a pair.other b tuple picked) in omega (arith, ints, l));
+  due = λ some. (is.tuple, picked_swapped P history pair.function pair.other b pair.place a is.tuple is.picked, (let c = is.cost_is in omega (arith, ints, c, some)));
+}

@@ -1,10 +1,11 @@
 -- Amounts that are moved to the values of a pair's first variable, through its function, from the values of the second.
-use Rattle.std.specs.Prelude.{◌≡◌, ℕ, ◌-◌, ◌<◌, ◌≤◌, ◌^◌, List, slice_index, pos, ◌+ℤ◌, ◌≤ℤ◌, ◌<ℤ◌, IsTrue}
+use Rattle.std.specs.Prelude.{◌≡◌, ℕ, ◌-◌, ◌<◌, ◌≤◌, ◌^◌, List, slice_index, Option, Some, None, pos, ◌+ℤ◌, ◌≤ℤ◌, ◌<ℤ◌, IsTrue}
 use Rattle.cfn_model.specs.declared.step.Event.{Event}
 use Rattle.cfn_model.specs.Network.{Network, Fits, dims_at, cell}
 use Rattle.cfn_model.specs.Sums.{floor, unary, residual, is_live, is_live_tuple}
 use Rattle.cfn_model.specs.Steps.{IsPlace}
 use Rattle.cfn_consistency.specs.Consistency.{HasFullSupport}
+use Rattle.cfn_store.specs.declared.scan.Extreme.{Extreme}
 use Rattle.cfn_store.specs.Extremes.{IsPicked, IsPickedBetween}
 use Rattle.cfn_dac.specs.declared.pair.Pair.{Pair}
 use Rattle.cfn_dac.specs.Full.{first_of, total}
@@ -60,6 +61,11 @@ SomeFrom P pair moves n = (a : ℕ) × IsPlace P pair.function pair.place a × (
 pub record IsLack (P : Network) (history : List Event) (pair : Pair) (a b amount lack : ℕ) : Type 0 where
   pub enough : (tuple : List ℕ) → IsPickedBetween P history pair.function pair.place a pair.other b tuple → pos amount ≤ℤ (residual P history pair.function tuple +ℤ pos lack)
   pub due : 0 < lack → (tuple : List ℕ) × IsPickedBetween P history pair.function pair.place a pair.other b tuple × (pos amount ≡ residual P history pair.function tuple +ℤ pos lack)
+
+-- What a least cost lacks of an amount; where there is none, nothing is lacking.
+abbrev pub lack_of : ℕ → Option Extreme → ℕ
+lack_of amount None = 0
+lack_of amount (Some extreme) = amount - extreme.cost
 
 -- What the value b of the second variable has to give: the most that a live tuple with it lacks of its first value's amount.
 pub record IsShare (P : Network) (history : List Event) (pair : Pair) (moves : List ℕ) (b share : ℕ) : Type 0 where

@@ -4,14 +4,15 @@
 ghost use Rattle.std.specs.Prelude.{◌≡◌, ◌+◌, ◌<◌, ◌≤◌, length, slice_index, OnOk};
 ghost use Rattle.cfn_model.specs.Steps.{IsPlace};
 ghost use Rattle.cfn_store.specs.Standing.{history};
+ghost use Rattle.cfn_store.specs.Lines.{IsLine};
 ghost use Rattle.cfn_gain.specs.Calls.{GoesOn, Does};
 ghost use Rattle.cfn_dac.specs.Full.{IsPair, first_of};
-ghost use Rattle.cfn_dac.specs.Moves.{Covers, AreWithin, AreLent, IsShare, IsLack};
+ghost use Rattle.cfn_dac.specs.Moves.{Covers, AreWithin, AreLent, IsShare, IsLack, lack_of};
 
 use crate::pair::Pair;
 use crate::trim::trim;
 use cfn_gain::{Halt, Limits, extend};
-use cfn_store::Store;
+use cfn_store::{Extreme, Line, Store};
 
 /// Gives the function's live tuples the amounts of their first values, where they have them together with the unary costs
 /// of their second values.
@@ -79,8 +80,67 @@ fn share(store: &Store<'_>, pair: Pair, moves: &[u64], value: u32) -> u64
     if !store.is_live(scope[pair.other as usize], value) {
         return 0;
     }
+    match store.line(pair.function, pair.other, value, pair.place) {
+        Some(line) => share_along(store, pair, moves, value, &line),
+        None => share_apart(store, pair, moves, value),
+    }
+}
+
+/// The same, along a line.
+fn share_along(store: &Store<'_>, pair: Pair, moves: &[u64], value: u32, line: &Line<'_>) -> u64
+    requires pair { IsPair store.now.network pair }
+    requires room { slice_index store.now.network.sizes (first_of store.now.network pair) ≤ length moves.now }
+    requires line { IsLine store.now.network (history store.now) pair.function pair.other value pair.place line.now }
+    ensures { IsShare store.now.network (history store.now) pair moves.now value result }
+{
+    store.network().limits();
+    store.exact();
+    let x = store.network().scope(pair.function)[pair.place as usize];
     let mut share = 0;
-    for first in 0..store.network().size(scope[pair.place as usize]) {
+    for first in 0..store.network().size(x) {
+        let amount = moves[first as usize];
+        if amount > share {
+            share = share.max(lack_along(store, pair, value, line, first, amount));
+        }
+    }
+    share
+}
+
+/// The most that the tuple of a line with a first value lacks of an amount, where it is live.
+fn lack_along(
+    store: &Store<'_>,
+    pair: Pair,
+    second: u32,
+    line: &Line<'_>,
+    first: u32,
+    amount: u64,
+) -> u64
+    requires pair { IsPair store.now.network pair }
+    requires first { IsPlace store.now.network pair.function pair.place first }
+    requires line { IsLine store.now.network (history store.now) pair.function pair.other second pair.place line.now }
+    ensures { IsLack store.now.network (history store.now) pair first second amount result }
+{
+    store.network().limits();
+    let x = store.network().scope(pair.function)[pair.place as usize];
+    if store.is_live(x, first) {
+        lack_of(amount, line.least(first))
+    } else {
+        0
+    }
+}
+
+/// The same, one pair of values after another.
+fn share_apart(store: &Store<'_>, pair: Pair, moves: &[u64], value: u32) -> u64
+    requires pair { IsPair store.now.network pair }
+    requires room { slice_index store.now.network.sizes (first_of store.now.network pair) ≤ length moves.now }
+    requires value { IsPlace store.now.network pair.function pair.other value }
+    ensures { IsShare store.now.network (history store.now) pair moves.now value result }
+{
+    store.network().limits();
+    store.exact();
+    let x = store.network().scope(pair.function)[pair.place as usize];
+    let mut share = 0;
+    for first in 0..store.network().size(x) {
         let amount = moves[first as usize];
         if amount > share {
             share = share.max(lack(store, pair, first, value, amount));
@@ -95,7 +155,15 @@ fn lack(store: &Store<'_>, pair: Pair, first: u32, second: u32, amount: u64) -> 
     requires second { IsPlace store.now.network pair.function pair.other second }
     ensures { IsLack store.now.network (history store.now) pair first second amount result }
 {
-    match store.least_between(pair.function, pair.place, first, pair.other, second) {
+    let found = store.least_between(pair.function, pair.place, first, pair.other, second);
+    lack_of(amount, found)
+}
+
+/// What a least cost lacks of an amount; where there is none, nothing is lacking.
+fn lack_of(amount: u64, found: Option<Extreme>) -> u64
+    ensures { result ≡ lack_of amount found }
+{
+    match found {
         Some(extreme) => amount.saturating_sub(extreme.cost),
         None => 0,
     }

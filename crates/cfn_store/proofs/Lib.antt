@@ -15,4 +15,5 @@ pub mod Rooms
 pub mod Going
 pub mod Paths
 pub mod Amounts
+pub mod Lines
 pub mod CallerLemmas

@@ -10,5 +10,6 @@ pub mod Cutting
 pub mod Scanning
 pub mod Reading
 pub mod Extremes
+pub mod Lines
 pub mod State
 pub mod Kept

@@ -3,7 +3,8 @@
 //! - `Store` stands for a list of events along a path. Each call that makes a step, or goes to a side of a split, appends
 //!   its event; `mark` and `undo` go back, and `replay` goes to another path by way of what the two have in common. It
 //!   tells the floor, unary costs, live values, extreme residual costs and the greatest amounts that steps take.
-//! - `Mark` is a place on the path; `Extreme` is a residual cost with a tuple that has it.
+//! - `Mark` is a place on the path; `Extreme` is a residual cost with a tuple that has it; `Line` tells the residual costs of
+//!   a function of two variables along the values of one of them.
 //!
 //! Inside, `State` keeps the events and undoes each as it was made: `Sums` has the costs (`sums.rt`), `Cuts` which tuples
 //! are cut, and `cfn_live` which values are live. `scan.rt` is the only loop over tables; `block.rt` packs the newest steps.
@@ -11,12 +12,14 @@
 
 mod block;
 mod cuts;
+mod line;
 mod mark;
 mod scan;
 mod state;
 mod store;
 mod sums;
 
+pub use line::Line;
 pub use mark::Mark;
 pub use scan::{Extreme, Sense};
 pub use store::Store;

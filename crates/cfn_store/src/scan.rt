@@ -245,7 +245,7 @@ impl<'a> Scan<'a> {
     }
 
     /// Where the scan stands once it has gone on by a value.
-    fn gone_on(&self, spot: Spot, x: u32, value: u32) -> Spot
+    pub(crate) fn gone_on(&self, spot: Spot, x: u32, value: u32) -> Spot
         requires { IsInner self.now x value spot }
         ensures { result ≡ gone_on self.now spot (slice_index self.now.sizes.now x) value }
     {
@@ -261,7 +261,7 @@ impl<'a> Scan<'a> {
     }
 
     /// The tuple that is complete, where its entry is below the upper bound and it is not cut.
-    fn here(&self, spot: Spot) -> Option<Extreme>
+    pub(crate) fn here(&self, spot: Spot) -> Option<Extreme>
         requires { IsSpot self.now [] spot }
         ensures { MatchOption result (NoneMet self.now [] spot) (IsFound self.now [] spot) }
     {

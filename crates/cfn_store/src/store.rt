@@ -1,10 +1,10 @@
 //! The store: what a path makes of a network, step by step and back.
 
-ghost use Rattle.std.specs.Prelude.{◌≡◌, ℕ, ◌+◌, ◌-◌, ◌<◌, ◌≤◌, List, [], ◌∷◌, ◌++◌, length, reverse, slice_index, pos, IsTrue, IfOk, OnOk, OnErr, MatchOption};
+ghost use Rattle.std.specs.Prelude.{◌≡◌, ℕ, ◌+◌, ◌-◌, ◌<◌, ◌≤◌, List, [], ◌∷◌, ◌++◌, length, reverse, slice_index, pos, IsTrue, IfOk, IfSome, OnOk, OnErr, MatchOption};
 ghost use Rattle.cfn_model.specs.declared.step.Step.TheVariants.{Project, Extend, Lift, CutValue, CutTuple};
 ghost use Rattle.cfn_model.specs.declared.step.Event.{Event as PathEvent};
 ghost use Rattle.cfn_model.specs.declared.step.Event.TheVariants.{Did, Took, Refused};
-ghost use Rattle.cfn_model.specs.Network.{Fits, cell, dims_at};
+ghost use Rattle.cfn_model.specs.Network.{Fits, arity, cell, dims_at};
 ghost use Rattle.cfn_model.specs.Sums.{floor, unary, residual, is_live, is_live_tuple};
 ghost use Rattle.cfn_model.specs.Steps.{IsValue, IsCell, IsPlace, IsDecision};
 ghost use Rattle.cfn_model.specs.Paths.{RunsAlong, TameAlong};
@@ -13,11 +13,13 @@ ghost use Rattle.cfn_store.specs.Exact.{IsExact, IsExactAlong};
 ghost use Rattle.cfn_live.specs.Sets.{AreLive, live_count};
 ghost use Rattle.cfn_store.specs.declared.scan.Sense.TheVariants.{Least, Greatest};
 ghost use Rattle.cfn_store.specs.Extremes.{NonePicked, IsExtreme, NoneBetween, IsLeastBetween};
+ghost use Rattle.cfn_store.specs.Lines.{IsLine};
 ghost use Rattle.cfn_store.specs.Rooms.{sets_of, IsProjectRoom, IsExtendRoom, IsLiftRoom, IsAbove, IsToExtend};
 ghost use Rattle.cfn_store.specs.Marking.{IsMark, IsBehind, back_at};
 ghost use Rattle.cfn_store.specs.Standing.{history, at_root, with_step, with_side, FitsProject, FitsExtend, FitsLift};
 
 use crate::block::block_from;
+use crate::line::Line;
 use crate::mark::Mark;
 use crate::scan::{Extreme, Pin, Sense};
 use crate::state::{State, in_common};
@@ -46,6 +48,7 @@ impl<'n> Model for Store<'n> {
     ghost use Rattle.cfn_live.specs.Sets.{AreLive, live_count};
     ghost use Rattle.cfn_store.specs.declared.scan.Sense.TheVariants.{Least, Greatest};
     ghost use Rattle.cfn_store.specs.Extremes.{NonePicked, IsExtreme, NoneBetween, IsLeastBetween};
+    ghost use Rattle.cfn_store.specs.Lines.{IsLine};
     ghost use Rattle.cfn_store.specs.Rooms.{sets_of, IsProjectRoom, IsExtendRoom, IsLiftRoom, IsAbove, IsToExtend};
     ghost use Rattle.cfn_store.specs.Standing.{Standing};
     ghost use Rattle.cfn_store.specs.Events.{steps_in};
@@ -289,6 +292,26 @@ impl<'n> Store<'n> {
             value: other_value,
         };
         self.state.first(self.network, f, one, two, Sense::Least)
+    }
+
+    /// The tuples of `f`, a function of two variables, with a live `value` at `place`, along the other variable's values; `None`
+    /// where `f` has another number of variables, or the value is not live.
+    pub fn line(&self, f: u32, place: u32, value: u32, other: u32) -> Option<Line<'_>>
+        requires place { IsPlace self.now.network f place value }
+        requires other { other < arity self.now.network f }
+        requires different { place ≡ other → ⊥ }
+        ensures { IfSome result (IsLine self.now.network (history self.now) f place value other) }
+    {
+        self.network.limits();
+        let scope = self.network.scope(f);
+        if scope.len() != 2 || !self.is_live(scope[place as usize], value) {
+            return None;
+        }
+        let pin = Pin {
+            place: place as usize,
+            value,
+        };
+        Some(self.state.line(self.network, f, pin, other as usize))
     }
 
     /// The greatest amount that can be projected there, limited to what has a spelling and keeps costs below 2^64; 0 where

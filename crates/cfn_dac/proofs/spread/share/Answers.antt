@@ -1,10 +1,9 @@
-use Rattle.std.proofs.Common.{◌≡◌, ◌+◌, false, sym, ap, ◌∙◌, subst, arith}
+use Rattle.std.proofs.Common.{◌≡◌, false, sym, ap, ◌∙◌, subst}
 use Rattle.std.specs.Prelude.{slice_index}
 use Rattle.cfn_model.specs.Network.{variable_at}
 use Rattle.cfn_model.specs.Sums.{is_live}
 use Rattle.cfn_store.specs.Standing.{history}
-use Rattle.cfn_dac.proofs.Spreading.{IsShareTo, share_dead, share_skip, share_more, share_all}
-use Rattle.cfn_dac.proofs.spread.share.Goals.{then-amount-share, else-amount-share}
+use Rattle.cfn_dac.proofs.Spreading.{share_dead}
 use Rattle.cfn_dac.proofs.spread.share.Goals as goal
 
 pub returns-then-not-is_live : goal.returns-then-not-is_live
@@ -12,20 +11,3 @@ returns-then-not-is_live c =
     let s = c.args.store.now in let pair = c.args.pair in
     let y = ap (λ l. slice_index l pair.other) c.scope-scope.ensures ∙ ap (λ P. variable_at P pair.function pair.other) c.network-2.ensures in
     share_dead s.network (history s) pair c.args.moves.now c.args.value c.requires.pair (subst (λ v. is_live (history s) v c.args.value ≡ false) y (sym c.is_live.ensures ∙ c.if-not-is_live.true))
-
-pub loop-first-preserved : goal.loop-first-preserved
-loop-first-preserved c =
-    let s = c.args.store.now in let pair = c.args.pair in let moves = c.args.moves.now in let n = c.loop-first.first in
-    elim c.if-amount-share.branch [
-      | then-amount-share w ↦ share_more s.network (history s) pair moves c.args.value n c.loop-first.share w.lack.result c.if-amount-share.share c.loop-first.invariant w.lack.ensures (w.share-is ∙ w.max-share.ensures)
-      | else-amount-share w ↦
-          subst (IsShareTo s.network (history s) pair moves c.args.value (n + 1)) (sym w.share-is)
-          (share_skip s.network (history s) pair moves c.args.value n c.loop-first.share c.exact.ensures c.requires.pair.function c.loop-first.invariant w.if-amount-share.false)
-    ]
-
-pub returns : goal.returns
-returns c =
-    let s = c.args.store.now in let pair = c.args.pair in
-    let x = ap (λ l. slice_index l pair.place) c.scope-scope.ensures ∙ ap (λ P. variable_at P pair.function pair.place) c.network-2.ensures in
-    let size = c.size-first-end.ensures ∙ ap (λ P. slice_index P.sizes (slice_index c.scope-scope.result.now pair.place)) c.network-3.ensures ∙ ap (slice_index s.network.sizes) x in
-    share_all s.network (history s) pair c.args.moves.now c.args.value c.loop-first.first c.loop-first.share c.requires.pair (omega (arith, c.loop-first-test.false, size)) c.loop-first.invariant

@@ -6,18 +6,18 @@ use Rattle.cfn_store.specs.Standing.{history}
 use Rattle.cfn_store.specs.Rooms.{sets_of}
 use Rattle.cfn_dac.specs.Moves.{IsTotalBetween}
 use Rattle.cfn_dac.proofs.Planning.{least_zero, least_more, least_all}
-use Rattle.cfn_dac.proofs.plan.least_total.Goals as goal
+use Rattle.cfn_dac.proofs.plan.least_along.Goals as goal
 
 pub returns-then-total-eq0 : goal.returns-then-total-eq0
 returns-then-total-eq0 c =
     let s = c.args.store.now in let b = slice_index c.live-other-items.result.now c.loop-other.other-index in
     least_zero s.network (history s) c.args.pair c.args.value b (subst IsNetwork c.network.ensures c.limits.ensures) c.exact.ensures c.requires.pair
-    (subst (λ n. IsTotalBetween s.network (history s) c.args.pair c.args.value b n) c.if-total-eq0.true c.total-total.ensures)
+    (subst (λ n. IsTotalBetween s.network (history s) c.args.pair c.args.value b n) c.if-total-eq0.true c.with_unary-total.ensures)
 
 pub loop-other-preserved : goal.loop-other-preserved
 loop-other-preserved c =
     let s = c.args.store.now in
-    least_more s.network (history s) c.args.pair c.args.value c.live-other-items.result.now c.loop-other.other-index c.loop-other.least c.total-total.result c.min-least.result c.loop-other.invariant c.total-total.ensures c.min-least.ensures
+    least_more s.network (history s) c.args.pair c.args.value c.live-other-items.result.now c.loop-other.other-index c.loop-other.least c.with_unary-total.result c.min-least.result c.loop-other.invariant c.with_unary-total.ensures c.min-least.ensures
 
 pub returns : goal.returns
 returns c =
