@@ -11,11 +11,11 @@ use Rattle.cfn_store.specs.Exact.{IsExactAlong}
 use Rattle.cfn_store.specs.Extremes.{IsPicked, IsPickedBetween}
 use Rattle.cfn_store.specs.Standing.{Standing, history}
 use Rattle.cfn_store.specs.Rooms.{sets_of}
-use Rattle.cfn_store.proofs.CallerLemmas.{exact_now}
+use Rattle.cfn_store.proofs.CallerLemmas.{tuple_at, exact_now}
 use Rattle.cfn_dac.specs.declared.pair.Pair.{Pair}
 use Rattle.cfn_dac.specs.Full.{IsPair, AreFullBelow, first_of, second_of, total}
 use Rattle.cfn_dac.specs.Moves.{IsLiveTuple, IsTotalBetween, IsLeastTotal, IsAmount, Covers}
-use Rattle.cfn_dac.proofs.Places.{tuple_at, cases_lt, not_both, first_value, second_value, place_of}
+use Rattle.cfn_dac.proofs.Places.{cases_lt, not_both, first_value, second_value, place_of}
 
 -- no total of a live tuple is below 0
 pub not_negative : (P : Network) (history : List Event) (pair : Pair) (tuple : List ℕ) → IsNetwork P → IsExactAlong P history → IsPair P pair → IsLiveTuple P history pair.function tuple → pos 0 ≤ℤ total P history pair tuple

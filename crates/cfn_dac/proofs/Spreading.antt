@@ -15,14 +15,14 @@ use Rattle.cfn_store.specs.Exact.{IsExactAlong}
 use Rattle.cfn_store.specs.declared.scan.Extreme.{Extreme}
 use Rattle.cfn_store.specs.Extremes.{IsPicked, NoneBetween, IsLeastBetween}
 use Rattle.cfn_store.specs.Standing.{Standing, history, with_step, FitsExtend}
-use Rattle.cfn_store.proofs.CallerLemmas.{exact_now, picked_swapped}
+use Rattle.cfn_store.proofs.CallerLemmas.{tuple_at, exact_now, picked_swapped}
 use Rattle.cfn_gain.specs.declared.limits.Limits.{Limits}
 use Rattle.cfn_gain.specs.Calls.{GoesOn, Does, Passing}
 use Rattle.cfn_gain.proofs.CallerLemmas.{passing_adds}
 use Rattle.cfn_dac.specs.declared.pair.Pair.{Pair}
 use Rattle.cfn_dac.specs.Full.{IsPair, first_of, second_of}
 use Rattle.cfn_dac.specs.Moves.{IsLiveTuple, Covers, AreWithin, AreLent, IsShare, IsLack, lack_of, Trims, CostBelow}
-use Rattle.cfn_dac.proofs.Places.{tuple_at, cases_lt, not_both, place_of, variables_apart}
+use Rattle.cfn_dac.proofs.Places.{cases_lt, not_both, place_of, variables_apart}
 use Rattle.cfn_dac.proofs.Costs.{residual_extended, residual_kept, unary_kept}
 
 -- the most that the tuples with first values below n lack

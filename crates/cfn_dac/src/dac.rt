@@ -3,18 +3,20 @@
 //! support with regard to the other.
 
 ghost use Rattle.std.specs.Prelude.{◌≡◌, ℕ, ◌<◌, ◌≤◌, length, slice_index, MatchOption};
-ghost use Rattle.cfn_consistency.specs.Consistency.{IsNodeConsistent, IsDirectional};
+ghost use Rattle.cfn_consistency.specs.Consistency.{IsDirectional};
 ghost use Rattle.cfn_store.specs.Standing.{history};
 ghost use Rattle.cfn_gain.specs.Calls.{GoesOn, Does, Shows};
 ghost use Rattle.cfn_dac.specs.Opens.{NoOpenPair, IsLowerPair};
+ghost use Rattle.cfn_dac.specs.Full.{AreAllBelow};
 
 use crate::open::{Opens, open_places};
 use crate::pair::{Pair, full_supports};
 use cfn_gain::{Halt, Limits, lacking};
 use cfn_store::Store;
 
-/// Makes `f` directional arc consistent: where no step was made, and the store is node consistent, it is. `moves` is room
-/// for an amount for each value of a variable, and is left with any. An `Err` leaves the steps that were made.
+/// Makes `f` directional arc consistent: where no step was made, and with no live value of a variable of `f` the floor and
+/// its unary cost reach the threshold, it is. `moves` is room for an amount for each value of a variable, and is left with
+/// any. An `Err` leaves the steps that were made.
 pub fn directional(
     store: &mut Store<'_>,
     limits: Limits,
@@ -27,7 +29,7 @@ pub fn directional(
         → slice_index store.old.network.sizes x ≤ length moves.old }
     ensures does { Does store.old store.new limits result }
     ensures directional { Shows store.old store.new result
-        (IsNodeConsistent store.old.network (history store.old) limits.threshold
+        (AreAllBelow store.old.network (history store.old) limits.threshold f
         → IsDirectional store.old.network (history store.old) f) }
     ensures same { length moves.new ≡ length moves.old }
 {

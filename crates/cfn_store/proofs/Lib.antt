@@ -16,4 +16,6 @@ pub mod Going
 pub mod Paths
 pub mod Amounts
 pub mod Lines
+pub mod Tuples
+pub mod Least
 pub mod CallerLemmas

@@ -1,8 +1,8 @@
 -- A line's scan, turned to a value, passes both places of its function by one choice each.
-use Rattle.std.proofs.Common.{◌≡◌, ℕ, zero, suc, ◌+◌, ◌<◌, ◌^◌, Bool, true, false, not, ◌&&◌, ◌||◌, List, [], ◌∷◌, length, refl, sym, ap, subst, ◌∙◌, arith}
-use Rattle.std.specs.Prelude.{Option, Some, None, slice_index, ◌==◌, if◌then◌else◌, IsTrue, MatchOption}
+use Rattle.std.proofs.Common.{◌≡◌, ℕ, zero, suc, ◌<◌, Bool, true, false, not, ◌&&◌, ◌||◌, List, [], ◌∷◌, length, refl, sym, ap, subst, ◌∙◌, arith}
+use Rattle.std.specs.Prelude.{Option, slice_index, ◌==◌, if◌then◌else◌, IsTrue, MatchOption}
 use Rattle.cfn_model.specs.declared.step.Event.{Event}
-use Rattle.cfn_model.specs.Network.{Network, scope_at, arity, variable_at, dims_at, dims}
+use Rattle.cfn_model.specs.Network.{Network, scope_at, variable_at, dims_at}
 use Rattle.cfn_model.specs.Sums.{is_live}
 use Rattle.cfn_model.specs.Steps.{IsPlace}
 use Rattle.cfn_net.proofs.CallerLemmas.{get_or-dims}
@@ -10,14 +10,12 @@ use Rattle.cfn_store.specs.declared.scan.Scan.{Scan}
 use Rattle.cfn_store.specs.declared.scan.Pin.{Pin}
 use Rattle.cfn_store.specs.declared.scan.Spot.{Spot}
 use Rattle.cfn_store.specs.declared.scan.Extreme.{Extreme}
-use Rattle.cfn_store.specs.declared.scan.Sense.{Sense}
-use Rattle.cfn_store.specs.declared.scan.Sense.TheVariants.{Least}
 use Rattle.cfn_store.specs.declared.line.Line.{Line}
 use Rattle.cfn_store.specs.Extremes.{NoneBetween, IsLeastBetween, IsExtremeBetween}
 use Rattle.cfn_store.specs.Scanning.{IsSpot, IsInner, AreChoices, NoneMet, IsFound, agrees, may_stand, gone_on}
 use Rattle.cfn_store.specs.Reading.{Reads, start}
 use Rattle.cfn_store.specs.Lines.{IsLine, IsAlong, scope_of, turned_to, first_value, second_value}
-use Rattle.cfn_store.proofs.Scans.{spot_behind, Passed, passed_none, passed_more, match_through, small_word}
+use Rattle.cfn_store.proofs.Scans.{Passed, passed_none, passed_more, match_through, small_word}
 use Rattle.cfn_store.proofs.Extremes.{extreme, least}
 
 both : (a b : Bool) → (a && b) ≡ true → (a ≡ true) × (b ≡ true)

@@ -1,5 +1,5 @@
 -- What a store stands for, from the events that it keeps.
-use Rattle.std.proofs.Common.{◌≡◌, ℕ, zero, suc, ◌+◌, ◌-◌, ◌<◌, ◌≤◌, List, [], ◌∷◌, ◌++◌, length, get_or, reverse, take, drop, refl, sym, ap, subst, ◌∙◌, arith, take_all}
+use Rattle.std.proofs.Common.{◌≡◌, ◌⊎◌, inl, inr, ℕ, zero, suc, ◌+◌, ◌-◌, ◌<◌, ◌≤◌, List, [], ◌∷◌, ◌++◌, length, get_or, reverse, take, drop, refl, sym, ap, subst, ◌∙◌, arith, take_all, get_or-drop}
 use Rattle.std.proofs.lemmas.List.{reverse-append, take-append-drop, take-append-le, drop-append-le, length-append, length-drop, drop_all}
 use Rattle.std.specs.List.{AllByRecursion}
 use Rattle.std.specs.Prelude.{slice_index, if◌then◌else◌}
@@ -201,6 +201,32 @@ step_at (Took d ∷ events) zero event step l all is = cc
 step_at (Took d ∷ events) (suc i) event step l all is = step_at events i event step (omega (arith, l)) all is
 step_at (Refused d ∷ events) zero event step l all is = cc
 step_at (Refused d ∷ events) (suc i) event step l all is = step_at events i event step (omega (arith, l)) all is
+
+-- where all events from a place on are steps each of them is the step with its number
+did_at : (events : List Event) (i : ℕ) (event : Event) (other : Step) → AllSteps events → i < length events → get_or events i event ≡ Did (get_or (steps_in events) i other)
+did_at [] i event other all l = absurd (omega (arith, l))
+did_at (Did step ∷ events) zero event other all l = refl
+did_at (Did step ∷ events) (suc i) event other all l = did_at events i event other all (omega (arith, l))
+did_at (Took d ∷ events) i event other all l = absurd all
+did_at (Refused d ∷ events) i event other all l = absurd all
+
+pub did_from : (events : List Event) (place i : ℕ) (event : Event) (other : Step) → AllSteps (drop place events) → place + i < length events → get_or events (place + i) event ≡ Did (get_or (steps_in (drop place events)) i other)
+did_from events place i event other all l =
+    let rest = length-drop place events in
+    sym (get_or-drop place events i event) ∙ did_at (drop place events) i event other all (omega (arith, rest, l))
+
+-- and no side of a split
+pub no_side_from : (events : List Event) (place i : ℕ) (event : Event) → AllSteps (drop place events) → place + i < length events → ((d : Decision) × (get_or events (place + i) event ≡ Took d)) ⊎ ((d : Decision) × (get_or events (place + i) event ≡ Refused d)) → ⊥
+no_side_from events place i event all l (inl is) = (let did = did_from events place i event (Lift 0 0) all l in let both = sym did ∙ is.1 in absurd cc)
+no_side_from events place i event all l (inr is) = (let did = did_from events place i event (Lift 0 0) all l in let both = sym did ∙ is.1 in absurd cc)
+
+pub same_step : (one other : Step) → mathlib.Core.Path.◌≡◌ {A = Event} (Did one) (Did other) → one ≡ other
+same_step one other e = ap the_step e
+  where
+    the_step : Event → Step
+    the_step (Did step) = step
+    the_step (Took d) = one
+    the_step (Refused d) = one
 
 -- a store whose block begins at the end of its events
 pub at_end : (P : Network) (most count : ℕ) (s : State) → IsState P s → HasRoom most s → length s.trail.items ≤ most → count ≡ length s.trail.items → IsStore P count most s

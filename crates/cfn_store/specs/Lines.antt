@@ -1,11 +1,10 @@
 -- The live tuples of a function of two variables with one value at one place.
-use Rattle.std.specs.Prelude.{◌≡◌, ℕ, ◌<◌, List, [], ◌∷◌, slice_index, ◌==◌, if◌then◌else◌, IsTrue}
+use Rattle.std.specs.Prelude.{◌≡◌, ℕ, ◌<◌, List, [], ◌∷◌, ◌==◌, if◌then◌else◌, IsTrue}
 use Rattle.cfn_model.specs.declared.step.Event.{Event}
 use Rattle.cfn_model.specs.Network.{Network, scope_at, variable_at}
 use Rattle.cfn_model.specs.Sums.{is_live}
 use Rattle.cfn_model.specs.Steps.{IsPlace}
 use Rattle.cfn_store.specs.declared.scan.Scan.{Scan}
-use Rattle.cfn_store.specs.declared.scan.Pin.{Pin}
 use Rattle.cfn_store.specs.declared.scan.Sense.TheVariants.{Least}
 use Rattle.cfn_store.specs.declared.line.Line.{Line}
 use Rattle.cfn_store.specs.Exact.{IsExact}

@@ -1,13 +1,13 @@
-//! The block of a path's newest steps.
+//! The block of a path's newest steps, and one step of it.
 
-ghost use Rattle.std.specs.Prelude.{◌≡◌, ◌≤◌, [], ◌∷◌, ◌++◌, length, drop, IfOk, OnOk};
+ghost use Rattle.std.specs.Prelude.{◌≡◌, ◌+◌, ◌<◌, ◌≤◌, [], ◌∷◌, ◌++◌, length, drop, slice_index_or, IfOk, OnOk};
 ghost use Rattle.std.specs.List.{AllByRecursion};
 ghost use Rattle.cfn_model.specs.declared.step.Step.{Step as PathStep};
 ghost use Rattle.cfn_model.specs.declared.step.Event.TheVariants.{Did};
 ghost use Rattle.cfn_model.specs.Text.{IsSpelledStep};
 ghost use Rattle.cfn_store.specs.Events.{steps_in, AllSteps};
 
-use cfn_model::Event;
+use cfn_model::{Event, Step};
 use cfn_proof::Block;
 use std::alloc::{AllocError, Global};
 
@@ -40,5 +40,17 @@ fn add(block: &mut Block, event: Event) -> Result<(), AllocError>
     match event {
         Event::Did(step) => block.push(step),
         Event::Took(_) | Event::Refused(_) => Ok(()),
+    }
+}
+
+/// The step with a number among the events from a place on, which are all steps.
+pub(crate) fn step_from(events: &[Event], place: usize, number: usize) -> Step
+    requires number { place + number < length events.now }
+    requires steps { AllSteps (drop place events.now) }
+    ensures { (other : PathStep) → slice_index_or (steps_in (drop place events.now)) number other ≡ result }
+{
+    match events[place + number] {
+        Event::Did(step) => step,
+        Event::Took(_) | Event::Refused(_) => unreachable!(),
     }
 }

@@ -3,10 +3,12 @@
 //! What a function's row needs is looked up once, so that a loop over the other values reads a table entry and a shift for
 //! each of them, and nothing else (the "delta costs" of binary cost functions in toulbar2).
 
-ghost use Rattle.std.specs.Prelude.{◌≡◌, ℕ, List, MatchOption};
+ghost use Rattle.std.specs.Prelude.{◌≡◌, ℕ, List, true, MatchOption, IsSomeAnd};
 ghost use Rattle.cfn_model.specs.declared.step.Event.{Event};
 ghost use Rattle.cfn_model.specs.Network.{Network};
 ghost use Rattle.cfn_store.specs.Extremes.{NoneBetween, IsLeastBetween};
+ghost use Rattle.cfn_store.specs.declared.scan.Sense.TheVariants.{Least};
+ghost use Rattle.cfn_store.specs.Scanning.{IsSooner};
 ghost use Rattle.cfn_store.specs.Lines.{IsAlong, turned_to, first_value, second_value};
 
 use crate::scan::{Extreme, Pin, Scan, Spot};
@@ -72,5 +74,26 @@ impl Line<'_> {
             },
             sense: self.scan.sense,
         }
+    }
+}
+
+/// Of two that were found the one that costs less, the first where both cost the same.
+pub(crate) fn lesser(first: Option<Extreme>, other: Option<Extreme>) -> Option<Extreme>
+    ensures { IsSooner Least first other result }
+{
+    match (first, other) {
+        (Some(a), Some(b)) => { if b.cost < a.cost { other } else { first } }
+        (Some(_), None) => first,
+        (None, _) => other,
+    }
+}
+
+/// Whether what was found costs nothing.
+pub(crate) fn costs_nothing(found: Option<Extreme>) -> bool
+    ensures { result ≡ true → IsSomeAnd found (λ extreme. extreme.cost ≡ 0) }
+{
+    match found {
+        Some(extreme) => extreme.cost == 0,
+        None => false,
     }
 }

@@ -1,6 +1,7 @@
 //! The store: what a path makes of a network, step by step and back.
 
-ghost use Rattle.std.specs.Prelude.{◌≡◌, ℕ, ◌+◌, ◌-◌, ◌<◌, ◌≤◌, List, [], ◌∷◌, ◌++◌, length, reverse, slice_index, pos, IsTrue, IfOk, IfSome, OnOk, OnErr, MatchOption};
+ghost use Rattle.std.specs.Prelude.{◌≡◌, ℕ, ◌+◌, ◌-◌, ◌<◌, ◌≤◌, List, [], ◌∷◌, ◌++◌, length, reverse, slice_index, slice_index_or, pos, IsTrue, IfOk, IfSome, OnOk, OnErr, MatchOption};
+ghost use Rattle.cfn_model.specs.declared.step.Step.{Step as PathStep};
 ghost use Rattle.cfn_model.specs.declared.step.Step.TheVariants.{Project, Extend, Lift, CutValue, CutTuple};
 ghost use Rattle.cfn_model.specs.declared.step.Event.{Event as PathEvent};
 ghost use Rattle.cfn_model.specs.declared.step.Event.TheVariants.{Did, Took, Refused};
@@ -18,8 +19,8 @@ ghost use Rattle.cfn_store.specs.Rooms.{sets_of, IsProjectRoom, IsExtendRoom, Is
 ghost use Rattle.cfn_store.specs.Marking.{IsMark, IsBehind, back_at};
 ghost use Rattle.cfn_store.specs.Standing.{history, at_root, with_step, with_side, FitsProject, FitsExtend, FitsLift};
 
-use crate::block::block_from;
-use crate::line::Line;
+use crate::block::{block_from, step_from};
+use crate::line::{Line, costs_nothing, lesser};
 use crate::mark::Mark;
 use crate::scan::{Extreme, Pin, Sense};
 use crate::state::{State, in_common};
@@ -193,6 +194,14 @@ impl<'n> Store<'n> {
         self.state.trail.len() - self.base
     }
 
+    /// One of the steps since the newest decision or replay, numbered from 0, the oldest first.
+    pub fn step(&self, i: usize) -> Step
+        requires { i < length self.now.block }
+        ensures { (other : PathStep) → slice_index_or self.now.block i other ≡ result }
+    {
+        step_from(&self.state.trail, self.base, i)
+    }
+
     /// The steps since the newest decision or replay, as a block. An `Err` is want of memory.
     pub fn block(&self, alloc: Global) -> Result<Block, AllocError>
         ensures { IfOk result (λ block. block ≡ self.now.block) }
@@ -243,6 +252,48 @@ impl<'n> Store<'n> {
     /// The least residual cost of the live tuples of `f` with `value` at `place`, and a tuple that has it. There is none
     /// exactly where no such tuple is live.
     pub fn least_residual(&self, f: u32, place: u32, value: u32) -> Option<Extreme>
+        requires { IsPlace self.now.network f place value }
+        ensures { MatchOption result (NonePicked self.now.network (history self.now) f place value)
+            (IsExtreme self.now.network (history self.now) f place value Least) }
+    {
+        self.network.limits();
+        if self.network.scope(f).len() == 2 {
+            let other = 1 - place;
+            if let Some(line) = self.line(f, place, value, other) {
+                return self.least_along(f, place, value, other, &line);
+            }
+        }
+        self.least_of_all(f, place, value)
+    }
+
+    /// The same, along a line.
+    fn least_along(
+        &self,
+        f: u32,
+        place: u32,
+        value: u32,
+        other: u32,
+        line: &Line<'_>,
+    ) -> Option<Extreme>
+        requires other { other < arity self.now.network f }
+        requires line { IsLine self.now.network (history self.now) f place value other line.now }
+        ensures { MatchOption result (NonePicked self.now.network (history self.now) f place value)
+            (IsExtreme self.now.network (history self.now) f place value Least) }
+    {
+        self.network().limits();
+        let y = self.network().scope(f)[other as usize];
+        let mut best: Option<Extreme> = None;
+        for value in self.live(y) {
+            best = lesser(best, line.least(*value));
+            if costs_nothing(best) {
+                return best;
+            }
+        }
+        best
+    }
+
+    /// The same, by a scan.
+    fn least_of_all(&self, f: u32, place: u32, value: u32) -> Option<Extreme>
         requires { IsPlace self.now.network f place value }
         ensures { MatchOption result (NonePicked self.now.network (history self.now) f place value)
             (IsExtreme self.now.network (history self.now) f place value Least) }

@@ -1,4 +1,5 @@
 use super::*;
+use cfn_model::Step;
 use cfn_net::{Builder, Network};
 use std::alloc::{AllocError, Global};
 use std::test::*;
@@ -25,5 +26,23 @@ fn takes_room_and_makes_a_block(rt: HostRuntime) -> Result<(), Fail> {
     assert_eq!(rt; store.block_len(), 0);
     let block = store.block(rt.alloc())?;
     assert!(rt; block.cursor().next().is_none());
+    Ok(())
+}
+
+#[test]
+fn tells_its_newest_steps(rt: HostRuntime) -> Result<(), Fail> {
+    let network = pair(rt.alloc())?;
+    let mut store = Store::build(rt.alloc(), &network)?;
+    store.reserve(2)?;
+    if network.variables() == 2 && network.size(0) == 2 && network.size(1) == 2 {
+        store.cut_value(0, 1);
+        store.cut_value(1, 0);
+        let cut = Step::CutValue {
+            variable: 1,
+            value: 0,
+        };
+        assert_eq!(rt; store.block_len(), 2);
+        assert_eq!(rt; store.step(1), cut);
+    }
     Ok(())
 }

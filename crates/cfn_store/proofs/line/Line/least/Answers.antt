@@ -1,9 +1,8 @@
 use Rattle.std.proofs.Common.{[], subst, sym, MatchOption}
-use Rattle.cfn_store.specs.Extremes.{NoneBetween, IsLeastBetween}
 use Rattle.cfn_store.specs.Lines.{turned_to}
 use Rattle.cfn_store.specs.Reading.{start}
 use Rattle.cfn_store.specs.Scanning.{IsInner, IsSpot, NoneMet, IsFound}
-use Rattle.cfn_store.proofs.Lines.{first_inner, second_inner, end_spot, found_between, middle_is, end_is, end_of}
+use Rattle.cfn_store.proofs.Lines.{first_inner, second_inner, end_spot, found_between, middle_is, end_is}
 use Rattle.cfn_store.proofs.line.Line.least.Goals as goal
 
 pub gone_on-middle-requires : goal.gone_on-middle-requires

@@ -3,7 +3,7 @@ use Rattle.cfn_store.specs.Extremes.{NonePicked, IsExtreme}
 use Rattle.cfn_store.specs.declared.scan.Sense.TheVariants.{Least}
 use Rattle.cfn_store.proofs.Extremes.{once}
 use Rattle.cfn_store.proofs.Stores.{over}
-use Rattle.cfn_store.proofs.store.Store.least_residual.Goals as goal
+use Rattle.cfn_store.proofs.store.Store.least_of_all.Goals as goal
 
 pub returns : goal.returns
 returns c = over c.self.inside.network.now c.self.inside.base c.self.inside.room c.self.inside.state c.args.self.now c.self.invariant c.self.view_is (λ N h. MatchOption c.first.result (NonePicked N h c.args.f c.args.place c.args.value) (IsExtreme N h c.args.f c.args.place c.args.value Least))
