@@ -1,13 +1,11 @@
 -- A value with full supports in the arms makes its variable existential.
-use Rattle.std.proofs.Common.{◌≡◌, ◌⊎◌, ℕ, zero, suc, ◌+◌, ◌<◌, ◌≤◌, inl, inr, List, length, refl, sym, ap, ◌∙◌, subst, arith}
+use Rattle.std.proofs.Common.{◌≡◌, ℕ, ◌+◌, ◌<◌, ◌≤◌, inl, inr, List, length, sym, ap, ◌∙◌, subst, arith}
 use Rattle.std.proofs.lemmas.Int.{ints}
-use Rattle.std.specs.Prelude.{min, Ok, ℤ, pos, ◌<ℤ◌, IsTrue, slice_index, Result, OnOk}
+use Rattle.std.specs.Prelude.{min, Ok, pos, ◌<ℤ◌, IsTrue, slice_index, Result}
 use Rattle.cfn_model.specs.declared.step.Event.{Event}
-use Rattle.cfn_model.specs.Network.{Network, IsNetwork, arity, variable_at, dims_at, scope_at}
+use Rattle.cfn_model.specs.Network.{Network, IsNetwork, arity, variable_at, scope_at}
 use Rattle.cfn_model.specs.Sums.{floor, unary, is_live}
-use Rattle.cfn_model.specs.Steps.{IsValue, IsPlace}
-use Rattle.cfn_consistency.specs.Openness.{HasOpenPair}
-use Rattle.cfn_consistency.specs.Consistency.{IsFree, HasFullSupport, IsFirst, IsExistential}
+use Rattle.cfn_consistency.specs.Consistency.{HasFullSupport, IsExistential}
 use Rattle.cfn_net.proofs.CallerLemmas.{get_or-dims}
 use Rattle.cfn_store.specs.Standing.{Standing, history}
 use Rattle.cfn_dac.specs.declared.pair.Pair.{Pair}
@@ -17,7 +15,7 @@ use Rattle.cfn_gain.specs.declared.limits.Halt.{Halt}
 use Rattle.cfn_gain.specs.Calls.{Does, Passing, Shows, IsUnchanged}
 use Rattle.cfn_gain.specs.Levels.{IsLevel}
 use Rattle.cfn_gain.proofs.CallerLemmas.{passing_adds, shows_after}
-use Rattle.cfn_eac.specs.Arms.{IsArm, IsReached, AreArms, IsGood, HasGood, pair_at, other_of}
+use Rattle.cfn_eac.specs.Arms.{IsArm, AreArms, HasGood, pair_at}
 use Rattle.cfn_eac.proofs.Gather.{which}
 
 -- a variable stands at one place of a function
@@ -60,32 +58,6 @@ pair_of_arm P history x pair arm = record {
   place = arm.both.one.0;
   other = arm.both.other.0;
   different = arm.both.different;
-}
-
--- what has been added up, over the first n arms, is 0 only where the value costs nothing and has full supports in them
-pub record IsAsked (P : Network) (history : List Event) (x : ℕ) (pairs : List Pair) (a n sum : ℕ) : Type 0 where
-  pub free : sum ≡ 0 → unary P history x a ≡ pos 0
-  pub full : sum ≡ 0 → (k : ℕ) → k < n → HasFullSupport P history (pair_at pairs k).function (pair_at pairs k).place (pair_at pairs k).other a
-
-pub asked_start : (P : Network) (history : List Event) (x : ℕ) (pairs : List Pair) (a sum : ℕ) → pos sum ≡ unary P history x a → IsAsked P history x pairs a 0 sum
-asked_start P history x pairs a sum is = record { free = λ none. sym is ∙ ap pos none; full = λ none k h. absurd (omega (arith, h)) }
-
-pub asked_more : (P : Network) (history : List Event) (x : ℕ) (pairs : List Pair) (a n sum more new : ℕ) → IsAsked P history x pairs a n sum → (more ≡ 0 → HasFullSupport P history (pair_at pairs n).function (pair_at pairs n).place (pair_at pairs n).other a) → sum ≤ new → more ≤ new → IsAsked P history x pairs a (n + 1) new
-asked_more P history x pairs a n sum more new old here one two = record {
-  free = λ none. old.free (omega (arith, one, none));
-  full = λ none k h. elim (which k n) [
-    | inl less ↦ old.full (omega (arith, one, none)) k less
-    | inr r ↦ (elim r [
-      | inl e ↦ subst (λ i. HasFullSupport P history (pair_at pairs i).function (pair_at pairs i).place (pair_at pairs i).other a) (sym e) (here (omega (arith, two, none)))
-      | inr past ↦ absurd (omega (arith, h, past))
-    ])
-  ];
-}
-
-pub good_of_asked : (P : Network) (history : List Event) (x : ℕ) (pairs : List Pair) (a n sum : ℕ) → IsValue P x a → IsTrue (is_live history x a) → length pairs ≤ n → IsAsked P history x pairs a n sum → sum ≡ 0 → IsGood P history x pairs a
-good_of_asked P history x pairs a n sum value live all asked none = record {
-  free = record { value = value; live = live; free = asked.free none };
-  full = λ k h. asked.full none k (omega (arith, h, all));
 }
 
 -- the values that cost less than an amount have full supports in the first n arms

@@ -1,12 +1,12 @@
 -- Arms are gathered one place after another.
 use Rattle.std.proofs.Common.{◌≡◌, ◌⊎◌, ℕ, zero, suc, ◌+◌, ◌<◌, ◌≤◌, inl, inr, Bool, true, false, List, [], ◌∷◌, ◌++◌, length, length-append, refl, sym, ap, ◌∙◌, subst, arith}
 use Rattle.std.proofs.lemmas.Bool.{cases_eq}
-use Rattle.std.proofs.lemmas.List.{get_or_append_left, get_or_read, get_or-set_other, length-set}
+use Rattle.std.proofs.lemmas.List.{get_or_append_left, get_or_read, get_or-set_other, get_or-set_same, length-set}
 use Rattle.std.proofs.Math.Seq.{get_or-append_seam}
-use Rattle.std.specs.Prelude.{IsTrue, slice_set, slice_index_or, ◌==◌}
+use Rattle.std.specs.Prelude.{IsTrue, slice_set, slice_index_or}
 use Rattle.cfn_model.specs.declared.step.Event.{Event}
 use Rattle.cfn_model.specs.Network.{Network, IsNetwork, arity, variable_at}
-use Rattle.cfn_consistency.specs.Openness.{HasOpenPair, is_open, open_count, count_below}
+use Rattle.cfn_consistency.specs.Openness.{HasOpenPair, is_open, open_count}
 use Rattle.cfn_dac.specs.Opens.{AreTheOpen}
 use Rattle.cfn_dac.proofs.CallerLemmas.{some_two, some_three}
 use Rattle.cfn_incidence.specs.declared.incidence.Place.{Place}
@@ -14,7 +14,7 @@ use Rattle.cfn_incidence.specs.Places.{place_at}
 use Rattle.cfn_dac.specs.declared.pair.Pair.{Pair}
 use Rattle.cfn_incidence.specs.Places.{StandsAt, ArePlaces}
 use Rattle.cfn_eac.specs.Arms.{IsArm, IsReached, AreArms, pair_at, other_of}
-use Rattle.cfn_eac.specs.Gathering.{is_met, IsClear, AreMarks, AreGathered, HasNoArm, IsArmAt, ArePairs}
+use Rattle.cfn_eac.specs.Gathering.{is_met, AreMarks, AreMarked, AreGathered, HasNoArm, IsArmAt}
 
 pub which : (a b : ℕ) → (a < b) ⊎ (a ≡ b) ⊎ (b < a)
 which zero zero = inr (inl refl)
@@ -103,6 +103,7 @@ gathered_skip P history x places pairs n g none = record {
   few = (let few = g.few in omega (arith, few));
   each = g.each;
   from = λ k h. (let m = g.from k h in let less = m.1 in (m.0, omega (arith, less), m.2));
+  once = g.once;
   reached = λ m j h pair. elim (cases_eq m n) [
     | inl e ↦ absurd (none j (subst (λ i. HasOpenPair P history (place_at places i).function (place_at places i).place j) e pair))
     | inr d ↦ g.reached m j (omega (arith, h, d)) pair
@@ -136,6 +137,7 @@ gathered_met P history x places pairs met pair n are within marks g is seen = re
   few = (let few = g.few in omega (arith, few));
   each = g.each;
   from = λ k h. (let m = g.from k h in let less = m.1 in (m.0, omega (arith, less), m.2));
+  once = g.once;
   reached = λ m j h open_pair. elim (cases_eq m n) [
     | inl e ↦ subst (λ i. IsReached P pairs (place_at places i).function (variable_at P (place_at places i).function j)) (sym e)
         (here j (subst (λ i. HasOpenPair P history (place_at places i).function (place_at places i).place j) e open_pair))
@@ -155,9 +157,16 @@ gathered_met P history x places pairs met pair n are within marks g is seen = re
           other = arm.3 ∙ other_of_at P history (place_at places n) pair j is open_pair;
         }
 
+-- no pair has the other variable of this one
+abbrev pub IsFresh : Network → List Pair → Pair → Type 0
+IsFresh P pairs pair = (k : ℕ) → k < length pairs → other_of P (pair_at pairs k) ≡ other_of P pair → ⊥
+
+pub fresh : (P : Network) (met : List Bool) (pairs : List Pair) (pair : Pair) → AreMarked P met pairs → is_met met (other_of P pair) ≡ false → IsFresh P pairs pair
+fresh P met pairs pair marked unseen k h same = let seen = marked k h in let e = ap (is_met met) same in cc
+
 -- an arm to another variable
-pub gathered_more : (P : Network) (history : List Event) (x : ℕ) (places : List Place) (pairs : List Pair) (pair : Pair) (n : ℕ) → StandsAt P x (place_at places n) → AreGathered P history x places pairs n → IsArmAt P history (place_at places n) pair → AreGathered P history x places (pairs ++ pair ∷ []) (n + 1)
-gathered_more P history x places pairs pair n stands g is =
+pub gathered_more : (P : Network) (history : List Event) (x : ℕ) (places : List Place) (pairs : List Pair) (pair : Pair) (n : ℕ) → StandsAt P x (place_at places n) → AreGathered P history x places pairs n → IsArmAt P history (place_at places n) pair → IsFresh P pairs pair → AreGathered P history x places (pairs ++ pair ∷ []) (n + 1)
+gathered_more P history x places pairs pair n stands g is fresh =
     let long = longer pairs pair in
     record {
       few = (let few = g.few in omega (arith, few, long));
@@ -172,6 +181,20 @@ gathered_more P history x places pairs pair n stands g is =
             let m = g.from k less in let below = m.1 in
             (m.0, omega (arith, below), ap (λ p. p.function) (old_pair pairs pair k less) ∙ m.2))
       ];
+      once = λ k m h l same. elim (cases_eq k (length pairs)) [
+        | inl e ↦ (elim (cases_eq m (length pairs)) [
+          | inl d ↦ e ∙ sym d
+          | inr d ↦
+              (let less : m < length pairs = omega (arith, l, long, d) in
+              absurd (fresh m less (sym (to_old m less) ∙ sym same ∙ to_new k e)))
+        ])
+        | inr d ↦
+            (let less : k < length pairs = omega (arith, h, long, d) in
+            elim (cases_eq m (length pairs)) [
+              | inl e ↦ absurd (fresh k less (sym (to_old k less) ∙ same ∙ to_new m e))
+              | inr n ↦ (let below : m < length pairs = omega (arith, l, long, n) in g.once k m less below (sym (to_old k less) ∙ same ∙ to_old m below))
+            ])
+      ];
       reached = λ m j h open_pair. elim (cases_eq m n) [
         | inl e ↦ subst (λ i. IsReached P (pairs ++ pair ∷ []) (place_at places i).function (variable_at P (place_at places i).function j)) (sym e)
             (here j (subst (λ i. HasOpenPair P history (place_at places i).function (place_at places i).place j) e open_pair))
@@ -179,6 +202,12 @@ gathered_more P history x places pairs pair n stands g is =
       ];
     }
   where
+    to_old : (k : ℕ) → k < length pairs → other_of P (pair_at (pairs ++ pair ∷ []) k) ≡ other_of P (pair_at pairs k)
+    to_old k h = ap (other_of P) (old_pair pairs pair k h)
+
+    to_new : (k : ℕ) → k ≡ length pairs → other_of P (pair_at (pairs ++ pair ∷ []) k) ≡ other_of P pair
+    to_new k e = ap (λ i. other_of P (pair_at (pairs ++ pair ∷ []) i)) e ∙ ap (other_of P) (new_pair pairs pair)
+
     arm : IsArm P history x pair
     arm = record { both = is.both; at = ap (λ f. variable_at P f pair.place) is.function ∙ ap (variable_at P (place_at places n).function) is.place ∙ stands.is }
 
@@ -207,18 +236,37 @@ marks_more P met pairs pair y is marks =
       ];
     }
 
+-- with it all are marked
+pub marked_more : (P : Network) (met : List Bool) (pairs : List Pair) (pair : Pair) (y : ℕ) → y < length met → y ≡ other_of P pair → AreMarked P met pairs → AreMarked P (slice_set met y true) (pairs ++ pair ∷ [])
+marked_more P met pairs pair y within is marked k h =
+    let long = longer pairs pair in
+    elim (cases_eq (other_of P (pair_at (pairs ++ pair ∷ []) k)) y) [
+      | inl e ↦ ap (is_met (slice_set met y true)) e ∙ get_or-set_same met y true false within
+      | inr d ↦
+          (let less : k < length pairs = before k h long d in
+          get_or-set_other met y (other_of P (pair_at (pairs ++ pair ∷ []) k)) true false d ∙ ap (λ p. is_met met (other_of P p)) (old_pair pairs pair k less) ∙ marked k less)
+    ]
+  where
+    before : (i : ℕ) → i < length (pairs ++ pair ∷ []) → length (pairs ++ pair ∷ []) ≡ length pairs + 1 → (other_of P (pair_at (pairs ++ pair ∷ []) i) ≡ y → ⊥) → i < length pairs
+    before i h long d = elim (cases_eq i (length pairs)) [
+      | inl e ↦ absurd (d (ap (λ j. other_of P (pair_at (pairs ++ pair ∷ []) j)) e ∙ ap (other_of P) (new_pair pairs pair) ∙ sym is))
+      | inr n ↦ omega (arith, h, long, n)
+    ]
+
 -- nothing is gathered yet
 pub gathered_none : (P : Network) (history : List Event) (x : ℕ) (places : List Place) → AreGathered P history x places [] 0
 gathered_none P history x places = record {
   few = omega arith;
   each = λ k h. absurd (omega (arith, h));
   from = λ k h. absurd (omega (arith, h));
+  once = λ k m h. absurd (omega (arith, h));
   reached = λ m j h pair. absurd (omega (arith, h));
 }
 
 pub all_gathered : (P : Network) (history : List Event) (x : ℕ) (places : List Place) (pairs : List Pair) (n : ℕ) → ArePlaces P x places → length places ≤ n → AreGathered P history x places pairs n → AreArms P history x pairs
 all_gathered P history x places pairs n are h g = record {
   each = g.each;
+  once = g.once;
   all = λ f i j open_pair is.
       (let found = are.all (record { function = f; place = i }) (record { function = open_pair.active.function; place = open_pair.one.0; is = is }) in
       let within = found.1 in
@@ -227,9 +275,11 @@ all_gathered P history x places pairs n are h g = record {
 }
 
 -- a mark that is read
-pub mark_is : (P : Network) (history : List Event) (p : Place) (pair : Pair) (met : List Bool) (pairs : List Pair) (y : ℕ) (mark : Bool) → IsNetwork P → AreMarks P met pairs 0 → IsArmAt P history p pair → y ≡ other_of P pair → mark ≡ slice_index_or met y mark → mark ≡ true → is_met met (other_of P pair) ≡ true
-mark_is P history p pair met pairs y mark net marks arm is read seen =
+pub has_mark : (P : Network) (history : List Event) (p : Place) (pair : Pair) (met : List Bool) (pairs : List Pair) (y : ℕ) → IsNetwork P → AreMarks P met pairs 0 → IsArmAt P history p pair → y ≡ other_of P pair → y < length met
+has_mark P history p pair met pairs y net marks arm is =
     let there = (net.functions pair.function arm.both.active.function).variables pair.other arm.both.other.0 in
     let size = marks.size in
-    let within : y < length met = omega (arith, there, size, is) in
-    ap (is_met met) (sym is) ∙ sym (get_or_read met y mark within read false) ∙ seen
+    omega (arith, there, size, is)
+
+pub mark_is : (P : Network) (met : List Bool) (pair : Pair) (y : ℕ) (mark value : Bool) → y < length met → y ≡ other_of P pair → mark ≡ slice_index_or met y mark → mark ≡ value → is_met met (other_of P pair) ≡ value
+mark_is P met pair y mark value within is read seen = ap (is_met met) (sym is) ∙ sym (get_or_read met y mark within read false) ∙ seen

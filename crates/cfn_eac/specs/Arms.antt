@@ -25,10 +25,12 @@ pub record IsReached (P : Network) (pairs : List Pair) (f y : ℕ) : Type 0 wher
   pub first : (pair_at pairs arm).function ≤ f
   pub other : other_of P (pair_at pairs arm) ≡ y
 
--- A list has arms of x, and one to each open variable that is with x the open pair of a function, by the first such one.
+-- A list has arms of x, and one to each open variable that is with x the open pair of a function, by the first such one,
+-- and no second one to the same.
 pub record AreArms (P : Network) (history : List Event) (x : ℕ) (pairs : List Pair) : Type 0 where
   pub each : (k : ℕ) → k < length pairs → IsArm P history x (pair_at pairs k)
   pub all : (f i j : ℕ) → HasOpenPair P history f i j → variable_at P f i ≡ x → IsReached P pairs f (variable_at P f j)
+  pub once : (k m : ℕ) → k < length pairs → m < length pairs → other_of P (pair_at pairs k) ≡ other_of P (pair_at pairs m) → k ≡ m
 
 -- A network, and the pairs that were gathered.
 pub record Gathered : Type 0 where

@@ -22,11 +22,17 @@ pub record AreMarks (P : Network) (met : List Bool) (pairs : List Pair) (start :
   pub size : length met ≡ length P.sizes
   pub each : (y : ℕ) → is_met met y ≡ true → (k : ℕ) × (start ≤ k) × (k < length pairs) × (other_of P (pair_at pairs k) ≡ y)
 
--- The first n places of x have given these arms: each is of one of those places, and each open pair there is reached.
+-- The variables at the other ends of all pairs are marked.
+abbrev pub AreMarked : Network → List Bool → List Pair → Type 0
+AreMarked P met pairs = (k : ℕ) → k < length pairs → is_met met (other_of P (pair_at pairs k)) ≡ true
+
+-- The first n places of x have given these arms: each is of one of those places, each open pair there is reached, and no two
+-- are to the same variable.
 pub record AreGathered (P : Network) (history : List Event) (x : ℕ) (places : List Place) (pairs : List Pair) (n : ℕ) : Type 0 where
   pub few : length pairs ≤ n
   pub each : (k : ℕ) → k < length pairs → IsArm P history x (pair_at pairs k)
   pub from : (k : ℕ) → k < length pairs → (m : ℕ) × (m < n) × ((pair_at pairs k).function ≡ (place_at places m).function)
+  pub once : (k m : ℕ) → k < length pairs → m < length pairs → other_of P (pair_at pairs k) ≡ other_of P (pair_at pairs m) → k ≡ m
   pub reached : (m j : ℕ) → m < n → HasOpenPair P history (place_at places m).function (place_at places m).place j → IsReached P pairs (place_at places m).function (variable_at P (place_at places m).function j)
 
 -- A place's function has no open pair with it; or the pair is it.

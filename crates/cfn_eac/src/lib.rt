@@ -2,11 +2,16 @@
 //! arc consistency in weighted CSPs, 2005; Cooper et al., Soft arc consistency revisited, 2010).
 //!
 //! - `arms.rt`: the functions between a variable and each other open variable;
-//! - `raising.rt`: one variable made existential.
+//! - `asking.rt`: what a value asks of them;
+//! - `raising.rt`: one variable made existential;
+//! - `choosing.rt`: the value that asks least.
 #![tactic(auto)]
 
 mod arms;
+mod asking;
+mod choosing;
 mod raising;
 
 pub use arms::Arms;
+pub use choosing::cheapest;
 pub use raising::existential;

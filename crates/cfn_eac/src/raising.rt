@@ -1,19 +1,18 @@
 //! One variable made existential.
 //!
-//! What a live value asks is its unary cost and, for each arm, what the least live tuple with it costs together with the
-//! unary cost of its other value. A value that asks nothing is what is looked for. Where each asks something, the least that
-//! is asked can be lifted: each arm moves to the values what they lack of it, as far as the arm has it, and the lift follows.
+//! A value that asks nothing (`asking.rt`) is what is looked for. Where each asks something, the least that is asked can be
+//! lifted: each arm moves to the values what they lack of it, as far as the arm has it, and the lift follows.
 
-ghost use Rattle.std.specs.Prelude.{◌≡◌, ℕ, ◌+◌, ◌<◌, ◌≤◌, length, slice_index, MatchOption, IsTrue};
-ghost use Rattle.cfn_model.specs.Sums.{floor, is_live};
-ghost use Rattle.cfn_model.specs.Steps.{IsValue};
+ghost use Rattle.std.specs.Prelude.{◌≡◌, ℕ, ◌+◌, ◌<◌, ◌≤◌, length, slice_index, MatchOption};
+ghost use Rattle.cfn_model.specs.Sums.{floor};
 ghost use Rattle.cfn_consistency.specs.Consistency.{IsExistential};
 ghost use Rattle.cfn_store.specs.Standing.{history};
 ghost use Rattle.cfn_gain.specs.Calls.{GoesOn, Does, Shows};
-ghost use Rattle.cfn_eac.specs.Arms.{AreArms, AreOfFunctions, HasGood, IsGood};
+ghost use Rattle.cfn_eac.specs.Arms.{AreArms, AreOfFunctions, HasGood};
 
 use crate::arms::Arms;
-use cfn_dac::{Pair, full_supports, least_total};
+use crate::asking::asked;
+use cfn_dac::{Pair, full_supports};
 use cfn_gain::{Halt, Limits, lacking, level};
 use cfn_incidence::Incidence;
 use cfn_store::Store;
@@ -84,29 +83,11 @@ fn ask(pairs: &[Pair], store: &Store<'_>, limits: Limits, x: u32) -> Option<u64>
 {
     let mut least = lacking(store, limits);
     for value in store.live(x) {
-        let asked = asked(pairs, store, x, *value, least);
+        let asked = asked(pairs, store, x, *value, least - 1);
         if asked == 0 {
             return None;
         }
         least = least.min(asked);
     }
     Some(least)
-}
-
-/// What a live value asks, or `most`, at least 1, where that is no more. 0 only where it asks nothing.
-fn asked(pairs: &[Pair], store: &Store<'_>, x: u32, value: u32, most: u64) -> u64
-    requires value { IsValue store.now.network x value }
-    requires live { IsTrue (is_live (history store.now) x value) }
-    requires arms { AreArms store.now.network (history store.now) x pairs.now }
-    requires most { 0 < most }
-    ensures { result ≡ 0 → IsGood store.now.network (history store.now) x pairs.now value }
-{
-    let mut sum = store.unary(x, value);
-    for pair in pairs {
-        if sum >= most {
-            return most;
-        }
-        sum = sum.saturating_add(least_total(store, *pair, value));
-    }
-    sum
 }

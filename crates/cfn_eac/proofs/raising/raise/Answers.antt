@@ -1,4 +1,4 @@
-use Rattle.std.proofs.Common.{◌≤◌, length, ◌∙◌, arith}
+use Rattle.std.proofs.Common.{◌∙◌, arith}
 use Rattle.cfn_gain.proofs.CallerLemmas.{halts_after, does_after}
 use Rattle.cfn_eac.proofs.Existing.{full_more, good_after}
 use Rattle.cfn_eac.proofs.raising.raise.Goals as goal

@@ -1,7 +1,7 @@
 use Rattle.std.proofs.Common.{◌≡◌, ◌≤◌, length}
 use Rattle.std.specs.Prelude.{vec_capacity}
 use Rattle.cfn_store.specs.Standing.{history}
-use Rattle.cfn_eac.specs.Gathering.{AreGathered, AreMarks}
+use Rattle.cfn_eac.specs.Gathering.{AreGathered, AreMarks, AreMarked}
 use Rattle.cfn_eac.proofs.arms.Arms.gather.Given as goal
 
 abbrev pub invariant-loop-place : goal.invariant-loop-place
@@ -10,4 +10,5 @@ invariant-loop-place l = record {
   room : length l.network.functions ≤ vec_capacity l.self-inside.pairs;
   gathered : AreGathered l.network (history l.store) l.x l.place-items l.self-inside.pairs.items l.place-index;
   marks : AreMarks l.network l.self-inside.met.items l.self-inside.pairs.items 0;
+  marked : AreMarked l.network l.self-inside.met.items l.self-inside.pairs.items;
 }
