@@ -1,5 +1,6 @@
 -- What a call of the enforcer answers.
-use Rattle.std.specs.Prelude.{◌≤◌, length}
+use Rattle.std.specs.Prelude.{◌≡◌, ℕ, ◌≤◌, List, ◌∷◌, length}
+use Rattle.cfn_model.specs.declared.step.Event.{Event}
 use Rattle.cfn_consistency.specs.Consistency.{IsDead, AreFullyConsistent}
 use Rattle.cfn_nc.specs.declared.settling.Settling.{Settling}
 use Rattle.cfn_nc.specs.declared.settling.Settling.TheVariants.{Settled, Dead, Spent}
@@ -11,3 +12,10 @@ abbrev pub Answers : Standing → Limits → Settling → Type 0
 Answers s limits Settled = AreFullyConsistent s.network (history s) limits.threshold
 Answers s limits Dead = IsDead s.network (history s) limits.threshold
 Answers s limits Spent = limits.steps ≤ length s.block
+
+-- A store stands one event behind a place where it was fully consistent at some threshold.
+pub record IsBehindSettled (s : Standing) (event : Event) : Type 0 where
+  pub before : List Event
+  pub threshold : ℕ
+  pub path : history s ≡ event ∷ before
+  pub settled : AreFullyConsistent s.network before threshold

@@ -26,7 +26,7 @@ fn what_all_tuples_cost_is_lifted(rt: HostRuntime) -> Result<(), Fail> {
         steps: 100,
     };
     if network.ub() == 10 {
-        let answer = enforcer.settle(&mut store, &incidence, limits);
+        let answer = enforcer.settle(&mut store, &incidence, limits, None);
         assert!(rt; answer == Settling::Settled);
     }
     Ok(())

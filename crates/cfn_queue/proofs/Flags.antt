@@ -14,7 +14,7 @@ or_none true = refl
 or_none false = refl
 
 -- a number in a list with one more behind it
-in_behind : (x y : ℕ) (items : List ℕ) → is_in x (items ++ y ∷ []) ≡ (is_in x items || (x == y))
+pub in_behind : (x y : ℕ) (items : List ℕ) → is_in x (items ++ y ∷ []) ≡ (is_in x items || (x == y))
 in_behind x y [] = or_none (x == y)
 in_behind x y (z ∷ items) = ap (λ b. (x == z) || b) (in_behind x y items) ∙ or_assoc (x == z) (is_in x items) (x == y)
 

@@ -1,2 +1,3 @@
-mod Flags
+pub mod Flags
 mod Rows
+pub mod CallerLemmas

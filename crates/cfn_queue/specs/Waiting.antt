@@ -9,6 +9,10 @@ pub record Waiting : Type 0 where
 abbrev pub new_queue : ℕ → Waiting
 new_queue size = record { size = size; items = [] }
 
+-- A number is the first of a list.
+abbrev pub IsFirst : List ℕ → ℕ → Type 0
+IsFirst items x = (rest : List ℕ) × (items ≡ x ∷ rest)
+
 -- Whether a number is in a list.
 abbrev pub is_in : ℕ → List ℕ → Bool
 is_in x [] = false

@@ -1,7 +1,7 @@
 //! Numbers that wait.
 
-ghost use Rattle.std.specs.Prelude.{◌≡◌, ◌<◌, [], ◌∷◌, IfOk, MatchOption};
-ghost use Rattle.cfn_queue.specs.Waiting.{new_queue, with_item, NoRepeats, AreBelow};
+ghost use Rattle.std.specs.Prelude.{◌≡◌, ◌<◌, [], ◌∷◌, IfOk, IfSome, MatchOption};
+ghost use Rattle.cfn_queue.specs.Waiting.{new_queue, with_item, IsFirst, NoRepeats, AreBelow};
 
 use std::alloc::{AllocError, Global};
 use std::collections::VecDeque;
@@ -43,6 +43,15 @@ impl Queue {
         ensures once { NoRepeats self.now.items }
     {
         let _ = &self.waits;
+    }
+
+    /// The number that has waited longest. There is none exactly where nothing waits.
+    pub fn first(&self) -> Option<u32>
+        ensures first { MatchOption result (self.now.items ≡ []) (IsFirst self.now.items) }
+        ensures below { IfSome result (λ number. number < self.now.size) }
+    {
+        self.kept();
+        self.items.front().copied()
     }
 
     /// Puts a number behind those that wait. Where it waits already all stays as it was.

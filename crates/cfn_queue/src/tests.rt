@@ -9,6 +9,7 @@ fn first_in_first_out_and_once(rt: HostRuntime) -> Result<(), Fail> {
     queue.put(0);
     queue.put(2);
     queue.put(1);
+    assert_eq!(rt; queue.first(), Some(2));
     assert_eq!(rt; queue.take(), Some(2));
     queue.put(2);
     assert_eq!(rt; queue.take(), Some(0));

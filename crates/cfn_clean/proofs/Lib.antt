@@ -1,4 +1,0 @@
-pub mod Agreeing
-pub mod Setting
-pub mod Noting
-pub mod CallerLemmas

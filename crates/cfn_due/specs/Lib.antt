@@ -1,0 +1,4 @@
+pub mod Dues
+pub mod Going
+pub mod Remembered
+pub mod Laws

@@ -1,5 +1,0 @@
-use Rattle.cfn_edac.proofs.Passing.{PassingTo, LevelAt}
-use Rattle.cfn_edac.proofs.passes.levels.Given as goal
-
-abbrev pub invariant-loop-x : goal.invariant-loop-x
-invariant-loop-x l = PassingTo (LevelAt l.limits.threshold) l.initial.store l.store l.limits l.x

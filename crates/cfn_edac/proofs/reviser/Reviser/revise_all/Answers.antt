@@ -1,0 +1,39 @@
+use Rattle.std.proofs.Common.{◌∙◌, arith}
+use Rattle.cfn_gain.proofs.CallerLemmas.{halts_after}
+use Rattle.cfn_edac.proofs.Passing.{pass_on}
+use Rattle.cfn_edac.proofs.Settling.{settled_here}
+use Rattle.cfn_edac.proofs.reviser.Reviser.revise_all.Goals as goal
+
+pub returns-in_err-revise_until_step-clause-does : goal.returns-in_err-revise_until_step-clause-does
+returns-in_err-revise_until_step-clause-does c =
+    halts_after c.args.store.now c.loop-store.store c.revise_until_step.new.store c.args.limits _ c.in_err-revise_until_step.field-0.0 c.from_residual.result c.loop-store.invariant.passing
+    c.in_err-revise_until_step.ensures.does c.from_residual.ensures.1
+
+pub returns-in_err-level_all-clause-does : goal.returns-in_err-level_all-clause-does
+returns-in_err-level_all-clause-does c =
+    halts_after c.args.store.now c.revise_until_step.new.store c.level_all.new.store c.args.limits _ c.in_err-level_all.field-0.0 c.from_residual-in_err-level_all.result (pass_on c.args.store.now c.loop-store.store c.revise_until_step.new.store c.args.limits c.loop-store.invariant.passing c.in_ok-revise_until_step.ensures.does)
+    c.in_err-level_all.ensures.does c.from_residual-in_err-level_all.ensures.1
+
+pub returns-then-block_len-before-2-clause-settled : goal.returns-then-block_len-before-2-clause-settled
+returns-then-block_len-before-2-clause-settled c =
+    let ensures = c.in_ok-level_all.ensures in
+    settled_here c.loop-store.store c.revise_until_step.new.store c.level_all.new.store c.args.limits c.revise_until_step.new.self.due c.level_all.new.self.due
+    (omega (arith, c.block_len-before.ensures, c.block_len.ensures, c.if-block_len-before.true))
+    (omega (arith, c.block_len-before.ensures, c.block_len.ensures, c.if-block_len-before.true, c.block_len-then-block_len-before.ensures, c.if-block_len-before-2.true))
+    c.in_ok-revise_until_step.ensures.run ensures.does.adds ensures.holds ensures.nodes ensures.still
+
+pub loop-store-preserved-else-block_len-before-2 : goal.loop-store-preserved-else-block_len-before-2
+loop-store-preserved-else-block_len-before-2 c =
+    let ensures = c.in_ok-level_all.ensures in
+    record {
+      passing = pass_on c.args.store.now c.revise_until_step.new.store c.level_all.new.store c.args.limits (pass_on c.args.store.now c.loop-store.store c.revise_until_step.new.store c.args.limits c.loop-store.invariant.passing c.in_ok-revise_until_step.ensures.does) ensures.does;
+      network = ensures.network ∙ c.in_ok-revise_until_step.ensures.network ∙ c.loop-store.invariant.network;
+      holds = ensures.holds;
+    }
+
+pub loop-store-preserved : goal.loop-store-preserved
+loop-store-preserved c = record {
+  passing = pass_on c.args.store.now c.loop-store.store c.revise_until_step.new.store c.args.limits c.loop-store.invariant.passing c.in_ok-revise_until_step.ensures.does;
+  network = c.in_ok-revise_until_step.ensures.network ∙ c.loop-store.invariant.network;
+  holds = c.in_ok-revise_until_step.ensures.run.holds;
+}

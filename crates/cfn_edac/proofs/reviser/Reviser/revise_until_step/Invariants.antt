@@ -1,0 +1,14 @@
+use Rattle.std.proofs.Common.{◌≡◌}
+use Rattle.cfn_due.specs.Dues.{waiting}
+use Rattle.cfn_edac.specs.Revising.{HoldsIn}
+use Rattle.cfn_edac.proofs.reviser.Reviser.revise_until_step.Given as goal
+
+abbrev pub invariant-loop-limits : goal.invariant-loop-limits
+invariant-loop-limits l = record {
+  store : l.store ≡ l.initial.store;
+  network : l.self.network ≡ l.initial.self.network;
+  holds : HoldsIn l.store l.self.due;
+}
+
+abbrev pub decreases-loop-limits : goal.decreases-loop-limits
+decreases-loop-limits l = waiting l.self.due

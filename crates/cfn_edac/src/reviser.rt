@@ -1,0 +1,314 @@
+//! What is due is looked at, the longest waiting first: a function for arc consistency, else a variable for existential arc
+//! consistency, else a function for directional arc consistency. Where that made no step it is consistent, and waits no
+//! longer; where it made steps these are noted, and it is looked at again. Where nothing waits all variables are looked at for
+//! node consistency.
+//!
+//! Invariant: what does not wait is consistent in the store as it stands.
+
+ghost use Rattle.std.specs.Prelude.{◌≡◌, ◌<◌, ◌≤◌, ◌+◌, length, IfOk, IfSome, OnOk};
+ghost use Rattle.cfn_queue.specs.Waiting.{IsFirst};
+ghost use Rattle.cfn_consistency.specs.Consistency.{IsNodeConsistent, AreFullyConsistent};
+ghost use Rattle.cfn_live.specs.Sets.{live_count};
+ghost use Rattle.cfn_store.specs.Rooms.{sets_of};
+ghost use Rattle.cfn_store.specs.Standing.{history};
+ghost use Rattle.cfn_eac.specs.Asking.{IsCheapest};
+ghost use Rattle.cfn_due.specs.Dues.{waiting};
+ghost use Rattle.cfn_gain.specs.Calls.{GoesOn, Does, Shows};
+ghost use Rattle.cfn_edac.specs.Revising.{HoldsIn, IsRevised, IsRunOut};
+ghost use Rattle.cfn_edac.specs.Settling.{IsBehindSettled};
+
+use crate::looks::{arc, direct, levels};
+use cfn_due::Due;
+use cfn_eac::{Arms, cheapest, existential};
+use cfn_gain::{Halt, Limits};
+use cfn_incidence::Incidence;
+use cfn_model::{Event, MOST_VALUES};
+use cfn_net::Network;
+use cfn_store::Store;
+use std::alloc::{AllocError, Global};
+use std::marker::Model;
+
+/// What is due in stores of a network, and the room that it takes to look at it. Contracts see the network and what is due.
+#[derive(Drop)]
+pub(crate) struct Reviser<'n> {
+    network: &'n Network,
+    due: Due,
+    /// Room for an amount for each value of a variable.
+    moves: Vec<u64>,
+    /// Room for the arms of a variable.
+    arms: Arms<'n>,
+    /// The function that was looked at last, where it was one.
+    blamed: Option<u32>,
+}
+
+impl<'n> Model for Reviser<'n> {
+    ghost use Rattle.std.specs.Prelude.{◌≡◌, length};
+    ghost use Rattle.cfn_model.specs.declared.limits.TheConstants.{MOST_VALUES as most_values};
+    ghost use Rattle.cfn_due.specs.Dues.{HasSizes};
+    ghost use Rattle.cfn_edac.specs.Revising.{Revising, IsBlame};
+
+    ghost Value = { Revising };
+
+    ghost view = { λ s. record { network = s.network.now; due = s.due } };
+
+    ghost invariant = { λ s. (s.arms.network ≡ s.network.now) × (length s.moves.items ≡ most_values) × IsBlame s.network.now s.blamed × HasSizes s.network.now s.due };
+}
+
+impl<'n> Reviser<'n> {
+    /// For stores of this network. An `Err` is want of memory; no other call takes any.
+    pub fn make(alloc: Global, network: &'n Network) -> Result<Reviser<'n>, AllocError>
+        ensures { IfOk result (λ reviser. reviser.network ≡ network.now) }
+    {
+        Ok(Reviser {
+            network,
+            due: Due::make(alloc, network)?,
+            moves: vec![in alloc; 0; MOST_VALUES as usize]?,
+            arms: Arms::make(alloc, network)?,
+            blamed: None,
+        })
+    }
+
+    /// The function that was looked at when a call halted, where it was at one.
+    pub fn blamed(&self) -> Option<u32>
+        ensures { IfSome result (λ f. f < length self.now.network.functions) }
+    {
+        self.blamed
+    }
+
+    /// No function is blamed.
+    pub fn forget(&mut self)
+        ensures { self.new ≡ self.old }
+    {
+        self.blamed = None;
+    }
+
+    /// Of the live values of a variable that has some, the one that asks least of its arms, and of those the least.
+    pub fn cheapest(&mut self, store: &Store<'_>, incidence: &Incidence, x: u32) -> u32
+        requires network { store.now.network ≡ self.old.network }
+        requires incidence { incidence.now ≡ self.old.network }
+        requires variable { x < length self.old.network.sizes }
+        requires some { 1 ≤ live_count (sets_of store.now) x }
+        ensures cheapest { IsCheapest store.now.network (history store.now) x result }
+        ensures same { self.new ≡ self.old }
+    {
+        cheapest(&mut self.arms, store, incidence, x)
+    }
+
+    /// What is due in a store that stands one event behind a place where it was fully consistent; with no such event, all.
+    pub fn begin(&mut self, store: &Store<'_>, incidence: &Incidence, since: Option<Event>)
+        requires network { store.now.network ≡ self.old.network }
+        requires incidence { incidence.now ≡ self.old.network }
+        requires since { IfSome since (IsBehindSettled store.now) }
+        ensures network { self.new.network ≡ self.old.network }
+        ensures holds { HoldsIn store.now self.new.due }
+    {
+        store.exact();
+        match since {
+            Some(event) => {
+                self.due.clear();
+                self.due.note(self.network, incidence, &event);
+            }
+            None => self.due.put_all(self.network),
+        }
+    }
+
+    /// Looks at what is due until nothing is and all variables are level.
+    pub fn revise_all(
+        &mut self,
+        store: &mut Store<'_>,
+        incidence: &Incidence,
+        limits: Limits,
+    ) -> Result<(), Halt>
+        requires network { store.old.network ≡ self.old.network }
+        requires incidence { incidence.now ≡ self.old.network }
+        requires goes { GoesOn store.old limits }
+        requires holds { HoldsIn store.old self.old.due }
+        ensures does { Does store.old store.new limits result }
+        ensures settled { OnOk result (AreFullyConsistent store.new.network (history store.new) limits.threshold) }
+        ensures network { self.new.network ≡ self.old.network }
+    {
+        loop {
+            let before = store.block_len();
+            self.revise_until_step(store, incidence, limits)?;
+            if store.block_len() == before {
+                self.level_all(store, incidence, limits)?;
+                if store.block_len() == before {
+                    return Ok(());
+                }
+            }
+        }
+    }
+
+    /// Looks at what is due until that makes a step, or nothing is.
+    fn revise_until_step(
+        &mut self,
+        store: &mut Store<'_>,
+        incidence: &Incidence,
+        limits: Limits,
+    ) -> Result<(), Halt>
+        requires network { store.old.network ≡ self.old.network }
+        requires incidence { incidence.now ≡ self.old.network }
+        requires goes { GoesOn store.old limits }
+        requires holds { HoldsIn store.old self.old.due }
+        ensures does { Does store.old store.new limits result }
+        ensures run { OnOk result (IsRunOut store.old store.new self.new.due) }
+        ensures network { self.new.network ≡ self.old.network }
+    {
+        let before = store.block_len();
+        loop {
+            if self.due.is_empty() {
+                return Ok(());
+            }
+            self.revise_next(store, incidence, limits)?;
+            if store.block_len() > before {
+                return Ok(());
+            }
+        }
+    }
+
+    /// Looks at what is due next.
+    fn revise_next(
+        &mut self,
+        store: &mut Store<'_>,
+        incidence: &Incidence,
+        limits: Limits,
+    ) -> Result<(), Halt>
+        requires network { store.old.network ≡ self.old.network }
+        requires incidence { incidence.now ≡ self.old.network }
+        requires goes { GoesOn store.old limits }
+        requires holds { HoldsIn store.old self.old.due }
+        requires some { 0 < waiting self.old.due }
+        ensures does { Does store.old store.new limits result }
+        ensures revised { OnOk result (IsRevised store.old store.new self.old.due self.new.due) }
+        ensures network { self.new.network ≡ self.old.network }
+    {
+        if let Some(f) = self.due.first_arc() {
+            return self.revise_arc(store, incidence, limits, f);
+        }
+        if let Some(x) = self.due.first_existing() {
+            return self.revise_existing(store, incidence, limits, x);
+        }
+        match self.due.first_directed() {
+            Some(f) => self.revise_directed(store, incidence, limits, f),
+            None => unreachable!(),
+        }
+    }
+
+    /// Looks at the function that has waited longest for arc consistency.
+    fn revise_arc(
+        &mut self,
+        store: &mut Store<'_>,
+        incidence: &Incidence,
+        limits: Limits,
+        f: u32,
+    ) -> Result<(), Halt>
+        requires network { store.old.network ≡ self.old.network }
+        requires incidence { incidence.now ≡ self.old.network }
+        requires goes { GoesOn store.old limits }
+        requires holds { HoldsIn store.old self.old.due }
+        requires function { f < self.old.due.arcs.size }
+        requires first { IsFirst self.old.due.arcs.items f }
+        ensures does { Does store.old store.new limits result }
+        ensures revised { OnOk result (IsRevised store.old store.new self.old.due self.new.due) }
+        ensures network { self.new.network ≡ self.old.network }
+    {
+        let before = store.block_len();
+        self.blamed = Some(f);
+        arc(store, limits, f)?;
+        if store.block_len() > before {
+            self.due.note_steps(incidence, store, before);
+        } else {
+            self.due.done_arc();
+        }
+        Ok(())
+    }
+
+    /// Looks at the variable that has waited longest. Where that halts, its last arm is blamed.
+    fn revise_existing(
+        &mut self,
+        store: &mut Store<'_>,
+        incidence: &Incidence,
+        limits: Limits,
+        x: u32,
+    ) -> Result<(), Halt>
+        requires network { store.old.network ≡ self.old.network }
+        requires incidence { incidence.now ≡ self.old.network }
+        requires goes { GoesOn store.old limits }
+        requires holds { HoldsIn store.old self.old.due }
+        requires variable { x < self.old.due.existing.size }
+        requires first { IsFirst self.old.due.existing.items x }
+        ensures does { Does store.old store.new limits result }
+        ensures revised { OnOk result (IsRevised store.old store.new self.old.due self.new.due) }
+        ensures network { self.new.network ≡ self.old.network }
+    {
+        self.network.limits();
+        let before = store.block_len();
+        let result = existential(&mut self.arms, store, incidence, limits, x, &mut self.moves);
+        if result.is_err() {
+            self.blamed = self.arms.last_function();
+            return result;
+        }
+        if store.block_len() > before {
+            self.due.note_steps(incidence, store, before);
+        } else {
+            self.due.done_existing();
+        }
+        Ok(())
+    }
+
+    /// Looks at the function that has waited longest for directional arc consistency.
+    fn revise_directed(
+        &mut self,
+        store: &mut Store<'_>,
+        incidence: &Incidence,
+        limits: Limits,
+        f: u32,
+    ) -> Result<(), Halt>
+        requires network { store.old.network ≡ self.old.network }
+        requires incidence { incidence.now ≡ self.old.network }
+        requires goes { GoesOn store.old limits }
+        requires holds { HoldsIn store.old self.old.due }
+        requires function { f < self.old.due.directed.size }
+        requires first { IsFirst self.old.due.directed.items f }
+        ensures does { Does store.old store.new limits result }
+        ensures revised { OnOk result (IsRevised store.old store.new self.old.due self.new.due) }
+        ensures network { self.new.network ≡ self.old.network }
+    {
+        self.network.limits();
+        let before = store.block_len();
+        self.blamed = Some(f);
+        direct(store, limits, f, &mut self.moves)?;
+        if store.block_len() > before {
+            self.due.note_steps(incidence, store, before);
+        } else {
+            self.due.done_directed();
+        }
+        Ok(())
+    }
+
+    /// Looks at each variable for node consistency.
+    fn level_all(
+        &mut self,
+        store: &mut Store<'_>,
+        incidence: &Incidence,
+        limits: Limits,
+    ) -> Result<(), Halt>
+        requires network { store.old.network ≡ self.old.network }
+        requires incidence { incidence.now ≡ self.old.network }
+        requires goes { GoesOn store.old limits }
+        requires holds { HoldsIn store.old self.old.due }
+        ensures does { Does store.old store.new limits result }
+        ensures holds { OnOk result (HoldsIn store.new self.new.due) }
+        ensures nodes { Shows store.old store.new result (IsNodeConsistent store.old.network (history store.old) limits.threshold) }
+        ensures still { Shows store.old store.new result (self.new.due ≡ self.old.due) }
+        ensures network { self.new.network ≡ self.old.network }
+    {
+        let before = store.block_len();
+        self.blamed = None;
+        levels(store, limits)?;
+        if store.block_len() > before {
+            self.due.note_steps(incidence, store, before);
+        }
+        Ok(())
+    }
+}
