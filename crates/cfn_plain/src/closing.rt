@@ -13,7 +13,7 @@ use cfn_net::Network;
 
 /// Whether a leaf may be closed after a history, the newest event first: the floor reaches the threshold `k`, or a
 /// variable has no live value.
-pub(crate) fn can_close(network: &Network, history: &[Event], k: u64) -> bool
+pub fn can_close(network: &Network, history: &[Event], k: u64) -> bool
     ensures { IsTrue result ↔ CanClose network.now history.now k }
 {
     k as u128 <= floor(network, history) || is_wiped(network, history)

@@ -12,6 +12,8 @@
 //! - `steps`: which steps are allowed, and whether a list of steps runs; `tuples` has what a step asks of every tuple.
 //! - `trees`: whether a tree is valid or strict, and its bound; `closing` has when a leaf may be closed.
 //! - `certificates`: whether a certificate is good.
+//! - `openness`: which variables are open, and which functions take part in making a network consistent; `supports`:
+//!   which values have supports, by a search through all tuples.
 //! - `functions`: what a network says of a function that may not be there.
 #![tactic(auto)]
 
@@ -21,17 +23,22 @@ mod costs;
 mod decisions;
 mod functions;
 mod live;
+mod openness;
 mod steps;
 mod sums;
+mod supports;
 mod trees;
 mod tuples;
 
 pub use certificates::good;
+pub use closing::can_close;
 pub use costs::{cost, least, total};
 pub use decisions::keeps;
 pub use live::{is_live, is_live_tuple};
+pub use openness::{has_open_pair, is_open, live_count, open_count, takes_part};
 pub use steps::{allowed, runs};
 pub use sums::{floor, residual, unary};
+pub use supports::{Ask, Sought, has_full_support, has_support, has_tuple};
 pub use trees::{bound, strict, valid};
 
 #[cfg(test)]

@@ -8,8 +8,35 @@ use std::alloc::{AllocError, Global};
 /// The greatest cost of a file.
 pub const MOST: u64 = 9223372036854775807;
 
-/// At most so many assignments has a drawn network.
+/// At most so many assignments has a network that `draw` draws.
 const ASSIGNMENTS: u64 = 64;
+
+/// What networks are drawn: at most how many variables, values of each, assignments, functions, variables and listings of
+/// each, and whether a cost may be a great one whatever the upper bound.
+#[derive(Clone, Copy)]
+pub struct Shape {
+    pub variables: u64,
+    pub values: u64,
+    pub assignments: u64,
+    pub functions: u64,
+    pub arity: u64,
+    pub listings: u64,
+    pub dear: bool,
+}
+
+/// What `draw` draws.
+const SMALL: Shape = Shape {
+    variables: 4,
+    values: 4,
+    assignments: ASSIGNMENTS,
+    functions: 5,
+    arity: 3,
+    listings: 6,
+    dear: false,
+};
+
+/// The greatest of the great costs: 2^61.
+pub const DEAR: u64 = 2305843009213693952;
 
 /// Numbers that follow each other by a linear congruential step.
 #[derive(Drop)]
@@ -32,8 +59,21 @@ impl Dice {
         self.below(most).saturating_add(1)
     }
 
+    /// A cost of these networks.
+    fn cost(&mut self, shape: Shape, upper: u64) -> u64 {
+        if !shape.dear {
+            return self.cost_by(upper);
+        }
+        match self.below(8) {
+            0 => DEAR,
+            1 => self.below(DEAR >> 30).saturating_mul(1 << 30),
+            2 => self.below(upper.saturating_add(1)),
+            _ => self.cost_by(upper),
+        }
+    }
+
     /// A cost, mostly a small one, and at times one by the upper bound or above it.
-    fn cost(&mut self, upper: u64) -> u64 {
+    fn cost_by(&mut self, upper: u64) -> u64 {
         match self.below(24) {
             0 => upper,
             1 => upper.saturating_add(1).min(MOST),
@@ -44,51 +84,67 @@ impl Dice {
     }
 }
 
-/// The words of a network with this upper bound: 1 to 4 variables with 1 to 4 values, and 1 to 5 functions.
+/// The words of a network with this upper bound: 1 to 4 variables with 1 to 4 values, and 1 to 5 functions of up to 3.
 pub fn draw(alloc: Global, dice: &mut Dice, upper: u64) -> Result<Vec<u64>, AllocError> {
-    let variables = dice.up_to(4);
-    let functions = dice.up_to(5);
-    let mut room = ASSIGNMENTS;
+    draw_shaped(alloc, dice, SMALL, upper)
+}
+
+/// The words of a network of a shape with this upper bound.
+pub fn draw_shaped(
+    alloc: Global,
+    dice: &mut Dice,
+    shape: Shape,
+    upper: u64,
+) -> Result<Vec<u64>, AllocError> {
+    let variables = dice.up_to(shape.variables);
+    let functions = dice.up_to(shape.functions);
+    let mut room = shape.assignments;
     let mut sizes = Vec::new(alloc);
     for _ in 0..variables {
-        let size = dice.up_to(room.min(4));
+        let size = dice.up_to(room.min(shape.values));
         room = room.checked_div(size).unwrap_or(0);
         sizes.push(size)?;
     }
-    let mut words = Vec::from_slice(alloc, &[variables, 4, functions, upper])?;
+    let mut words = Vec::from_slice(alloc, &[variables, shape.values, functions, upper])?;
     words.extend_from_slice(&sizes)?;
     for _ in 0..functions {
-        draw_function(alloc, dice, upper, &sizes, &mut words)?;
+        draw_function(alloc, dice, shape, upper, &sizes, &mut words)?;
     }
     Ok(words)
 }
 
-/// Draws the words of a function, with up to 6 listings, of which several may be of one tuple.
+/// Draws the words of a function. Several listings may be of one tuple.
 fn draw_function(
     alloc: Global,
     dice: &mut Dice,
+    shape: Shape,
     upper: u64,
     sizes: &[u64],
     words: &mut Vec<u64>,
 ) -> Result<(), AllocError> {
-    let scope = draw_scope(alloc, dice, sizes.len() as u64)?;
+    let scope = draw_scope(alloc, dice, shape.arity, sizes.len() as u64)?;
     words.push(scope.len() as u64)?;
     words.extend_from_slice(&scope)?;
-    words.push(dice.cost(upper))?;
-    let listings = dice.below(7);
+    words.push(dice.cost(shape, upper))?;
+    let listings = dice.below(shape.listings.saturating_add(1));
     words.push(listings)?;
     for _ in 0..listings {
         for variable in &scope {
             words.push(dice.below(at(sizes, *variable)))?;
         }
-        words.push(dice.cost(upper))?;
+        words.push(dice.cost(shape, upper))?;
     }
     Ok(())
 }
 
-/// Draws up to 3 different variables, in an order that rises or falls from any one of them on, and round the end.
-fn draw_scope(alloc: Global, dice: &mut Dice, variables: u64) -> Result<Vec<u64>, AllocError> {
-    let most = dice.below(8).min(3);
+/// Draws so many different variables at most, in an order that rises or falls from any one of them on, and round the end.
+fn draw_scope(
+    alloc: Global,
+    dice: &mut Dice,
+    arity: u64,
+    variables: u64,
+) -> Result<Vec<u64>, AllocError> {
+    let most = dice.below(8).min(arity);
     let rises = dice.below(2) == 0;
     let mut variable = dice.below(variables);
     let mut scope = Vec::new(alloc);
