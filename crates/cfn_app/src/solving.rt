@@ -11,8 +11,8 @@ use crate::loading::{load_bytes, read_bytes};
 use crate::output::put_out;
 use crate::status::{Status, ending};
 use cfn_cli::SolveArguments;
-use cfn_depth::solve;
 use cfn_desk::Desk;
+use cfn_hybrid::solve;
 use cfn_net::Network;
 use std::alloc::{AllocError, Global};
 

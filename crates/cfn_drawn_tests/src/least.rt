@@ -1,9 +1,9 @@
 //! Searches of small networks, judged by the plain program, by costs that are known from elsewhere, and by `check`.
 
 use crate::judging::Verdict;
-use cfn_depth::solve;
+use cfn_hybrid::solve;
 use cfn_net::Network;
-use cfn_proof::{Outcome, Stop};
+use cfn_proof::{Outcome, Row, Stop};
 use cfn_testing::drawing::{Dice, MOST, draw, file_of, least_of};
 use cfn_testing::running::{certificate_of, check_answers};
 use std::alloc::{AllocError, Global};
@@ -170,5 +170,45 @@ fn networks_by_hand(rt: HostRuntime) -> Result<(), Fail> {
         judge(&rt, rt.alloc(), file, least)?;
         assert!(rt; is_verified(&rt, file)?, "of {file}");
     }
+    Ok(())
+}
+
+/// Eight variables with three values, of which each two cost 1 where they agree. At best they stand in groups of three,
+/// three and two, and seven pairs agree.
+fn groups(alloc: Global) -> Result<String, AllocError> {
+    let mut file = String::from_str(alloc, "groups 8 3 28 100 3 3 3 3 3 3 3 3")?;
+    for y in 1..8 {
+        for x in 0..y {
+            write!(file, " 2 {x} {y} 0 3 0 0 1 1 1 1 2 2 1")?;
+        }
+    }
+    Ok(file)
+}
+
+/// Whether no row has a lower number above that of the next one, or an upper number below it.
+fn come_together(rows: &[Row]) -> bool {
+    rows.windows(2).all(|two| {
+        let upper = two[0].upper.unwrap_or(u64::MAX);
+        two[0].lower <= two[1].lower && two[1].upper.unwrap_or(u64::MAX) <= upper
+    })
+}
+
+#[test]
+fn dives_end_and_begin(rt: HostRuntime) -> Result<(), Fail> {
+    let file = groups(rt.alloc())?;
+    let network = cfn_wcsp::read(rt.alloc(), file.as_bytes())?;
+    let mut lower = 0;
+    for budget in [20, 60, 150, 400] {
+        let cut = solve(rt.alloc(), &network, budget)?;
+        assert!(rt; is_within(&cut, budget));
+        assert!(rt; lower <= cut.certificate.lower && cut.certificate.lower <= 7);
+        lower = cut.certificate.lower;
+    }
+    let whole = solve(rt.alloc(), &network, AMPLE)?;
+    assert!(rt; whole.stop == Stop::Done);
+    assert_eq!(rt; whole.certificate.lower, 7);
+    assert_eq!(rt; price(&whole), Some(7));
+    assert!(rt; whole.rows.len() > 4 && come_together(whole.rows.as_slice()));
+    assert!(rt; is_sound(rt.alloc(), &network, &whole)?);
     Ok(())
 }

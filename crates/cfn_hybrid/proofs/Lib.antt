@@ -1,0 +1,17 @@
+pub mod Growing
+pub mod Waits
+pub mod Bounds
+pub mod Others
+pub mod Rearranged
+pub mod Routes
+pub mod Going
+pub mod Aside
+pub mod Keeping
+pub mod Judging
+pub mod Closing
+pub mod States
+pub mod Dividing
+pub mod Alive
+pub mod Expanding
+pub mod Starting
+pub mod Finished

@@ -1,0 +1,9 @@
+pub mod Sound
+pub mod Waiting
+pub mod Others
+pub mod Diving
+pub mod Rows
+pub mod Searching
+pub mod Judging
+pub mod Enforcing
+pub mod Chain
