@@ -122,15 +122,40 @@ fn fault_in(
     let incidence = Incidence::build(alloc, network)?;
     let mut store = Store::build(alloc, network)?;
     let mut enforcer = Enforcer::make(alloc, network)?;
+    fault_along(
+        alloc,
+        &mut enforcer,
+        &mut store,
+        &incidence,
+        network,
+        steps,
+        dice,
+    )
+}
+
+/// The same, with a store that stands at the root.
+fn fault_along(
+    alloc: Global,
+    enforcer: &mut Enforcer<'_>,
+    store: &mut Store<'_>,
+    incidence: &Incidence,
+    network: &Network,
+    steps: usize,
+    dice: &mut Dice,
+) -> Result<Option<Fault>, AllocError>
+    requires store { store.old.network ≡ network.now }
+    requires enforcer { enforcer.old ≡ network.now }
+    requires incidence { incidence.now ≡ network.now }
+{
     let mut history = Vec::new(alloc);
     let ub = network.ub();
     for threshold in [ub, ub - ub / 4, ub / 2] {
         let limits = Limits { threshold, steps };
         let called = call(
             alloc,
-            &mut enforcer,
-            &mut store,
-            &incidence,
+            enforcer,
+            store,
+            incidence,
             network,
             limits,
             &mut history,
@@ -139,7 +164,7 @@ fn fault_in(
             return Ok(called.fault);
         }
         store.reserve(1)?;
-        let Some(side) = go_on(&mut store, network, dice) else {
+        let Some(side) = go_on(store, network, dice) else {
             return Ok(None);
         };
         history.insert(0, side)?;

@@ -1,5 +1,5 @@
 use Rattle.std.proofs.Common.{◌≡◌}
-use Rattle.cfn_settled_tests.proofs.settling.fault_in.Given as goal
+use Rattle.cfn_settled_tests.proofs.settling.fault_along.Given as goal
 
 -- the store and the enforcer are the network's
 abbrev pub invariant-loop-threshold : goal.invariant-loop-threshold
