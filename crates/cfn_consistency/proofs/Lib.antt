@@ -1,5 +1,9 @@
 pub mod Rising
 pub mod Locality
 pub mod Grouping
+pub mod Opening
+pub mod Deriving
+pub mod Families
 pub mod Rows
+pub mod VirtualRows
 pub mod CallerLemmas

@@ -2,6 +2,7 @@
 use Rattle.std.proofs.Common.{ap, length, ◌≡◌, ℕ, zero, suc, ◌<◌, ◌≤◌, inl, inr, List, [], ◌∷◌, true, false, refl, lit<, lit≤, arith}
 use Rattle.std.proofs.lemmas.Int.{ints}
 use Rattle.std.specs.Prelude.{codes, ℤ, pos, ◌+ℤ◌, ◌<ℤ◌, slice_index}
+use Rattle.cfn_model.specs.declared.step.Step.{Step}
 use Rattle.cfn_model.specs.declared.step.Step.TheVariants.{Project, Extend, Lift, CutValue}
 use Rattle.cfn_model.specs.declared.step.Decision.TheVariants.{Is}
 use Rattle.cfn_model.specs.declared.step.Event.{Event}
@@ -12,9 +13,9 @@ use Rattle.cfn_model.specs.Steps.{IsValue, IsPlace}
 use Rattle.cfn_model.proofs.CallerLemmas.{tiny, tri}
 use Rattle.cfn_consistency.specs.Openness.{live_count, is_open, open_count, IsActive, IsSmall, TakesPart, HasOpenPair}
 use Rattle.cfn_consistency.specs.Consistency.{IsDead, IsFree, IsNodeConsistent, HasFullSupport, IsArcConsistent, IsDirectional, IsFirst, IsExistential}
-use Rattle.cfn_consistency.specs.Groups.{AreGroups, GainAtNodes, GotSupport}
+use Rattle.cfn_consistency.specs.Groups.{Group, begun, AreGroups, AreOpenGroups, GainAtNodes, GotSupport}
 
-abbrev row : List ℕ → List ℕ → Function
+abbrev pub row : List ℕ → List ℕ → Function
 row scope entries = record { scope = scope; default = 0; entries = entries }
 
 -- what is open: in tri each variable, and with a decision on one the other two
@@ -153,7 +154,7 @@ wiped_is_dead = inr (0, lit< tt, gone)
 
 -- what those steps gain: each project gives its value a support, and the lift closes
 pub gains : AreGroups tiny [] (Project 0 0 0 3 ∷ Project 0 0 1 1 ∷ Lift 0 1 ∷ [])
-gains = inr (inl first, inr (inl second, inr (tt, refl)))
+gains = (tt, inr (inl first, (tt, inr (inl second, (tt, inr (tt, refl))))))
   where
     part : (history : List Event) → open_count tiny history 0 ≤ 2 → TakesPart tiny history 0
     part history few = inl (record { function = lit< tt; some = lit< tt; few = few })
@@ -174,33 +175,45 @@ gains = inr (inl first, inr (inl second, inr (tt, refl)))
       now = record { tuple = 1 ∷ []; fits = (lit< tt, tt); at = refl; live = refl; free = refl };
     }
 
+-- a group with a step is not just begun
+not_begun : (start history : List Event) (step : Step) (steps : List Step) → record { start = start; steps = step ∷ steps } ≡ begun history → ⊥
+not_begun start history step steps e = absurd (let h = ap (λ (g : Group). length g.steps) e in omega (arith, h))
+
 -- a project of less gains nothing, nor does a cut of a value that is not live, and an extend alone closes no group
 pub less_gains_nothing : AreGroups tiny [] (Project 0 0 0 2 ∷ []) → ⊥
-less_gains_nothing (inl shift) = absurd cc
-less_gains_nothing (inr (inl got, end)) =
+less_gains_nothing (fresh, inl (shift, end)) = not_begun [] (Did (Project 0 0 0 2) ∷ []) (Project 0 0 0 2) [] end
+less_gains_nothing (fresh, inr (inl got, end)) =
     all_ones (λ t. slice_index t 0 ≡ 0 → residual tiny (Did (Project 0 0 0 2) ∷ []) 0 t ≡ pos 0 → ⊥) (λ at free. not_zero 0 refl free) (λ at free. not_zero 0 refl free) got.now.tuple got.now.fits got.now.at got.now.free
-less_gains_nothing (inr (inr got, end)) = absurd (let h = got.pair.other.0 in let e = got.pair.one.0 in let d = got.pair.different in omega (arith, h, e, d))
+less_gains_nothing (fresh, inr (inr got, end)) = absurd (let h = got.pair.other.0 in let e = got.pair.one.0 in let d = got.pair.different in omega (arith, h, e, d))
 
 pub dead_cut_gains_nothing : GainAtNodes (Did (CutValue 0 0) ∷ []) (CutValue 0 0 ∷ []) → ⊥
 dead_cut_gains_nothing gain = absurd (let e : false ≡ true = gain.0 in cc)
 
 -- to and fro gains nothing, since the value had a support at the start; and an extend alone is no whole group
 pub to_and_fro_gains_nothing : AreGroups tiny projected (Extend 0 0 0 1 ∷ Project 0 0 0 1 ∷ []) → ⊥
-to_and_fro_gains_nothing (inl (shift, inl (other, end))) = longer end
-  where
-    longer : Did (Project 0 0 0 1) ∷ Did (Extend 0 0 0 1) ∷ projected ≡ projected → ⊥
-    longer e = absurd (let h : 4 ≡ 2 = ap length e in omega (arith, h))
-to_and_fro_gains_nothing (inl (shift, inr (inl got, end))) =
+to_and_fro_gains_nothing (fresh, inl (shift, (new, inl (other, end)))) = not_begun projected (Did (Project 0 0 0 1) ∷ Did (Extend 0 0 0 1) ∷ projected) (Project 0 0 0 1) (Extend 0 0 0 1 ∷ []) end
+to_and_fro_gains_nothing (fresh, inl (shift, (new, inr (inl got, end)))) =
     absurd (got.before (record { tuple = 0 ∷ []; fits = (lit< tt, tt); at = refl; live = refl; free = refl }))
-to_and_fro_gains_nothing (inl (shift, inr (inr got, end))) = absurd (let h = got.pair.other.0 in let e = got.pair.one.0 in let d = got.pair.different in omega (arith, h, e, d))
-to_and_fro_gains_nothing (inr (closed, rest)) = absurd closed
+to_and_fro_gains_nothing (fresh, inl (shift, (new, inr (inr got, end)))) = absurd (let h = got.pair.other.0 in let e = got.pair.one.0 in let d = got.pair.different in omega (arith, h, e, d))
+to_and_fro_gains_nothing (fresh, inr (closed, rest)) = absurd closed
 
 pub extend_alone_is_no_group : AreGroups tiny projected (Extend 0 0 0 1 ∷ []) → ⊥
-extend_alone_is_no_group (inl (shift, end)) = absurd (let h : 3 ≡ 2 = ap length end in omega (arith, h))
-extend_alone_is_no_group (inr (closed, rest)) = absurd closed
+extend_alone_is_no_group (fresh, inl (shift, end)) = not_begun projected (Did (Extend 0 0 0 1) ∷ projected) (Extend 0 0 0 1) [] end
+extend_alone_is_no_group (fresh, inr (closed, rest)) = absurd closed
+
+-- unfinished it is one, but not where the same value is extended twice
+pub extend_alone_is_an_open_group : AreOpenGroups tiny projected (Extend 0 0 0 1 ∷ [])
+extend_alone_is_an_open_group = (tt, inl (tt, tt))
+
+pub nothing_is_extended_twice : AreOpenGroups tiny projected (Extend 0 0 0 1 ∷ Extend 0 0 0 1 ∷ []) → ⊥
+nothing_is_extended_twice (fresh, inl (shift, (new, rest))) = absurd (new.0 (refl, refl, refl))
+nothing_is_extended_twice (fresh, inr (closed, rest)) = absurd closed
+
+pub two_values_are_extended : AreOpenGroups tiny projected (Extend 0 0 0 1 ∷ Extend 0 0 1 1 ∷ [])
+two_values_are_extended = (tt, inl (tt, ((λ same. absurd (let e : 0 ≡ 1 = same.2 in omega (arith, e)), tt), inl (tt, tt))))
 
 -- the tuples of two variables of two values
-all_pairs : (Q : List ℕ → Type 0) → Q (0 ∷ 0 ∷ []) → Q (0 ∷ 1 ∷ []) → Q (1 ∷ 0 ∷ []) → Q (1 ∷ 1 ∷ []) → (tuple : List ℕ) → Fits (2 ∷ 2 ∷ []) tuple → Q tuple
+pub all_pairs : (Q : List ℕ → Type 0) → Q (0 ∷ 0 ∷ []) → Q (0 ∷ 1 ∷ []) → Q (1 ∷ 0 ∷ []) → Q (1 ∷ 1 ∷ []) → (tuple : List ℕ) → Fits (2 ∷ 2 ∷ []) tuple → Q tuple
 all_pairs Q a b c d [] fits = absurd fits
 all_pairs Q a b c d (x ∷ []) fits = absurd fits.1
 all_pairs Q a b c d (zero ∷ zero ∷ []) fits = a

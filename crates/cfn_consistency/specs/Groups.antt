@@ -1,6 +1,6 @@
 -- What the steps of an enforcing call gain: they fall into groups, each a run of extends and projects and then a step
 -- that closes it (Cooper et al. 2010).
-use Rattle.std.specs.Prelude.{◌≡◌, ℕ, ◌<◌, ◌⊎◌, List, [], ◌∷◌, ◌++◌, IsTrue}
+use Rattle.std.specs.Prelude.{◌≡◌, ℕ, ◌<◌, ◌⊎◌, List, [], ◌∷◌, IsTrue}
 use Rattle.cfn_model.specs.declared.step.Step.{Step}
 use Rattle.cfn_model.specs.declared.step.Step.TheVariants.{Project, Extend, Lift, CutValue, CutTuple}
 use Rattle.cfn_model.specs.declared.step.Event.{Event}
@@ -18,9 +18,33 @@ IsShift (Lift x m) = ⊥
 IsShift (CutValue x a) = ⊥
 IsShift (CutTuple f c) = ⊥
 
-abbrev pub AreShifts : List Step → Type 0
-AreShifts [] = Unit {0}
-AreShifts (step ∷ steps) = IsShift step × AreShifts steps
+-- A step projects to the value a at place i of f, or extends it.
+abbrev pub Projects : ℕ → ℕ → ℕ → Step → Type 0
+Projects f i a (Project g j b m) = (g ≡ f) × (j ≡ i) × (b ≡ a)
+Projects f i a (Extend g j b m) = ⊥
+Projects f i a (Lift x m) = ⊥
+Projects f i a (CutValue x b) = ⊥
+Projects f i a (CutTuple g c) = ⊥
+
+abbrev pub Extends : ℕ → ℕ → ℕ → Step → Type 0
+Extends f i a (Project g j b m) = ⊥
+Extends f i a (Extend g j b m) = (g ≡ f) × (j ≡ i) × (b ≡ a)
+Extends f i a (Lift x m) = ⊥
+Extends f i a (CutValue x b) = ⊥
+Extends f i a (CutTuple g c) = ⊥
+
+-- A step does what another one does, with any amount.
+abbrev pub Repeats : Step → Step → Type 0
+Repeats (Project f i a m) other = Projects f i a other
+Repeats (Extend f i a m) other = Extends f i a other
+Repeats (Lift x m) other = ⊥
+Repeats (CutValue x a) other = ⊥
+Repeats (CutTuple f c) other = ⊥
+
+-- A step repeats none of these.
+abbrev pub IsNew : List Step → Step → Type 0
+IsNew [] step = Unit {0}
+IsNew (other ∷ steps) step = (Repeats step other → ⊥) × IsNew steps step
 
 -- The tuple of f with the number c is live.
 pub record IsLiveCell (P : Network) (history : List Event) (f c : ℕ) : Type 0 where
@@ -55,23 +79,38 @@ Closes P start history (Lift x m) = Unit {0}
 Closes P start history (CutValue x a) = IsTrue (is_live history x a)
 Closes P start history (CutTuple f c) = IsLiveCell P history f c
 
--- Steps after a history, in a group that began at start, end that group and are groups then.
-abbrev pub EndInGroups : Network → List Event → List Event → List Step → Type 0
-EndInGroups P start history [] = history ≡ start
-EndInGroups P start history (step ∷ steps) =
-    (IsShift step × EndInGroups P start (Did step ∷ history) steps) ⊎ (Closes P start history step × EndInGroups P (Did step ∷ history) (Did step ∷ history) steps)
+-- A group that began after a history, and its steps so far, the newest first.
+pub record Group : Type 0 where
+  pub start : List Event
+  pub steps : List Step
 
--- Steps after a history are groups.
+abbrev pub begun : List Event → Group
+begun history = record { start = history; steps = [] }
+
+abbrev pub with_shift : Group → Step → Group
+with_shift group step = record { start = group.start; steps = step ∷ group.steps }
+
+-- Steps after a history, in a group, each a new one in its group, lead to a history and a group of which a fact holds.
+abbrev pub LeadTo : Network → (List Event → Group → Type 0) → Group → List Event → List Step → Type 0
+LeadTo P Fact group history [] = Fact history group
+LeadTo P Fact group history (step ∷ steps) =
+    IsNew group.steps step
+    × ((IsShift step × LeadTo P Fact (with_shift group step) (Did step ∷ history) steps) ⊎ (Closes P group.start history step × LeadTo P Fact (begun (Did step ∷ history)) (Did step ∷ history) steps))
+
+-- Nothing of a group is done yet; and anything may be.
+abbrev pub IsBegun : List Event → Group → Type 0
+IsBegun history group = group ≡ begun history
+
+abbrev pub MayBeOpen : List Event → Group → Type 0
+MayBeOpen history group = Unit {0}
+
+-- Steps after a history are groups, in each of which nothing is extended twice and nothing projected to twice.
 abbrev pub AreGroups : Network → List Event → List Step → Type 0
-AreGroups P history steps = EndInGroups P history history steps
+AreGroups P history steps = LeadTo P IsBegun (begun history) history steps
 
 -- They are groups, the last of which may be unfinished.
-pub record AreOpenGroups (P : Network) (history : List Event) (steps : List Step) : Type 0 where
-  pub whole : List Step
-  pub rest : List Step
-  pub are : steps ≡ whole ++ rest
-  pub groups : AreGroups P history whole
-  pub shifts : AreShifts rest
+abbrev pub AreOpenGroups : Network → List Event → List Step → Type 0
+AreOpenGroups P history steps = LeadTo P MayBeOpen (begun history) history steps
 
 -- For node consistency each step is a group of its own: it lifts, or cuts a live value.
 abbrev pub GainsAtNode : List Event → Step → Type 0

@@ -1,12 +1,15 @@
 -- What holds of local consistencies.
-use Rattle.std.specs.Prelude.{ℕ, ◌≤◌, List, ◌++◌}
+use Rattle.std.specs.Prelude.{ℕ, ◌<◌, ◌≤◌, List, ◌++◌, length, IsTrue}
 use Rattle.cfn_model.specs.declared.step.Step.{Step}
 use Rattle.cfn_model.specs.declared.step.Event.{Event}
 use Rattle.cfn_model.specs.Network.{Network, IsNetwork}
-use Rattle.cfn_model.specs.Steps.{after}
+use Rattle.cfn_model.specs.Sums.{is_live}
+use Rattle.cfn_model.specs.Steps.{after, IsValue}
+use Rattle.cfn_consistency.specs.declared.deletion.Deletion.{Deletion}
 use Rattle.cfn_consistency.specs.Openness.{TakesPart}
 use Rattle.cfn_consistency.specs.Consistency.{IsDead, IsNodeConsistent, IsArcConsistent, IsDirectional, IsExistential, AreArcConsistent, AreDirectional, AreExistential, AreFullyConsistent}
-use Rattle.cfn_consistency.specs.Groups.{AreGroups, GainAtNodes}
+use Rattle.cfn_consistency.specs.Groups.{AreGroups, AreOpenGroups, GainAtNodes}
+use Rattle.cfn_consistency.specs.Virtual.{Bans, without, IsDerivation, IsClosedFamily}
 use Rattle.cfn_consistency.specs.Agreement.{AgreeOnFunction, AgreeAround, AgreeNear, AgreeOnNodes}
 
 -- What holds at a threshold holds at every greater one.
@@ -65,3 +68,12 @@ NodesGroup = (P : Network) (history : List Event) (steps : List Step) → GainAt
 
 abbrev pub GroupsJoin : Type 0
 GroupsJoin = (P : Network) (history : List Event) (steps more : List Step) → AreGroups P history steps → AreGroups P (after steps history) more → AreGroups P history (steps ++ more)
+
+-- Groups behind which there are groups, the last of which may be unfinished, are such groups.
+abbrev pub OpenGroupsJoin : Type 0
+OpenGroupsJoin = (P : Network) (history : List Event) (steps more : List Step) → AreGroups P history steps → AreOpenGroups P (after steps history) more → AreOpenGroups P history (steps ++ more)
+
+-- Where a derivation ends in a closed family, no derivation under the same bans empties a variable.
+abbrev pub ClosedStaysClosed : Type 0
+ClosedStaysClosed =
+    (P : Network) (history : List Event) (q : ℕ) (bans : Bans) (closed others : List Deletion) → IsNetwork P → IsClosedFamily P (without closed history) q bans → IsDerivation P history q bans others → (x : ℕ) → x < length P.sizes → (a : ℕ) × IsValue P x a × IsTrue (is_live (without others history) x a)

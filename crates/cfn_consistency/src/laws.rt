@@ -1,6 +1,6 @@
 //! What holds of local consistencies, each the contract of a function with nothing to do.
 
-ghost use Rattle.cfn_consistency.specs.Laws.{NodesRise, ArcsRise, DirectionalsRise, ExistentialsRise, FullsRise, DeadFalls, NeverBoth, PartIsLocal, ArcIsLocal, DirectionalIsLocal, ExistentialIsLocal, NodesAreLocal, NodesGroup, GroupsJoin};
+ghost use Rattle.cfn_consistency.specs.Laws.{NodesRise, ArcsRise, DirectionalsRise, ExistentialsRise, FullsRise, DeadFalls, NeverBoth, PartIsLocal, ArcIsLocal, DirectionalIsLocal, ExistentialIsLocal, NodesAreLocal, NodesGroup, GroupsJoin, OpenGroupsJoin, ClosedStaysClosed};
 
 /// What is consistent at a threshold is so at every greater one, and what is dead is so at every smaller one. Nothing is
 /// node consistent and dead at once.
@@ -23,8 +23,15 @@ pub fn local()
     ensures nodes { NodesAreLocal }
 {}
 
-/// Steps that gain at nodes are groups, each of one step, and groups behind groups are groups.
+/// Steps that gain at nodes are groups, each of one step, and groups behind groups are groups,
+/// the last of which may be unfinished.
 pub fn groups()
     ensures nodes { NodesGroup }
     ensures join { GroupsJoin }
+    ensures open { OpenGroupsJoin }
+{}
+
+/// Where propagation ended in a closed family, none under the same bans empties a variable.
+pub fn families()
+    ensures closed { ClosedStaysClosed }
 {}

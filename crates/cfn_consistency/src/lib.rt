@@ -5,7 +5,12 @@
 //! directional and existential arc consistency, of one function or variable and of a whole network, and when a state is
 //! dead. specs/Groups.antt has what the steps of an enforcing call gain, and specs/Agreement.antt when two histories agree
 //! on what a consistency looks at.
+//! specs/Virtual.antt has virtual arc consistency: derivations, closed families and plans, at a cost and under bans, over the
+//! types of `deletion`.
 //! There is no code: `laws` has a function with nothing to do for each group of laws.
 #![tactic(auto)]
 
+mod deletion;
 pub mod laws;
+
+pub use deletion::{Deletion, Reason, Source};

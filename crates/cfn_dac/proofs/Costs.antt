@@ -12,10 +12,10 @@ use Rattle.cfn_model.proofs.CallerLemmas.{eqb_same, eqb_other, tuple_fewer}
 use Rattle.cfn_dac.specs.Moves.{Trims}
 
 -- an amount that stands under a test of two equalities
-when_both : (x y a b : ℕ) (z : ℤ) → x ≡ y → a ≡ b → when ((x == y) && (a == b)) z ≡ z
+pub when_both : (x y a b : ℕ) (z : ℤ) → x ≡ y → a ≡ b → when ((x == y) && (a == b)) z ≡ z
 when_both x y a b z e d = ap (λ t. when (t && (a == b)) z) (eqb_same x y e) ∙ ap (λ t. when t z) (eqb_same a b d)
 
-when_apart : (x y a b : ℕ) (z : ℤ) → (x ≡ y → a ≡ b → ⊥) → when ((x == y) && (a == b)) z ≡ pos 0
+pub when_apart : (x y a b : ℕ) (z : ℤ) → (x ≡ y → a ≡ b → ⊥) → when ((x == y) && (a == b)) z ≡ pos 0
 when_apart x y a b z apart = elim (cases_eq x y) [
   | inl e ↦ ap (λ t. when (t && (a == b)) z) (eqb_same x y e) ∙ ap (λ t. when t z) (eqb_other a b (apart e))
   | inr d ↦ ap (λ t. when (t && (a == b)) z) (eqb_other x y d)

@@ -58,7 +58,7 @@ third P history f i j k order has there here = elim (cases_eq k i) [
   ])
 ]
 
-either : (P : Network) (history : List Event) (f i j k : ℕ) → HasOpenPair P history f i j → k < arity P f → IsTrue (is_open P history (variable_at P f k)) → (k ≡ i) ⊎ (k ≡ j)
+pub either : (P : Network) (history : List Event) (f i j k : ℕ) → HasOpenPair P history f i j → k < arity P f → IsTrue (is_open P history (variable_at P f k)) → (k ≡ i) ⊎ (k ≡ j)
 either P history f i j k has there here = elim (cases_lt i j) [
   | inl less ↦ third P history f i j k less has there here
   | inr more ↦ turn (third P history f j i k (let d = has.different in omega (arith, more, d)) (swapped P history f i j has) there here)

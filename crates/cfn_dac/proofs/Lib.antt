@@ -8,3 +8,6 @@ pub mod Spreading
 pub mod Collecting
 pub mod Directing
 pub mod CallerLemmas
+pub mod Shifting
+pub mod Grouped
+pub mod Ending

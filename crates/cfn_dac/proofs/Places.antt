@@ -1,12 +1,11 @@
 -- What is read of places: the two of a pair are those of different variables.
-use Rattle.std.proofs.Common.{◌≡◌, ◌⊎◌, ℕ, zero, suc, ◌<◌, ◌≤◌, List, [], ◌∷◌, length, Bool, true, false, ◌&&◌, not, refl, sym, inl, inr, arith}
+use Rattle.std.proofs.Common.{◌≡◌, ◌⊎◌, ℕ, zero, suc, ◌<◌, ◌≤◌, length, Bool, true, false, sym, subst, inl, inr, arith}
 use Rattle.std.proofs.lemmas.Bool.{cases_eq}
-use Rattle.std.specs.Prelude.{slice_index, nat_lt, IsTrue}
-use Rattle.cfn_model.specs.declared.step.Event.{Event}
-use Rattle.cfn_model.specs.Network.{Network, IsNetwork, Fits, arity, scope_at, variable_at, dims, dims_at, entry_at, cell}
-use Rattle.cfn_model.specs.Sums.{is_live, is_live_tuple, all_live, is_cut}
+use Rattle.std.specs.Prelude.{slice_index}
+use Rattle.cfn_model.specs.Network.{Network, IsNetwork, arity, scope_at, variable_at}
 use Rattle.cfn_model.specs.Steps.{IsValue, IsPlace}
 use Rattle.cfn_net.proofs.CallerLemmas.{get_or-dims}
+use Rattle.cfn_store.specs.Standing.{Standing}
 use Rattle.cfn_dac.specs.declared.pair.Pair.{Pair}
 use Rattle.cfn_dac.specs.Full.{IsPair, first_of, second_of}
 
@@ -45,3 +44,9 @@ variables_apart P pair net is same = elim (cases_lt pair.place pair.other) [
   | inl less ↦ (net.functions pair.function is.function).different pair.place pair.other less is.other (sym same)
   | inr more ↦ (net.functions pair.function is.function).different pair.other pair.place (let d = is.different in omega (arith, more, d)) is.place same
 ]
+
+pub first_within : (P : Network) (pair : Pair) (a : ℕ) → IsPlace P pair.function pair.place a → a < slice_index P.sizes (first_of P pair)
+first_within P pair a place = let v = place.value in let d = get_or-dims P.sizes (scope_at P pair.function) pair.place place.place in omega (arith, v, d)
+
+pub first_within_of : (s t : Standing) (pair : Pair) → t.network ≡ s.network → (a : ℕ) → IsPlace s.network pair.function pair.place a → a < slice_index t.network.sizes (first_of t.network pair)
+first_within_of s t pair same a place = subst (λ P. a < slice_index P.sizes (first_of P pair)) (sym same) (first_within s.network pair a place)

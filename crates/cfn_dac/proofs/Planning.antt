@@ -2,7 +2,7 @@
 use Rattle.std.proofs.Common.{◌≡◌, ℕ, ◌+◌, ◌-◌, ◌<◌, ◌≤◌, ◌^◌, min, set, get_or-set_same, get_or-set_other, Bool, true, false, inl, inr, List, length, refl, sym, ap, ◌∙◌, subst, arith}
 use Rattle.std.proofs.lemmas.Bool.{cases_eq}
 use Rattle.std.proofs.lemmas.Int.{ints}
-use Rattle.std.specs.Prelude.{ℤ, pos, ◌≤ℤ◌, ◌<ℤ◌, slice_index, IsTrue}
+use Rattle.std.specs.Prelude.{ℤ, pos, ◌+ℤ◌, ◌≤ℤ◌, ◌<ℤ◌, slice_index, IsTrue}
 use Rattle.cfn_model.specs.declared.step.Event.{Event}
 use Rattle.cfn_model.specs.Network.{Network, IsNetwork}
 use Rattle.cfn_model.specs.Sums.{unary, is_live}
@@ -14,7 +14,8 @@ use Rattle.cfn_store.specs.Rooms.{sets_of}
 use Rattle.cfn_store.proofs.CallerLemmas.{tuple_at, exact_now}
 use Rattle.cfn_dac.specs.declared.pair.Pair.{Pair}
 use Rattle.cfn_dac.specs.Full.{IsPair, AreFullBelow, first_of, second_of, total}
-use Rattle.cfn_dac.specs.Moves.{IsLiveTuple, IsTotalBetween, IsLeastTotal, IsAmount, Covers}
+use Rattle.cfn_dac.specs.Shifts.{AreHeld, AreReached}
+use Rattle.cfn_dac.specs.Moves.{IsLiveTuple, IsTotalBetween, IsLeastTotal, IsAmount, Reaches, Covers}
 use Rattle.cfn_dac.proofs.Places.{cases_lt, not_both, first_value, second_value, place_of}
 
 -- no total of a live tuple is below 0
@@ -70,27 +71,38 @@ least_zero P history pair a b net exact is zero_is = record {
 }
 
 -- the amount of a value that is not live, and of one that costs alpha or more
-amount_none : (P : Network) (history : List Event) (pair : Pair) (alpha a : ℕ) → IsNetwork P → IsExactAlong P history → IsPair P pair → (IsTrue (is_live history (first_of P pair) a) → unary P history (first_of P pair) a <ℤ pos alpha → ⊥) → IsAmount P history pair alpha a 0
-amount_none P history pair alpha a net exact is none = record {
+amount_none : (P : Network) (history : List Event) (pair : Pair) (alpha a : ℕ) → IsNetwork P → IsExactAlong P history → IsPair P pair → (IsTrue (is_live history (first_of P pair) a) → unary P history (first_of P pair) a <ℤ pos alpha → ⊥) → (IsTrue (is_live history (first_of P pair) a) → Reaches P history pair alpha a 0) → IsAmount P history pair alpha a 0
+amount_none P history pair alpha a net exact is none reaches = record {
   bound = λ tuple picked. not_negative P history pair tuple net exact is (record { fits = picked.fits; live = picked.live });
   within = λ some. absurd (omega (arith, some));
+  reaches = reaches;
   full = λ zero_is live below. absurd (none live below);
 }
 
 pub amount_dead : (P : Network) (history : List Event) (pair : Pair) (alpha a : ℕ) → IsNetwork P → IsExactAlong P history → IsPair P pair → is_live history (first_of P pair) a ≡ false → IsAmount P history pair alpha a 0
-amount_dead P history pair alpha a net exact is dead = amount_none P history pair alpha a net exact is (λ live below. not_both (is_live history (first_of P pair) a) live dead)
+amount_dead P history pair alpha a net exact is dead = amount_none P history pair alpha a net exact is (λ live below. not_both (is_live history (first_of P pair) a) live dead) (λ live. not_both (is_live history (first_of P pair) a) live dead)
 
 costs_more : (u : ℤ) (has alpha : ℕ) → pos has ≡ u → alpha ≤ has → u <ℤ pos alpha → ⊥
 costs_more u has alpha e le h = absurd (omega (arith, ints, e, le, h))
 
+comes_to : (u : ℤ) (has alpha : ℕ) → pos has ≡ u → alpha ≤ has → pos alpha ≤ℤ (u +ℤ pos 0)
+comes_to u has alpha e le = omega (arith, ints, e, le)
+
 pub amount_costly : (P : Network) (history : List Event) (pair : Pair) (alpha a has : ℕ) → IsNetwork P → IsExactAlong P history → IsPair P pair → (IsTrue (is_live history (first_of P pair) a) → pos has ≡ unary P history (first_of P pair) a) → alpha ≤ has → IsAmount P history pair alpha a 0
-amount_costly P history pair alpha a has net exact is cost le = amount_none P history pair alpha a net exact is (λ live below. costs_more (unary P history (first_of P pair) a) has alpha (cost live) le below)
+amount_costly P history pair alpha a has net exact is cost le = amount_none P history pair alpha a net exact is (λ live below. costs_more (unary P history (first_of P pair) a) has alpha (cost live) le below) (λ live. inl (comes_to (unary P history (first_of P pair) a) has alpha (cost live) le))
 
 -- and of another
 pub amount_some : (P : Network) (history : List Event) (pair : Pair) (alpha a has least amount : ℕ) → IsTrue (is_live history (first_of P pair) a) → pos has ≡ unary P history (first_of P pair) a → has < alpha → alpha < 2 ^ 64 → IsLeastTotal P history pair a least → amount ≡ min least (alpha - has) → IsAmount P history pair alpha a amount
 amount_some P history pair alpha a has least amount live cost below small is m = record {
   bound = λ tuple picked. at_most amount least (total P history pair tuple) (omega (arith, m)) (is.bound tuple picked);
   within = λ some. record { live = live; amount = omega (arith, m); cost = omega (arith, ints, cost, m, below) };
+  reaches = λ alive. elim (cases_lt least (alpha - has)) [
+    | inl less ↦
+        (let e : amount ≡ least = omega (arith, m, less) in
+        let t = is.reached (omega (arith, less, small)) in
+        inr (omega (arith, e, less), record { tuple = t.0; picked = t.1; is = t.2 ∙ ap pos (sym e) }))
+    | inr more ↦ inl (omega (arith, ints, cost, m, more, below))
+  ];
   full = λ none l b.
       (let zero_is : least ≡ 0 = omega (arith, none, m, below) in
       let t = is.reached (omega (arith, zero_is)) in
@@ -147,3 +159,12 @@ pub plan_none : (P : Network) (history : List Event) (pair : Pair) (alpha : ℕ)
 plan_none P history pair alpha moves n some net all planned e a place live below =
     let v = first_value P pair a net place in let l = v.value in
     (planned.amounts a (omega (arith, l, all))).full (planned.no e a (omega (arith, l, all))) live below
+
+pub plan_held : (P : Network) (history : List Event) (pair : Pair) (moves : List ℕ) → Covers P history pair moves 0 → AreHeld P history pair moves 0
+plan_held P history pair moves covers tuple live h = covers.rest tuple live (omega arith)
+
+pub plan_reached : (P : Network) (history : List Event) (pair : Pair) (alpha : ℕ) (moves : List ℕ) (n : ℕ) (some : Bool) → IsNetwork P → slice_index P.sizes (first_of P pair) ≤ n → ArePlanned P history pair alpha moves n some → AreReached P history pair alpha moves 0
+plan_reached P history pair alpha moves n some net all planned = record {
+  done = λ a place live h. absurd (omega (arith, h));
+  rest = λ a place live h. (let v = first_value P pair a net place in let l = v.value in (planned.amounts a (omega (arith, l, all))).reaches live);
+}

@@ -1,12 +1,15 @@
 -- Costly tuples are cut one after another.
-use Rattle.std.proofs.Common.{◌≡◌, ℕ, suc, ◌+◌, ◌-◌, ◌/◌, ◌%◌, ◌<◌, ◌≤◌, ◌⊎◌, inl, inr, List, [], ◌∷◌, length, length-append, drop, get_or, sym, ap, ◌∙◌, subst, arith}
+use Rattle.std.proofs.Common.{◌≡◌, ◌&&◌, false, refl, ℕ, suc, ◌+◌, ◌-◌, ◌/◌, ◌%◌, ◌<◌, ◌≤◌, ◌⊎◌, inl, inr, List, [], ◌∷◌, length, length-append, drop, get_or, sym, ap, ◌∙◌, subst, arith}
 use Rattle.std.proofs.lemmas.Int.{ints}
 use Rattle.std.proofs.lemmas.Grind.{same_number_lists}
-use Rattle.std.specs.Prelude.{Ok, ℤ, pos, ◌+ℤ◌, ◌≤ℤ◌, ◌<ℤ◌}
+use Rattle.std.proofs.lemmas.Bool.{cases_eq}
+use Rattle.std.specs.Prelude.{◌==◌, IsTrue, Ok, ℤ, pos, ◌+ℤ◌, ◌≤ℤ◌, ◌<ℤ◌}
 use Rattle.cfn_model.specs.declared.step.Step.TheVariants.{CutTuple}
 use Rattle.cfn_model.specs.declared.step.Event.{Event}
 use Rattle.cfn_model.specs.Network.{Network, Fits, cells, cell, dims_at}
-use Rattle.cfn_model.specs.Sums.{floor, residual}
+use Rattle.cfn_model.specs.declared.step.Event.TheVariants.{Did}
+use Rattle.cfn_model.specs.Sums.{floor, residual, is_live_tuple}
+use Rattle.cfn_model.proofs.CallerLemmas.{eqb_same, eqb_other}
 use Rattle.cfn_model.specs.Steps.{CanCutTuple, IsCell, IsPlace}
 use Rattle.cfn_nc.proofs.CallerLemmas.{history_step}
 use Rattle.cfn_net.proofs.CallerLemmas.{Fits-length, cell-below, digit_at}
@@ -14,7 +17,10 @@ use Rattle.cfn_store.specs.Standing.{Standing, history, with_step}
 use Rattle.cfn_gain.specs.declared.limits.Limits.{Limits}
 use Rattle.cfn_gain.specs.Calls.{GoesOn, Does, Passing}
 use Rattle.cfn_gain.proofs.CallerLemmas.{passing_start, passing_adds}
-use Rattle.cfn_dac.specs.Moves.{Trims, CostBelow, IsCostly}
+use Rattle.cfn_consistency.specs.Groups.{IsBegun, MayBeOpen}
+use Rattle.cfn_gain.specs.Gains.{Gained, IsOpen}
+use Rattle.cfn_gain.proofs.CallerLemmas.{leads_close, new_cut_tuple, opened, tuple_kept}
+use Rattle.cfn_dac.specs.Moves.{Trims, KeepsCheap, CostBelow, IsCostly}
 use Rattle.cfn_dac.proofs.Costs.{trims_none, trims_cut}
 
 -- tuples with one number are one
@@ -69,3 +75,47 @@ all_below P history k lacks f i a le below tuple picked = more lacks k (residual
   where
     more : (lacks k : ℕ) (r : ℤ) → lacks ≤ k → r <ℤ pos lacks → r <ℤ pos k
     more lacks k r le h = omega (arith, ints, le, h)
+
+-- only costly tuples are cut, and each cut closes a group
+pub record IsCuttingIn (before now : Standing) (k f : ℕ) : Type 0 where
+  pub keeps : KeepsCheap before.network (history before) (history now) k f
+  pub gains : (start : Standing) → IsOpen start before → Gained start now ⊎ (now ≡ before)
+
+pub cutting_none : (s : Standing) (k f : ℕ) → IsCuttingIn s s k f
+cutting_none s k f = record {
+  keeps = record { cheap = λ tuple live low. live.live; others = λ g tuple other. refl };
+  gains = λ start was. inr refl;
+}
+
+uncut : (f g c d : ℕ) → (f ≡ g → c ≡ d → ⊥) → ((f == g) && (c == d)) ≡ false
+uncut f g c d apart = elim (cases_eq f g) [
+  | inl e ↦ ap (λ t. t && (c == d)) (eqb_same f g e) ∙ eqb_other c d (apart e)
+  | inr e ↦ ap (λ t. t && (c == d)) (eqb_other f g e)
+]
+
+costs_less : (n lacks k : ℕ) (r : ℤ) → n + lacks ≡ k → pos lacks ≤ℤ r → (pos n +ℤ r) <ℤ pos k → ⊥
+costs_less n lacks k r sum le low = absurd (omega (arith, ints, sum, le, low))
+
+cheap_kept : (P : Network) (before now : List Event) (k lacks f i a c : ℕ) → floor P before + lacks ≡ k → Trims P before now → IsCostly P now f i a lacks c → (tuple : List ℕ) → Fits (dims_at P f) tuple → (pos (floor P before) +ℤ residual P before f tuple) <ℤ pos k → IsTrue (is_live_tuple P now f tuple) → IsTrue (is_live_tuple P (Did (CutTuple f c) ∷ now) f tuple)
+cheap_kept P before now k lacks f i a c sum trims is tuple fits low live =
+    tuple_kept P (Did (CutTuple f c)) now f tuple (λ x b. refl)
+    (uncut f f c (cell (dims_at P f) tuple) (λ same e.
+    (let t = one_tuple (dims_at P f) is.tuple tuple is.picked.fits fits (is.cell_is ∙ e) in
+    costs_less (floor P before) lacks k (residual P before f tuple) sum (subst (λ r. pos lacks ≤ℤ r) (trims.residual f tuple) (subst (λ u. pos lacks ≤ℤ residual P now f u) t is.cost)) low))) ∙ live
+
+pub cutting_one : (before now next : Standing) (k lacks f i a c : ℕ) → now.network ≡ before.network → floor before.network (history before) + lacks ≡ k → Trims before.network (history before) (history now) → IsCostly now.network (history now) f i a lacks c → next ≡ with_step now (CutTuple f c) → IsCuttingIn before now k f → IsCuttingIn before next k f
+cutting_one before now next k lacks f i a c same sum trims costly made t = record {
+  keeps = subst (λ h. KeepsCheap before.network (history before) h k f) (sym (ap history made ∙ history_step now (CutTuple f c))) (record {
+    cheap = λ tuple live low. cheap_kept before.network (history before) (history now) k lacks f i a c sum trims is tuple live.fits low (t.keeps.cheap tuple live low);
+    others = λ g tuple other. tuple_kept before.network (Did (CutTuple f c)) (history now) g tuple (λ x b. refl) (uncut f g c (cell (dims_at before.network g) tuple) (λ e d. other (sym e))) ∙ t.keeps.others g tuple other;
+  });
+  gains = λ start was. inl (leads_close start now next MayBeOpen (CutTuple f c) (by start was (t.gains start was)) made
+      (λ g is_open. (new_cut_tuple g.steps f c, record { tuple = costly.tuple; fits = costly.picked.fits; cell = costly.cell_is; live = costly.picked.live })));
+}
+  where
+    is : IsCostly before.network (history now) f i a lacks c
+    is = subst (λ P. IsCostly P (history now) f i a lacks c) same costly
+
+    by : (start : Standing) → IsOpen start before → Gained start now ⊎ (now ≡ before) → IsOpen start now
+    by start was (inl gained) = opened start now IsBegun gained
+    by start was (inr e) = subst (IsOpen start) (sym e) was

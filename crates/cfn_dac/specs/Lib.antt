@@ -1,3 +1,5 @@
 pub mod Opens
 pub mod Full
 pub mod Moves
+pub mod Shifts
+pub mod Going

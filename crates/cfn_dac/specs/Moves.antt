@@ -1,5 +1,5 @@
 -- Amounts that are moved to the values of a pair's first variable, through its function, from the values of the second.
-use Rattle.std.specs.Prelude.{◌≡◌, ℕ, ◌-◌, ◌<◌, ◌≤◌, ◌^◌, List, slice_index, Option, Some, None, pos, ◌+ℤ◌, ◌≤ℤ◌, ◌<ℤ◌, IsTrue}
+use Rattle.std.specs.Prelude.{◌≡◌, ℕ, ◌-◌, ◌<◌, ◌≤◌, ◌^◌, ◌⊎◌, List, slice_index, Option, Some, None, pos, ◌+ℤ◌, ◌≤ℤ◌, ◌<ℤ◌, IsTrue}
 use Rattle.cfn_model.specs.declared.step.Event.{Event}
 use Rattle.cfn_model.specs.Network.{Network, Fits, dims_at, cell}
 use Rattle.cfn_model.specs.Sums.{floor, unary, residual, is_live, is_live_tuple}
@@ -31,11 +31,22 @@ pub record IsWithin (P : Network) (history : List Event) (pair : Pair) (most a m
   pub amount : m ≤ most
   pub cost : (unary P history (first_of P pair) a +ℤ pos m) ≤ℤ pos most
 
--- What goes to the value a: no more than any total, nor than leaves its unary cost at alpha; and nothing where it has a full
--- support or needs none.
+-- A live tuple with the value a has this total.
+pub record HasTotal (P : Network) (history : List Event) (pair : Pair) (a m : ℕ) : Type 0 where
+  pub tuple : List ℕ
+  pub picked : IsPicked P history pair.function pair.place a tuple
+  pub is : total P history pair tuple ≡ pos m
+
+-- With an amount the value a comes to alpha, or to a full support.
+abbrev pub Reaches : Network → List Event → Pair → ℕ → ℕ → ℕ → Type 0
+Reaches P history pair alpha a m = (pos alpha ≤ℤ (unary P history (first_of P pair) a +ℤ pos m)) ⊎ ((m < alpha) × HasTotal P history pair a m)
+
+-- What goes to the value a: no more than any total, nor than leaves its unary cost at alpha, and as much as brings it there or
+-- to a full support; and nothing where it has one or needs none.
 pub record IsAmount (P : Network) (history : List Event) (pair : Pair) (alpha a amount : ℕ) : Type 0 where
   pub bound : (tuple : List ℕ) → IsPicked P history pair.function pair.place a tuple → pos amount ≤ℤ total P history pair tuple
   pub within : 0 < amount → IsWithin P history pair alpha a amount
+  pub reaches : IsTrue (is_live history (first_of P pair) a) → Reaches P history pair alpha a amount
   pub full : amount ≡ 0 → IsTrue (is_live history (first_of P pair) a) → unary P history (first_of P pair) a <ℤ pos alpha → HasFullSupport P history pair.function pair.place pair.other a
 
 -- Amounts are covered: live tuples whose second value is below b have them, and the others have them together with that
@@ -90,3 +101,8 @@ pub record IsCostly (P : Network) (history : List Event) (f i a least c : ℕ) :
   pub picked : IsPicked P history f i a tuple
   pub cell_is : cell (dims_at P f) tuple ≡ c
   pub cost : pos least ≤ℤ residual P history f tuple
+
+-- Between two histories no live tuple of f was cut with which the floor stays below a threshold, and none of another function.
+pub record KeepsCheap (P : Network) (before after : List Event) (k f : ℕ) : Type 0 where
+  pub cheap : (tuple : List ℕ) → IsLiveTuple P before f tuple → (pos (floor P before) +ℤ residual P before f tuple) <ℤ pos k → IsTrue (is_live_tuple P after f tuple)
+  pub others : (g : ℕ) (tuple : List ℕ) → (g ≡ f → ⊥) → is_live_tuple P after g tuple ≡ is_live_tuple P before g tuple

@@ -6,17 +6,19 @@ ghost use Rattle.std.specs.Prelude.{◌≡◌, ℕ, ◌<◌, ◌≤◌, length, 
 ghost use Rattle.cfn_consistency.specs.Consistency.{IsDirectional};
 ghost use Rattle.cfn_store.specs.Standing.{history};
 ghost use Rattle.cfn_gain.specs.Calls.{GoesOn, Does, Shows};
+ghost use Rattle.cfn_gain.specs.Gains.{Gains};
 ghost use Rattle.cfn_dac.specs.Opens.{NoOpenPair, IsLowerPair};
 ghost use Rattle.cfn_dac.specs.Full.{AreAllBelow};
 
 use crate::open::{Opens, open_places};
 use crate::pair::{Pair, full_supports};
-use cfn_gain::{Halt, Limits, lacking};
+use cfn_gain::{Halt, Limits, cut_costly, lacking};
 use cfn_store::Store;
 
-/// Makes `f` directional arc consistent: where no step was made, and with no live value of a variable of `f` the floor and
-/// its unary cost reach the threshold, it is. `moves` is room for an amount for each value of a variable, and is left with
-/// any. An `Err` leaves the steps that were made.
+/// Makes `f` directional arc consistent, and cuts the values of the lower variable that cost what the floor lacks then: where
+/// no step was made, and with no live value of a variable of `f` the floor and its unary cost reach the threshold, `f` is
+/// directional. `moves` is room for an amount for each value of a variable, and is left with any. An `Err` leaves the steps
+/// that were made.
 pub fn directional(
     store: &mut Store<'_>,
     limits: Limits,
@@ -28,6 +30,7 @@ pub fn directional(
     requires room { (x : ℕ) → x < length store.old.network.sizes
         → slice_index store.old.network.sizes x ≤ length moves.old }
     ensures does { Does store.old store.new limits result }
+    ensures gains { Gains store.old store.new limits result }
     ensures directional { Shows store.old store.new result
         (AreAllBelow store.old.network (history store.old) limits.threshold f
         → IsDirectional store.old.network (history store.old) f) }
@@ -38,7 +41,9 @@ pub fn directional(
         return Ok(());
     };
     let lacks = lacking(store, limits);
-    full_supports(store, limits, pair, lacks, moves)
+    full_supports(store, limits, pair, lacks, moves)?;
+    let x = store.network().scope(f)[pair.place as usize];
+    cut_costly(store, limits, x)
 }
 
 /// The places of the two open variables of `f`, where there are two, that of the lower variable first.

@@ -7,11 +7,12 @@
 //! which is no more than it has. Tuples that cost as much as the floor lacks of the threshold are cut before (`trim.rt`), so
 //! that no cost comes to 2^64. Last each value gets its amount (`collect.rt`).
 
-ghost use Rattle.std.specs.Prelude.{◌≡◌, ◌+◌, ◌≤◌, length, slice_index};
+ghost use Rattle.std.specs.Prelude.{◌≡◌, ◌+◌, ◌≤◌, length, slice_index, Err, OnOk, OnErr};
 ghost use Rattle.cfn_model.specs.Sums.{floor};
 ghost use Rattle.cfn_store.specs.Standing.{history};
 ghost use Rattle.cfn_gain.specs.Calls.{GoesOn, Does, Shows};
 ghost use Rattle.cfn_dac.specs.Full.{IsPair, AreFullBelow, first_of};
+ghost use Rattle.cfn_dac.specs.Shifts.{Shifts, LeadsThrough, IsDirected, Closed, SomeLacks};
 
 use crate::collect::collect;
 use crate::plan::plan;
@@ -28,8 +29,8 @@ pub struct Pair {
 }
 
 /// Moves to each live value of the first variable with a unary cost below `alpha` what all live tuples with it have, each
-/// with its other value, but no more than makes its unary cost `alpha`. Where no step was made, each of these values has a
-/// full support. `moves` is room for an amount for each value, and is left with any. An `Err` leaves the steps that were
+/// with its other value, but no more than makes its unary cost `alpha`: then each value of a lower cost has a full support.
+/// Where a step was refused some value has none. `moves` is room for an amount for each value, and is left with any. An `Err` leaves the steps that were
 /// made.
 pub fn full_supports(
     store: &mut Store<'_>,
@@ -43,6 +44,12 @@ pub fn full_supports(
     requires alpha { floor store.old.network (history store.old) + alpha ≤ limits.threshold }
     requires room { slice_index store.old.network.sizes (first_of store.old.network pair) ≤ length moves.old }
     ensures does { Does store.old store.new limits result }
+    ensures shifts { Shifts store.old.network pair limits.threshold (history store.old) (history store.new) }
+    ensures through { LeadsThrough store.old store.new pair }
+    ensures closed { OnOk result (IsDirected store.old.network (history store.old) pair → Closed store.old store.new pair alpha) }
+    ensures supported { OnOk result (AreFullBelow store.old.network (history store.new) pair alpha) }
+    ensures lacks { OnErr result (SomeLacks store.old.network (history store.new) pair) }
+    ensures spent { result ≡ Err Halt.Dead → ⊥ }
     ensures full { Shows store.old store.new result (AreFullBelow store.old.network (history store.old) pair alpha) }
     ensures same { length moves.new ≡ length moves.old }
 {

@@ -8,6 +8,7 @@ ghost use Rattle.cfn_store.specs.Standing.{history};
 ghost use Rattle.cfn_store.specs.Extremes.{NoneBetween, IsLeastBetween};
 ghost use Rattle.cfn_store.specs.Lines.{IsLine};
 ghost use Rattle.cfn_dac.specs.Full.{IsPair, AreFullBelow, first_of, second_of};
+ghost use Rattle.cfn_dac.specs.Shifts.{AreHeld, AreReached};
 ghost use Rattle.cfn_dac.specs.Moves.{IsTotalBetween, IsLeastTotal, IsAmount, Covers, AreWithin, SomeFrom};
 
 use crate::pair::Pair;
@@ -21,6 +22,8 @@ pub(crate) fn plan(store: &Store<'_>, pair: Pair, alpha: u64, moves: &mut [u64])
     ensures same { length moves.new ≡ length moves.old }
     ensures covers { Covers store.now.network (history store.now) pair moves.new 0 }
     ensures within { AreWithin store.now.network (history store.now) pair alpha moves.new 0 }
+    ensures held { AreHeld store.now.network (history store.now) pair moves.new 0 }
+    ensures reached { AreReached store.now.network (history store.now) pair alpha moves.new 0 }
     ensures some { result ≡ true → SomeFrom store.now.network pair moves.new 0 }
     ensures none { result ≡ false → AreFullBelow store.now.network (history store.now) pair alpha }
 {
@@ -78,6 +81,9 @@ fn least_along(store: &Store<'_>, pair: Pair, value: u32, line: &Line<'_>) -> u6
 {
     store.network().limits();
     store.exact();
+    if costs_nothing_still(store, pair, value, line) {
+        return 0;
+    }
     let y = store.network().scope(pair.function)[pair.other as usize];
     let mut least = u64::MAX;
     for other in store.live(y) {
@@ -88,6 +94,19 @@ fn least_along(store: &Store<'_>, pair: Pair, value: u32, line: &Line<'_>) -> u6
         least = least.min(total);
     }
     least
+}
+
+/// Whether a value costs nothing with the other value with which it cost nothing last, and that value neither.
+fn costs_nothing_still(store: &Store<'_>, pair: Pair, value: u32, line: &Line<'_>) -> bool
+    requires pair { IsPair store.now.network pair }
+    requires value { IsPlace store.now.network pair.function pair.place value }
+    requires line { IsLine store.now.network (history store.now) pair.function pair.place value pair.other line.now }
+    ensures { result ≡ true → (other : ℕ) × IsTotalBetween store.now.network (history store.now) pair value other 0 }
+{
+    match store.last_support(pair.function, pair.place, value, pair.other) {
+        Some(other) => with_unary(store, pair, value, other, line.least(other)) == 0,
+        None => false,
+    }
 }
 
 /// The same, one pair of values after another.

@@ -1,12 +1,14 @@
 //! The values of the second variable give what live tuples lack of the amounts of their first values: each in one extend, as
 //! much as the tuple with it that lacks most.
 
-ghost use Rattle.std.specs.Prelude.{◌≡◌, ◌+◌, ◌<◌, ◌≤◌, length, slice_index, OnOk};
+ghost use Rattle.std.specs.Prelude.{◌≡◌, ◌+◌, ◌<◌, ◌≤◌, length, slice_index, Err, OnOk};
 ghost use Rattle.cfn_model.specs.Steps.{IsPlace};
 ghost use Rattle.cfn_store.specs.Standing.{history};
 ghost use Rattle.cfn_store.specs.Lines.{IsLine};
 ghost use Rattle.cfn_gain.specs.Calls.{GoesOn, Does};
-ghost use Rattle.cfn_dac.specs.Full.{IsPair, first_of};
+ghost use Rattle.cfn_dac.specs.Full.{IsPair, first_of, second_of};
+ghost use Rattle.cfn_dac.specs.Shifts.{AreHeld};
+ghost use Rattle.cfn_dac.specs.Going.{Fills};
 ghost use Rattle.cfn_dac.specs.Moves.{Covers, AreWithin, AreLent, IsShare, IsLack, lack_of};
 
 use crate::pair::Pair;
@@ -26,8 +28,11 @@ pub(crate) fn spread(
     requires pair { IsPair store.old.network pair }
     requires room { slice_index store.old.network.sizes (first_of store.old.network pair) ≤ length moves.now }
     requires covers { Covers store.old.network (history store.old) pair moves.now 0 }
+    requires held { AreHeld store.old.network (history store.old) pair moves.now 0 }
     requires within { AreWithin store.old.network (history store.old) pair limits.threshold moves.now 0 }
     ensures does { Does store.old store.new limits result }
+    ensures fills { Fills store.old store.new limits.threshold pair moves.now 0 (slice_index store.old.network.sizes (second_of store.old.network pair)) }
+    ensures spent { result ≡ Err Halt.Dead → ⊥ }
     ensures lent { OnOk result (AreLent store.new.network (history store.new) pair moves.now 0) }
     ensures within { OnOk result (AreWithin store.new.network (history store.new) pair limits.threshold moves.now 0) }
 {
@@ -52,8 +57,11 @@ fn fill(
     requires room { slice_index store.old.network.sizes (first_of store.old.network pair) ≤ length moves.now }
     requires value { IsPlace store.old.network pair.function pair.other value }
     requires covers { Covers store.old.network (history store.old) pair moves.now value }
+    requires held { AreHeld store.old.network (history store.old) pair moves.now 0 }
     requires within { AreWithin store.old.network (history store.old) pair limits.threshold moves.now 0 }
     ensures does { Does store.old store.new limits result }
+    ensures fills { Fills store.old store.new limits.threshold pair moves.now value (value + 1) }
+    ensures spent { result ≡ Err Halt.Dead → ⊥ }
     ensures covers { OnOk result (Covers store.new.network (history store.new) pair moves.now (value + 1)) }
     ensures within { OnOk result (AreWithin store.new.network (history store.new) pair limits.threshold moves.now 0) }
 {

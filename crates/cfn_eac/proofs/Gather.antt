@@ -1,5 +1,5 @@
 -- Arms are gathered one place after another.
-use Rattle.std.proofs.Common.{◌≡◌, ◌⊎◌, ℕ, zero, suc, ◌+◌, ◌<◌, ◌≤◌, inl, inr, Bool, true, false, List, [], ◌∷◌, ◌++◌, length, length-append, refl, sym, ap, ◌∙◌, subst, arith}
+use Rattle.std.proofs.Common.{◌≡◌, ◌⊎◌, ℕ, zero, suc, ◌+◌, ◌<◌, ◌≤◌, inl, inr, Bool, true, false, List, [], ◌∷◌, ◌++◌, length, length-append, refl, sym, ap, ◌∙◌, subst, true≢false, arith}
 use Rattle.std.proofs.lemmas.Bool.{cases_eq}
 use Rattle.std.proofs.lemmas.List.{get_or_append_left, get_or_read, get_or-set_other, get_or-set_same, length-set}
 use Rattle.std.proofs.Math.Seq.{get_or-append_seam}
@@ -283,3 +283,11 @@ has_mark P history p pair met pairs y net marks arm is =
 
 pub mark_is : (P : Network) (met : List Bool) (pair : Pair) (y : ℕ) (mark value : Bool) → y < length met → y ≡ other_of P pair → mark ≡ slice_index_or met y mark → mark ≡ value → is_met met (other_of P pair) ≡ value
 mark_is P met pair y mark value within is read seen = ap (is_met met) (sym is) ∙ sym (get_or_read met y mark within read false) ∙ seen
+
+-- A variable that is not open has no arms.
+pub none_of_closed : (P : Network) (history : List Event) (x : ℕ) → is_open P history x ≡ false → AreArms P history x []
+none_of_closed P history x closed = record {
+  each = (λ k h. absurd (omega (arith, h)));
+  all = (λ f i j pair at. absurd (true≢false (sym (subst (λ y. is_open P history y ≡ true) at pair.one.1) ∙ closed)));
+  once = (λ k m h. absurd (omega (arith, h)));
+}

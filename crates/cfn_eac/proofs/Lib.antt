@@ -1,3 +1,4 @@
 pub mod Gather
 pub mod Existing
 pub mod Amounts
+pub mod Owing

@@ -1,3 +1,4 @@
 pub mod Arms
 pub mod Asking
 pub mod Gathering
+pub mod Owing

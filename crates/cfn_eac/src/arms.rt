@@ -21,6 +21,8 @@ pub struct Arms<'n> {
     pairs: Vec<Pair>,
     /// Which variables are at the other end of an arm, while arms are gathered.
     met: Vec<bool>,
+    /// For each variable the value that asked nothing last. It is looked at first; nothing is promised of it.
+    good: Vec<u32>,
 }
 
 impl<'n> Model for Arms<'n> {
@@ -44,6 +46,7 @@ impl<'n> Arms<'n> {
             network,
             pairs: Vec::with_capacity(alloc, network.functions() as usize)?,
             met: vec![in alloc; false; network.variables() as usize]?,
+            good: vec![in alloc; 0; network.variables() as usize]?,
         })
     }
 
@@ -65,8 +68,40 @@ impl<'n> Arms<'n> {
         }
     }
 
-    /// Gathers the arms of a variable.
+    /// The value of a variable that asked nothing last, as far as is known. It may ask something now, or be dead.
+    pub(crate) fn last_good(&self, x: u32) -> u32 {
+        match self.good.get(x as usize) {
+            Some(value) => *value,
+            None => 0,
+        }
+    }
+
+    /// Keeps a value that asks nothing.
+    pub(crate) fn keep_good(&mut self, x: u32, value: u32)
+        ensures { self.new ≡ self.old }
+    {
+        if (x as usize) < self.good.len() {
+            self.good[x as usize] = value;
+        }
+    }
+
+    /// Gathers the arms of a variable: none where it is not open.
     pub fn gather(&mut self, store: &Store<'_>, incidence: &Incidence, x: u32)
+        requires incidence { incidence.now ≡ self.old.network }
+        requires network { store.now.network ≡ self.old.network }
+        requires variable { x < length self.old.network.sizes }
+        ensures network { self.new.network ≡ self.old.network }
+        ensures arms { AreArms self.new.network (history store.now) x self.new.pairs }
+    {
+        if store.count(x) < 2 {
+            self.pairs.clear();
+        } else {
+            self.gather_all(store, incidence, x);
+        }
+    }
+
+    /// Gathers the arms of a variable from all its places.
+    fn gather_all(&mut self, store: &Store<'_>, incidence: &Incidence, x: u32)
         requires incidence { incidence.now ≡ self.old.network }
         requires network { store.now.network ≡ self.old.network }
         requires variable { x < length self.old.network.sizes }

@@ -3,12 +3,14 @@
 //! A value that asks nothing (`asking.rt`) is what is looked for. Where each asks something, the least that is asked can be
 //! lifted: each arm moves to the values what they lack of it, as far as the arm has it, and the lift follows.
 
-ghost use Rattle.std.specs.Prelude.{◌≡◌, ℕ, ◌+◌, ◌<◌, ◌≤◌, length, slice_index, MatchOption};
-ghost use Rattle.cfn_model.specs.Sums.{floor};
+ghost use Rattle.std.specs.Prelude.{◌≡◌, ◌<◌, ◌≤◌, length, slice_index, MatchOption, IfSome, true};
 ghost use Rattle.cfn_consistency.specs.Consistency.{IsExistential};
 ghost use Rattle.cfn_store.specs.Standing.{history};
 ghost use Rattle.cfn_gain.specs.Calls.{GoesOn, Does, Shows};
-ghost use Rattle.cfn_eac.specs.Arms.{AreArms, AreOfFunctions, HasGood};
+ghost use Rattle.cfn_gain.specs.Gains.{Gains};
+ghost use Rattle.cfn_eac.specs.Arms.{AreArms, AreOfFunctions, HasGood, IsGood};
+ghost use Rattle.cfn_model.specs.Steps.{IsValue};
+ghost use Rattle.cfn_eac.specs.Owing.{IsAsked};
 
 use crate::arms::Arms;
 use crate::asking::asked;
@@ -33,6 +35,7 @@ pub fn existential(
     requires variable { x < length store.old.network.sizes }
     requires moves { slice_index store.old.network.sizes x ≤ length moves.old }
     ensures does { Does store.old store.new limits result }
+    ensures gains { Gains store.old store.new limits result }
     ensures existential { Shows store.old store.new result (IsExistential store.old.network (history store.old) x) }
     ensures network { arms.new.network ≡ arms.old.network }
     ensures functions { AreOfFunctions arms.new.network arms.new.pairs }
@@ -40,6 +43,10 @@ pub fn existential(
 {
     store.network().limits();
     arms.gather(store, incidence, x);
+    if let Some(value) = good_value(arms.pairs(), store, x, arms.last_good(x)) {
+        arms.keep_good(x, value);
+        return Ok(());
+    }
     match ask(arms.pairs(), store, limits, x) {
         Some(alpha) => raise(arms.pairs(), store, limits, x, alpha, moves),
         None => Ok(()),
@@ -47,7 +54,7 @@ pub fn existential(
 }
 
 /// Moves to the values of a variable what they lack of `alpha`, as far as its arms have it, and lifts what all of them have
-/// then.
+/// then: that is `alpha` at least, since each value comes to it with what its arms have.
 fn raise(
     pairs: &[Pair],
     store: &mut Store<'_>,
@@ -59,17 +66,19 @@ fn raise(
     requires goes { GoesOn store.old limits }
     requires variable { x < length store.old.network.sizes }
     requires arms { AreArms store.old.network (history store.old) x pairs.now }
-    requires some { 0 < alpha }
-    requires alpha { floor store.old.network (history store.old) + alpha ≤ limits.threshold }
+    requires alpha { IsAsked store.old.network (history store.old) limits.threshold x pairs.now alpha }
     requires moves { slice_index store.old.network.sizes x ≤ length moves.old }
     ensures does { Does store.old store.new limits result }
+    ensures gains { Gains store.old store.new limits result }
     ensures good { Shows store.old store.new result (HasGood store.old.network (history store.old) x pairs.now) }
     ensures same { length moves.new ≡ length moves.old }
 {
+    store.network().limits();
     for pair in pairs {
         let cap = alpha.min(lacking(store, limits));
         full_supports(store, limits, *pair, cap, moves)?;
     }
+    store.exact();
     level(store, limits, x)
 }
 
@@ -79,7 +88,7 @@ fn ask(pairs: &[Pair], store: &Store<'_>, limits: Limits, x: u32) -> Option<u64>
     requires variable { x < length store.now.network.sizes }
     requires arms { AreArms store.now.network (history store.now) x pairs.now }
     ensures { MatchOption result (HasGood store.now.network (history store.now) x pairs.now)
-        (λ alpha. (0 < alpha) × (floor store.now.network (history store.now) + alpha ≤ limits.threshold)) }
+        (IsAsked store.now.network (history store.now) limits.threshold x pairs.now) }
 {
     let mut least = lacking(store, limits);
     for value in store.live(x) {
@@ -90,4 +99,32 @@ fn ask(pairs: &[Pair], store: &Store<'_>, limits: Limits, x: u32) -> Option<u64>
         least = least.min(asked);
     }
     Some(least)
+}
+
+/// A live value of a variable that asks nothing, where there is one; `first` is looked at first. Of each value it looks no
+/// further than to the first thing that it asks.
+fn good_value(pairs: &[Pair], store: &Store<'_>, x: u32, first: u32) -> Option<u32>
+    requires variable { x < length store.now.network.sizes }
+    requires arms { AreArms store.now.network (history store.now) x pairs.now }
+    ensures { IfSome result (IsGood store.now.network (history store.now) x pairs.now) }
+{
+    store.network().limits();
+    if first < store.network().size(x) && asks_nothing(pairs, store, x, first) {
+        return Some(first);
+    }
+    for value in store.live(x) {
+        if asks_nothing(pairs, store, x, *value) {
+            return Some(*value);
+        }
+    }
+    None
+}
+
+/// Whether a value is live and asks nothing.
+fn asks_nothing(pairs: &[Pair], store: &Store<'_>, x: u32, value: u32) -> bool
+    requires value { IsValue store.now.network x value }
+    requires arms { AreArms store.now.network (history store.now) x pairs.now }
+    ensures { result ≡ true → IsGood store.now.network (history store.now) x pairs.now value }
+{
+    store.is_live(x, value) && asked(pairs, store, x, value, 0) == 0
 }

@@ -1,13 +1,14 @@
 -- Where nothing is due and no step was made all is consistent.
-use Rattle.std.proofs.Common.{◌≡◌, inl, inr, sym, subst, arith, ◌⊎◌}
+use Rattle.std.proofs.Common.{◌≡◌, ℕ, ◌<◌, ◌≤◌, inl, inr, List, [], ◌∷◌, length, drop, sym, ap, subst, arith, ◌⊎◌}
+use Rattle.cfn_queue.specs.Waiting.{IsFirst}
 use Rattle.cfn_consistency.specs.Consistency.{IsNodeConsistent, AreFullyConsistent}
 use Rattle.cfn_store.specs.Standing.{Standing, history}
-use Rattle.cfn_due.specs.Dues.{Dues, NothingWaits}
+use Rattle.cfn_due.specs.Dues.{Dues, NothingWaits, waiting, without_first}
 use Rattle.cfn_due.proofs.CallerLemmas.{nothing_waits_is_full}
 use Rattle.cfn_gain.specs.declared.limits.Limits.{Limits}
 use Rattle.cfn_gain.specs.Calls.{Adds, IsUnchanged, Grows}
-use Rattle.cfn_gain.proofs.CallerLemmas.{unchanged}
-use Rattle.cfn_edac.specs.Revising.{HoldsIn, IsRunOut}
+use Rattle.cfn_gain.proofs.CallerLemmas.{unchanged, no_shorter}
+use Rattle.cfn_edac.specs.Revising.{HoldsIn, IsRevised, IsRunOut}
 
 -- where no step was made nothing waits
 none_waits : (before after : Standing) (due : Dues) → IsUnchanged before after → Grows before after ⊎ NothingWaits due → NothingWaits due
@@ -21,3 +22,21 @@ settled_here before mid after limits old new same still run adds holds nodes due
     nothing_waits_is_full after.network (history after) limits.threshold new holds
     (subst NothingWaits (sym (due still)) (none_waits before mid old same run.why))
     (subst (λ t. IsNodeConsistent t.network (history t) limits.threshold) (sym is) (nodes still))
+
+-- where no step was made and less waits a look is done
+pub looked : (before after : Standing) (limits : Limits) (old new : Dues) → Adds before after limits → length after.block ≤ length before.block → HoldsIn before new → waiting new < waiting old → IsRevised before after old new
+looked before after limits old new adds none holds less =
+    let more = no_shorter before after limits adds in
+    let same : IsUnchanged before after = omega (arith, none, more) in
+    record { holds = subst (λ t. HoldsIn t new) (sym (unchanged before after limits adds same)) holds; sooner = inr (same, less) }
+
+-- the first of what waits is taken away
+drops_one : (items : List ℕ) (f : ℕ) → IsFirst items f → length (drop 1 items) < length items
+drops_one [] f first = absurd (let h = ap length first.1 in omega (arith, h))
+drops_one (g ∷ items) f first = omega arith
+
+pub fewer_arcs : (old new : Dues) (f : ℕ) → IsFirst old.arcs.items f → new ≡ record { arcs = without_first old.arcs; directed = old.directed; existing = old.existing } → waiting new < waiting old
+fewer_arcs old new f first taken = let e = ap waiting taken in let d = drops_one old.arcs.items f first in omega (arith, e, d)
+
+pub fewer_directed : (old new : Dues) (f : ℕ) → IsFirst old.directed.items f → new ≡ record { arcs = old.arcs; directed = without_first old.directed; existing = old.existing } → waiting new < waiting old
+fewer_directed old new f first taken = let e = ap waiting taken in let d = drops_one old.directed.items f first in omega (arith, e, d)

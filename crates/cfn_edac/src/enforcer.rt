@@ -6,7 +6,7 @@ ghost use Rattle.cfn_store.specs.Rooms.{sets_of};
 ghost use Rattle.cfn_store.specs.Standing.{history};
 ghost use Rattle.cfn_eac.specs.Asking.{IsCheapest};
 ghost use Rattle.cfn_gain.specs.Calls.{Adds};
-ghost use Rattle.cfn_edac.specs.Settling.{Answers, IsBehindSettled};
+ghost use Rattle.cfn_edac.specs.Settling.{Answers, HasGained, IsBehindSettled};
 
 use crate::reviser::Reviser;
 use cfn_gain::{Halt, Limits};
@@ -64,7 +64,9 @@ impl<'n> Enforcer<'n> {
 
     /// Makes a store fully consistent at the threshold, while its block has fewer steps than it may have. `since` is the
     /// event behind which the store stands of a place where it was fully consistent at some threshold: then only what that
-    /// event may have ended is looked at, and what the steps that are made end. With `None` all is looked at.
+    /// event may have ended is looked at, and what the steps that are made end. With `None` all is looked at. The steps fall
+    /// into groups, each of which gains something (Cooper et al. 2010); only where a step was due and the block was as long as
+    /// it may be is the answer `Spent`, and the last group unfinished.
     pub fn settle(
         &mut self,
         store: &mut Store<'_>,
@@ -79,6 +81,7 @@ impl<'n> Enforcer<'n> {
         requires since { IfSome since (IsBehindSettled store.old) }
         ensures adds { Adds store.old store.new limits }
         ensures answer { Answers store.new limits result }
+        ensures gains { HasGained store.old store.new limits result }
         ensures same { self.new ≡ self.old }
     {
         self.reviser.forget();

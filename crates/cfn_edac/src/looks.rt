@@ -5,6 +5,7 @@ ghost use Rattle.cfn_consistency.specs.Openness.{TakesPart};
 ghost use Rattle.cfn_consistency.specs.Consistency.{IsNodeConsistent, IsArcConsistent, IsDirectional};
 ghost use Rattle.cfn_store.specs.Standing.{history};
 ghost use Rattle.cfn_gain.specs.Calls.{GoesOn, Does, Shows};
+ghost use Rattle.cfn_gain.specs.Gains.{Gains};
 ghost use Rattle.cfn_dac.specs.Full.{AreAllBelow};
 
 use cfn_dac::{directional, takes_part};
@@ -15,6 +16,7 @@ use cfn_store::Store;
 pub(crate) fn levels(store: &mut Store<'_>, limits: Limits) -> Result<(), Halt>
     requires goes { GoesOn store.old limits }
     ensures does { Does store.old store.new limits result }
+    ensures gains { Gains store.old store.new limits result }
     ensures nodes { Shows store.old store.new result (IsNodeConsistent store.old.network (history store.old) limits.threshold) }
 {
     let network = store.network();
@@ -30,6 +32,7 @@ pub(crate) fn arc(store: &mut Store<'_>, limits: Limits, f: u32) -> Result<(), H
     requires goes { GoesOn store.old limits }
     requires function { f < length store.old.network.functions }
     ensures does { Does store.old store.new limits result }
+    ensures gains { Gains store.old store.new limits result }
     ensures arc { Shows store.old store.new result (TakesPart store.old.network (history store.old) f → IsArcConsistent store.old.network (history store.old) f) }
 {
     if !takes_part(store, f) {
@@ -54,6 +57,7 @@ pub(crate) fn direct(
     requires function { f < length store.old.network.functions }
     requires moves { (x : ℕ) → x < length store.old.network.sizes → slice_index store.old.network.sizes x ≤ length moves.old }
     ensures does { Does store.old store.new limits result }
+    ensures gains { Gains store.old store.new limits result }
     ensures directed { Shows store.old store.new result (IsDirectional store.old.network (history store.old) f) }
     ensures same { length moves.new ≡ length moves.old }
 {
@@ -66,6 +70,7 @@ fn levels_of(store: &mut Store<'_>, limits: Limits, f: u32) -> Result<(), Halt>
     requires goes { GoesOn store.old limits }
     requires function { f < length store.old.network.functions }
     ensures does { Does store.old store.new limits result }
+    ensures gains { Gains store.old store.new limits result }
     ensures below { Shows store.old store.new result (AreAllBelow store.old.network (history store.old) limits.threshold f) }
 {
     let network = store.network();

@@ -14,6 +14,7 @@ ghost use Rattle.cfn_store.specs.Standing.{history};
 ghost use Rattle.cfn_eac.specs.Asking.{IsCheapest};
 ghost use Rattle.cfn_due.specs.Dues.{waiting};
 ghost use Rattle.cfn_gain.specs.Calls.{GoesOn, Does, Shows};
+ghost use Rattle.cfn_gain.specs.Gains.{Gains};
 ghost use Rattle.cfn_edac.specs.Revising.{HoldsIn, IsRevised, IsRunOut};
 ghost use Rattle.cfn_edac.specs.Settling.{IsBehindSettled};
 
@@ -124,6 +125,7 @@ impl<'n> Reviser<'n> {
         requires goes { GoesOn store.old limits }
         requires holds { HoldsIn store.old self.old.due }
         ensures does { Does store.old store.new limits result }
+        ensures gains { Gains store.old store.new limits result }
         ensures settled { OnOk result (AreFullyConsistent store.new.network (history store.new) limits.threshold) }
         ensures network { self.new.network ≡ self.old.network }
     {
@@ -151,6 +153,7 @@ impl<'n> Reviser<'n> {
         requires goes { GoesOn store.old limits }
         requires holds { HoldsIn store.old self.old.due }
         ensures does { Does store.old store.new limits result }
+        ensures gains { Gains store.old store.new limits result }
         ensures run { OnOk result (IsRunOut store.old store.new self.new.due) }
         ensures network { self.new.network ≡ self.old.network }
     {
@@ -179,6 +182,7 @@ impl<'n> Reviser<'n> {
         requires holds { HoldsIn store.old self.old.due }
         requires some { 0 < waiting self.old.due }
         ensures does { Does store.old store.new limits result }
+        ensures gains { Gains store.old store.new limits result }
         ensures revised { OnOk result (IsRevised store.old store.new self.old.due self.new.due) }
         ensures network { self.new.network ≡ self.old.network }
     {
@@ -209,6 +213,7 @@ impl<'n> Reviser<'n> {
         requires function { f < self.old.due.arcs.size }
         requires first { IsFirst self.old.due.arcs.items f }
         ensures does { Does store.old store.new limits result }
+        ensures gains { Gains store.old store.new limits result }
         ensures revised { OnOk result (IsRevised store.old store.new self.old.due self.new.due) }
         ensures network { self.new.network ≡ self.old.network }
     {
@@ -238,6 +243,7 @@ impl<'n> Reviser<'n> {
         requires variable { x < self.old.due.existing.size }
         requires first { IsFirst self.old.due.existing.items x }
         ensures does { Does store.old store.new limits result }
+        ensures gains { Gains store.old store.new limits result }
         ensures revised { OnOk result (IsRevised store.old store.new self.old.due self.new.due) }
         ensures network { self.new.network ≡ self.old.network }
     {
@@ -271,6 +277,7 @@ impl<'n> Reviser<'n> {
         requires function { f < self.old.due.directed.size }
         requires first { IsFirst self.old.due.directed.items f }
         ensures does { Does store.old store.new limits result }
+        ensures gains { Gains store.old store.new limits result }
         ensures revised { OnOk result (IsRevised store.old store.new self.old.due self.new.due) }
         ensures network { self.new.network ≡ self.old.network }
     {
@@ -298,6 +305,7 @@ impl<'n> Reviser<'n> {
         requires goes { GoesOn store.old limits }
         requires holds { HoldsIn store.old self.old.due }
         ensures does { Does store.old store.new limits result }
+        ensures gains { Gains store.old store.new limits result }
         ensures holds { OnOk result (HoldsIn store.new self.new.due) }
         ensures nodes { Shows store.old store.new result (IsNodeConsistent store.old.network (history store.old) limits.threshold) }
         ensures still { Shows store.old store.new result (self.new.due ≡ self.old.due) }

@@ -16,7 +16,7 @@ use Rattle.cfn_gain.specs.Calls.{GoesOn, Adds, Does, Shows, Grows, Passing}
 use Rattle.cfn_live.specs.Sets.{AreLive}
 use Rattle.cfn_store.specs.Rooms.{sets_of}
 use Rattle.cfn_nc.specs.Passes.{IsLeast}
-use Rattle.cfn_gain.specs.Levels.{AreBelow, IsLevel}
+use Rattle.cfn_gain.specs.Levels.{AreBelow, IsLevel, AreAllCostly}
 use Rattle.cfn_gain.proofs.Adding.{passing_grown, passing_start, unchanged, adds_none, no_shorter, on_ok}
 use Rattle.cfn_gain.proofs.Moving.{same_floor, grows_step}
 
@@ -85,3 +85,7 @@ level_of s next k x result least = on_ok result (λ below same. record { below =
 
 pub level_grown : (s mid next : Standing) (limits : Limits) (x : ℕ) (result : Result (Unit {0}) Halt) (Fact Other : Type 0) → Grows s mid → Adds mid next limits → Shows mid next result Fact → Shows s next result Other
 level_grown s mid next limits x result Fact Other grows adds = on_ok result (λ fact same. let more = no_shorter mid next limits adds in absurd (omega (arith, grows, more, same)))
+
+-- where each live value costs something, so does the one of least cost
+pub level_costs : (s : Standing) (x least : ℕ) → IsLeast s.network (history s) x least → AreAllCostly s.network (history s) x → least ≡ 0 → ⊥
+level_costs s x least is costly none = let one = costly.each is.value is.is is.live in let cost = is.cost in absurd (omega (arith, ints, one, cost, none))

@@ -4,3 +4,7 @@ pub mod Leveling
 pub mod Supporting
 pub mod Places
 pub mod CallerLemmas
+pub mod Gaining
+pub mod Closing
+pub mod Keeping
+pub mod Earning

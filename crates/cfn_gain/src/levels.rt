@@ -3,7 +3,8 @@
 ghost use Rattle.std.specs.Prelude.{◌≡◌, ◌<◌, length};
 ghost use Rattle.cfn_store.specs.Standing.{history};
 ghost use Rattle.cfn_gain.specs.Calls.{GoesOn, Does, Shows};
-ghost use Rattle.cfn_gain.specs.Levels.{AreBelow, IsLevel};
+ghost use Rattle.cfn_gain.specs.Gains.{Gains, GainsBehind, HasCostly};
+ghost use Rattle.cfn_gain.specs.Levels.{AreBelow, IsLevel, AreAllCostly};
 
 use crate::limits::{Halt, Limits};
 use crate::moves::{cut_value, lacking, lift};
@@ -11,11 +12,14 @@ use cfn_nc::least;
 use cfn_store::Store;
 
 /// Lifts from a variable what its live values have in common, and cuts those whose unary cost reaches what the floor lacks
-/// then. Where no step was made, a live value costs nothing, and none reaches the threshold.
+/// then. Where no step was made, a live value costs nothing, and none reaches the threshold. Where each live value costs
+/// something the steps also close a group that others began.
 pub fn level(store: &mut Store<'_>, limits: Limits, x: u32) -> Result<(), Halt>
     requires goes { GoesOn store.old limits }
     requires variable { x < length store.old.network.sizes }
     ensures does { Does store.old store.new limits result }
+    ensures gains { Gains store.old store.new limits result }
+    ensures closes { AreAllCostly store.old.network (history store.old) x → GainsBehind store.old store.new limits result }
     ensures level { Shows store.old store.new result (IsLevel store.old.network (history store.old) limits.threshold x) }
 {
     if store.live(x).is_empty() {
@@ -28,11 +32,14 @@ pub fn level(store: &mut Store<'_>, limits: Limits, x: u32) -> Result<(), Halt>
     cut_costly(store, limits, x)
 }
 
-/// Cuts the live values of a variable whose unary cost reaches what the floor lacks.
-fn cut_costly(store: &mut Store<'_>, limits: Limits, x: u32) -> Result<(), Halt>
+/// Cuts the live values of a variable whose unary cost reaches what the floor lacks. Where there is one the steps also close
+/// a group that others began.
+pub fn cut_costly(store: &mut Store<'_>, limits: Limits, x: u32) -> Result<(), Halt>
     requires goes { GoesOn store.old limits }
     requires variable { x < length store.old.network.sizes }
     ensures does { Does store.old store.new limits result }
+    ensures gains { Gains store.old store.new limits result }
+    ensures closes { HasCostly store.old.network (history store.old) limits.threshold x 0 → GainsBehind store.old store.new limits result }
     ensures below { Shows store.old store.new result (AreBelow store.old.network (history store.old) limits.threshold x) }
 {
     let lacks = lacking(store, limits);

@@ -6,7 +6,8 @@
 //! - `levels.rt`: a variable's unary costs: what all live values have in common goes to the floor, and costly ones are cut;
 //! - `supports.rt`: arc consistency of a value, and of a function.
 //!
-//! Each call adds steps that run at the threshold, and says what holds where it added none.
+//! Each call adds steps that run at the threshold and fall into groups, and says what holds where it added none. Where it is
+//! spent a step is due: the store is not fully consistent.
 #![tactic(auto)]
 
 mod levels;
@@ -14,7 +15,7 @@ mod limits;
 mod moves;
 mod supports;
 
-pub use levels::level;
+pub use levels::{cut_costly, level};
 pub use limits::{Halt, Limits};
 pub use moves::{cut_tuple, cut_value, extend, lacking, lift, project};
 pub use supports::{gain, support, support_all};

@@ -1,12 +1,13 @@
 //! One step, where the block has room for it.
 
-ghost use Rattle.std.specs.Prelude.{◌≡◌, ◌+◌, ◌<◌, ◌≤◌, length, Err, OnOk};
+ghost use Rattle.std.specs.Prelude.{◌≡◌, ◌+◌, ◌<◌, ◌≤◌, length, Err, OnOk, OnErr, IsTrue};
 ghost use Rattle.cfn_model.specs.declared.step.Step.TheVariants.{Project, Extend, CutValue, CutTuple};
-ghost use Rattle.cfn_model.specs.Sums.{floor};
+ghost use Rattle.cfn_model.specs.Sums.{floor, is_live};
 ghost use Rattle.cfn_model.specs.Steps.{IsValue, IsCell, CanCutValue, CanCutTuple};
 ghost use Rattle.cfn_nc.specs.Passes.{IsLeast};
 ghost use Rattle.cfn_store.specs.Standing.{history, with_step, FitsProject, FitsExtend};
 ghost use Rattle.cfn_gain.specs.Calls.{GoesOn, Does, Grows};
+ghost use Rattle.cfn_gain.specs.Gains.{GainsBehind};
 
 use crate::limits::{Halt, Limits};
 use cfn_store::Store;
@@ -32,7 +33,7 @@ fn room(store: &Store<'_>, limits: Limits) -> Result<(), Halt>
     }
 }
 
-/// Projects an amount to a value.
+/// Projects an amount to a value. An `Err` leaves the store as it was, as with each of these but `lift`.
 pub fn project(
     store: &mut Store<'_>,
     limits: Limits,
@@ -45,6 +46,8 @@ pub fn project(
     requires fits { FitsProject store.old f place value amount }
     ensures does { Does store.old store.new limits result }
     ensures made { OnOk result (store.new ≡ with_step store.old (Project f place value amount)) }
+    ensures stopped { OnErr result (store.new ≡ store.old) }
+    ensures spent { result ≡ Err Halt.Dead → ⊥ }
 {
     room(store, limits)?;
     store.project(f, place, value, amount);
@@ -64,6 +67,8 @@ pub fn extend(
     requires fits { FitsExtend store.old f place value amount }
     ensures does { Does store.old store.new limits result }
     ensures made { OnOk result (store.new ≡ with_step store.old (Extend f place value amount)) }
+    ensures stopped { OnErr result (store.new ≡ store.old) }
+    ensures spent { result ≡ Err Halt.Dead → ⊥ }
 {
     room(store, limits)?;
     store.extend(f, place, value, amount);
@@ -78,6 +83,7 @@ pub fn lift(store: &mut Store<'_>, limits: Limits, x: u32, least: u64) -> Result
     requires some { 0 < least }
     requires least { IsLeast store.old.network (history store.old) x least }
     ensures does { Does store.old store.new limits result }
+    ensures gains { GainsBehind store.old store.new limits result }
     ensures grows { OnOk result (Grows store.old store.new) }
 {
     room(store, limits)?;
@@ -98,6 +104,7 @@ pub fn cut_value(store: &mut Store<'_>, limits: Limits, x: u32, value: u32) -> R
     requires reaches { CanCutValue store.old.network (history store.old) limits.threshold x value }
     ensures does { Does store.old store.new limits result }
     ensures made { OnOk result (store.new ≡ with_step store.old (CutValue x value)) }
+    ensures gains { IsTrue (is_live (history store.old) x value) → GainsBehind store.old store.new limits result }
 {
     room(store, limits)?;
     store.cut_value(x, value);
@@ -111,6 +118,8 @@ pub fn cut_tuple(store: &mut Store<'_>, limits: Limits, f: u32, cell: u32) -> Re
     requires reaches { CanCutTuple store.old.network (history store.old) limits.threshold f cell }
     ensures does { Does store.old store.new limits result }
     ensures made { OnOk result (store.new ≡ with_step store.old (CutTuple f cell)) }
+    ensures stopped { OnErr result (store.new ≡ store.old) }
+    ensures spent { result ≡ Err Halt.Dead → ⊥ }
 {
     room(store, limits)?;
     store.cut_tuple(f, cell);

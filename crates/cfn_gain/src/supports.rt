@@ -1,12 +1,14 @@
 //! Arc consistency (Larrosa and Schiex 2004): what the live tuples with a value have in common goes to its unary cost.
 
-ghost use Rattle.std.specs.Prelude.{◌≡◌, ◌<◌, length, IsTrue, OnOk};
+ghost use Rattle.std.specs.Prelude.{◌≡◌, ◌-◌, ◌<◌, ◌^◌, length, IsTrue, OnOk};
 ghost use Rattle.cfn_model.specs.Network.{arity, variable_at};
 ghost use Rattle.cfn_model.specs.Sums.{is_live};
 ghost use Rattle.cfn_model.specs.Steps.{IsPlace, CanProject};
+ghost use Rattle.cfn_consistency.specs.Openness.{TakesPart};
 ghost use Rattle.cfn_consistency.specs.Consistency.{HasSupport, IsArcConsistent};
 ghost use Rattle.cfn_store.specs.Standing.{history};
 ghost use Rattle.cfn_gain.specs.Calls.{GoesOn, Does, Shows, Grows};
+ghost use Rattle.cfn_gain.specs.Gains.{Gains, HasCost};
 ghost use Rattle.cfn_gain.specs.Supports.{AreSupported};
 
 use crate::limits::{Halt, Limits};
@@ -14,7 +16,8 @@ use crate::moves::{cut_value, lacking, project};
 use cfn_store::Store;
 
 /// Projects to a live value what all live tuples with it have, at least `least`, but no more than makes its unary cost what
-/// the floor lacks: then it is cut. With no such tuple `least` may be any amount, as the greatest.
+/// the floor lacks: then it is cut. With no such tuple `least` may be any amount, as the greatest. In a function that takes
+/// part the steps are a group, where one of the tuples has no more than `least`.
 pub fn gain(
     store: &mut Store<'_>,
     limits: Limits,
@@ -30,6 +33,7 @@ pub fn gain(
     requires least { CanProject store.old.network (history store.old) f place value least }
     ensures does { Does store.old store.new limits result }
     ensures grows { OnOk result (Grows store.old store.new) }
+    ensures gains { TakesPart store.old.network (history store.old) f → (least < 2 ^ 64 - 1 → HasCost store.old.network (history store.old) f place value least) → Gains store.old store.new limits result }
 {
     store.network().limits();
     let x = store.network().scope(f)[place as usize];
@@ -58,9 +62,10 @@ pub fn support(
     requires place { IsPlace store.old.network f place value }
     requires live { IsTrue (is_live (history store.old) (variable_at store.old.network f place) value) }
     ensures does { Does store.old store.new limits result }
+    ensures gains { TakesPart store.old.network (history store.old) f → Gains store.old store.new limits result }
     ensures support { Shows store.old store.new result (HasSupport store.old.network (history store.old) f place value) }
 {
-    let least = match store.least_residual(f, place, value) {
+    let least = match store.least_support(f, place, value) {
         Some(extreme) => extreme.cost,
         None => u64::MAX,
     };
@@ -76,6 +81,7 @@ pub fn support_at(store: &mut Store<'_>, limits: Limits, f: u32, place: u32) -> 
     requires function { f < length store.old.network.functions }
     requires place { place < arity store.old.network f }
     ensures does { Does store.old store.new limits result }
+    ensures gains { TakesPart store.old.network (history store.old) f → Gains store.old store.new limits result }
     ensures supports { Shows store.old store.new result (AreSupported store.old.network (history store.old) f place) }
 {
     store.network().limits();
@@ -93,6 +99,7 @@ pub fn support_all(store: &mut Store<'_>, limits: Limits, f: u32) -> Result<(), 
     requires goes { GoesOn store.old limits }
     requires function { f < length store.old.network.functions }
     ensures does { Does store.old store.new limits result }
+    ensures gains { TakesPart store.old.network (history store.old) f → Gains store.old store.new limits result }
     ensures supports { Shows store.old store.new result (IsArcConsistent store.old.network (history store.old) f) }
 {
     store.network().limits();

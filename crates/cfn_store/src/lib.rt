@@ -18,6 +18,7 @@ mod scan;
 mod state;
 mod store;
 mod sums;
+mod supports;
 
 pub use line::Line;
 pub use mark::Mark;

@@ -5,7 +5,7 @@ ghost use Rattle.cfn_model.specs.declared.step.Step.{Step as PathStep};
 ghost use Rattle.cfn_model.specs.declared.step.Step.TheVariants.{Project, Extend, Lift, CutValue, CutTuple};
 ghost use Rattle.cfn_model.specs.declared.step.Event.{Event as PathEvent};
 ghost use Rattle.cfn_model.specs.declared.step.Event.TheVariants.{Did, Took, Refused};
-ghost use Rattle.cfn_model.specs.Network.{Fits, arity, cell, dims_at};
+ghost use Rattle.cfn_model.specs.Network.{Fits, arity, cell, cells, dims_at, variable_at};
 ghost use Rattle.cfn_model.specs.Sums.{floor, unary, residual, is_live, is_live_tuple};
 ghost use Rattle.cfn_model.specs.Steps.{IsValue, IsCell, IsPlace, IsDecision};
 ghost use Rattle.cfn_model.specs.Paths.{RunsAlong, TameAlong};
@@ -24,6 +24,7 @@ use crate::line::{Line, costs_nothing, lesser};
 use crate::mark::Mark;
 use crate::scan::{Extreme, Pin, Sense};
 use crate::state::{State, in_common};
+use crate::supports::Supports;
 use cfn_model::{Decision, Event, GREATEST, Step};
 use cfn_net::Network;
 use cfn_proof::{Block, Path};
@@ -42,6 +43,8 @@ pub struct Store<'n> {
     base: usize,
     /// For how many events there is room in all.
     room: usize,
+    /// Where values cost nothing last.
+    supports: Supports,
 }
 
 impl<'n> Model for Store<'n> {
@@ -77,6 +80,7 @@ impl<'n> Store<'n> {
             state: State::at_root(alloc, network)?,
             base: 0,
             room: 0,
+            supports: Supports::make(alloc, network)?,
         })
     }
 
@@ -303,6 +307,98 @@ impl<'n> Store<'n> {
             value,
         };
         self.state.first(self.network, f, pin, pin, Sense::Least)
+    }
+
+    /// The same of a value that is likely to cost nothing where it did so last: that is looked at first. Where it costs nothing
+    /// now is kept for the next time.
+    pub fn least_support(&mut self, f: u32, place: u32, value: u32) -> Option<Extreme>
+        requires { IsPlace self.old.network f place value }
+        ensures least { MatchOption result (NonePicked self.old.network (history self.old) f place value)
+            (IsExtreme self.old.network (history self.old) f place value Least) }
+        ensures same { self.new ≡ self.old }
+    {
+        if let Some(extreme) = self.old_support(f, place, value) {
+            return Some(extreme);
+        }
+        let found = self.least_residual(f, place, value);
+        if let Some(extreme) = found {
+            self.keep_support(f, place, value, extreme);
+        }
+        found
+    }
+
+    /// The tuple with the other value with which a live value cost nothing last, where it costs nothing now.
+    fn old_support(&self, f: u32, place: u32, value: u32) -> Option<Extreme>
+        requires { IsPlace self.now.network f place value }
+        ensures { IfSome result (IsExtreme self.now.network (history self.now) f place value Least) }
+    {
+        self.network.limits();
+        if self.network.scope(f).len() != 2 {
+            return None;
+        }
+        let other = 1 - place;
+        let last = self.last_support(f, place, value, other)?;
+        let line = self.line(f, place, value, other)?;
+        let extreme = line.least(last)?;
+        if extreme.cost == 0 {
+            Some(extreme)
+        } else {
+            None
+        }
+    }
+
+    /// The live value of the other variable with which a value of a function of two variables cost nothing last, where there
+    /// is one. It may cost something now.
+    pub fn last_support(&self, f: u32, place: u32, value: u32, other: u32) -> Option<u32>
+        requires place { IsPlace self.now.network f place value }
+        requires other { other < arity self.now.network f }
+        ensures { IfSome result (λ b. IsPlace self.now.network f other b × IsTrue (is_live (history self.now) (variable_at self.now.network f other) b)) }
+    {
+        self.network.limits();
+        let slot = self.support_slot(f, place, value)?;
+        let last = self.supports.at(f, slot)?;
+        let y = self.network.scope(f)[other as usize];
+        if last < self.network.size(y) && self.is_live(y, last) {
+            Some(last)
+        } else {
+            None
+        }
+    }
+
+    /// Where the support of a value at a place is kept; `None` where the function has another number of variables than two.
+    fn support_slot(&self, f: u32, place: u32, value: u32) -> Option<usize>
+        requires { IsPlace self.now.network f place value }
+    {
+        self.network.limits();
+        let scope = self.network.scope(f);
+        if scope.len() != 2 {
+            return None;
+        }
+        if place == 0 {
+            Some(value as usize)
+        } else {
+            Some(self.network.size(scope[0]) as usize + value as usize)
+        }
+    }
+
+    /// Keeps where a value costs nothing.
+    fn keep_support(&mut self, f: u32, place: u32, value: u32, extreme: Extreme)
+        requires place { IsPlace self.old.network f place value }
+        requires cell { extreme.cell < cells (dims_at self.old.network f) }
+        ensures { self.new ≡ self.old }
+    {
+        self.network.limits();
+        if extreme.cost > 0 {
+            return;
+        }
+        if let Some(slot) = self.support_slot(f, place, value) {
+            let network = self.network;
+            let scope = network.scope(f);
+            if scope.len() == 2 {
+                let last = network.value_at(f, extreme.cell, 1 - place);
+                self.supports.keep(f, slot, last);
+            }
+        }
     }
 
     /// The greatest residual cost of these tuples.

@@ -132,7 +132,7 @@ fn constant(network: &Network, f: u32) -> u64
 }
 
 /// How many words each function's row has. An `Err` is want of memory, or of numbers below 2^32.
-fn widths(alloc: Global, network: &Network) -> Result<Vec<u32>, AllocError>
+pub(crate) fn widths(alloc: Global, network: &Network) -> Result<Vec<u32>, AllocError>
     ensures { IfOk result (λ widths. widths.items ≡ map (width_of network.now) network.now.functions) }
 {
     let mut widths = Vec::with_capacity(alloc, network.functions() as usize)?;

@@ -1,4 +1,4 @@
-use Rattle.cfn_consistency.proofs.Grouping.{nodes_group, groups_join}
+use Rattle.cfn_consistency.proofs.Grouping.{nodes_group, groups_join, open_groups_join}
 use Rattle.cfn_consistency.proofs.laws.groups.Goals as goal
 
 pub returns-clause-nodes : goal.returns-clause-nodes
@@ -6,3 +6,6 @@ returns-clause-nodes c = nodes_group
 
 pub returns-clause-join : goal.returns-clause-join
 returns-clause-join c = groups_join
+
+pub returns-clause-open : goal.returns-clause-open
+returns-clause-open c = open_groups_join

@@ -8,6 +8,12 @@ use Rattle.cfn_dac.specs.Moves.{IsTotalBetween}
 use Rattle.cfn_dac.proofs.Planning.{least_zero, least_more, least_all}
 use Rattle.cfn_dac.proofs.plan.least_along.Goals as goal
 
+pub returns-then-costs_nothing_still : goal.returns-then-costs_nothing_still
+returns-then-costs_nothing_still c =
+    let s = c.args.store.now in
+    let found = c.costs_nothing_still.ensures c.if-costs_nothing_still.true in
+    least_zero s.network (history s) c.args.pair c.args.value found.0 (subst IsNetwork c.network.ensures c.limits.ensures) c.exact.ensures c.requires.pair found.1
+
 pub returns-then-total-eq0 : goal.returns-then-total-eq0
 returns-then-total-eq0 c =
     let s = c.args.store.now in let b = slice_index c.live-other-items.result.now c.loop-other.other-index in

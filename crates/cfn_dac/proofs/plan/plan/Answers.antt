@@ -3,7 +3,7 @@ use Rattle.std.proofs.lemmas.List.{length-set}
 use Rattle.std.specs.Prelude.{slice_index}
 use Rattle.cfn_model.specs.Network.{IsNetwork, variable_at}
 use Rattle.cfn_store.specs.Standing.{history}
-use Rattle.cfn_dac.proofs.Planning.{planned_more, plan_covers, plan_none}
+use Rattle.cfn_dac.proofs.Planning.{planned_more, plan_covers, plan_none, plan_held, plan_reached}
 use Rattle.cfn_dac.proofs.plan.plan.Goals.{then-amount-gt0, else-amount-gt0}
 use Rattle.cfn_dac.proofs.plan.plan.Goals as goal
 
@@ -40,3 +40,17 @@ returns-clause-none c =
     let x = ap (λ l. slice_index l pair.place) c.scope.ensures ∙ ap (λ P. variable_at P pair.function pair.place) c.network-2.ensures in
     let size = c.size-value-end.ensures ∙ ap (λ P. slice_index P.sizes (slice_index c.scope.result.now pair.place)) c.network-3.ensures ∙ ap (slice_index s.network.sizes) x in
     plan_none s.network (history s) pair c.args.alpha c.loop-value.moves c.loop-value.value c.loop-value.some (subst IsNetwork c.network.ensures c.limits.ensures) (omega (arith, c.loop-value-test.false, size)) c.loop-value.invariant.planned
+
+pub returns-clause-held : goal.returns-clause-held
+returns-clause-held c =
+    let s = c.args.store.now in let pair = c.args.pair in
+    let x = ap (λ l. slice_index l pair.place) c.scope.ensures ∙ ap (λ P. variable_at P pair.function pair.place) c.network-2.ensures in
+    let size = c.size-value-end.ensures ∙ ap (λ P. slice_index P.sizes (slice_index c.scope.result.now pair.place)) c.network-3.ensures ∙ ap (slice_index s.network.sizes) x in
+    plan_held s.network (history s) pair c.loop-value.moves (plan_covers s.network (history s) pair c.args.alpha c.loop-value.moves c.loop-value.value c.loop-value.some c.requires.pair (omega (arith, c.loop-value-test.false, size)) c.loop-value.invariant.planned)
+
+pub returns-clause-reached : goal.returns-clause-reached
+returns-clause-reached c =
+    let s = c.args.store.now in let pair = c.args.pair in
+    let x = ap (λ l. slice_index l pair.place) c.scope.ensures ∙ ap (λ P. variable_at P pair.function pair.place) c.network-2.ensures in
+    let size = c.size-value-end.ensures ∙ ap (λ P. slice_index P.sizes (slice_index c.scope.result.now pair.place)) c.network-3.ensures ∙ ap (slice_index s.network.sizes) x in
+    plan_reached s.network (history s) pair c.args.alpha c.loop-value.moves c.loop-value.value c.loop-value.some (subst IsNetwork c.network.ensures c.limits.ensures) (omega (arith, c.loop-value-test.false, size)) c.loop-value.invariant.planned

@@ -1,6 +1,6 @@
 use Rattle.std.proofs.Common.{subst}
 use Rattle.cfn_store.specs.Standing.{history}
-use Rattle.cfn_gain.proofs.CallerLemmas.{does_then, shows_after}
+use Rattle.cfn_gain.proofs.CallerLemmas.{does_then, shows_after, gains_then}
 use Rattle.cfn_dac.specs.Full.{AreAllBelow}
 use Rattle.cfn_consistency.specs.Consistency.{IsDirectional}
 use Rattle.cfn_edac.proofs.looks.direct.Goals as goal
@@ -14,3 +14,6 @@ returns-clause-directed c =
     let one = c.in_ok-levels_of.ensures.does in let two = c.directional.ensures.does in
     shows_after s c.levels_of.new.store c.directional.new.store c.args.limits c.directional.result one.adds two.adds c.in_ok-levels_of.ensures.below c.directional.ensures.directional
     (λ is below late. subst (λ t. AreAllBelow t.network (history t) k f → IsDirectional t.network (history t) f) is late below)
+
+pub returns-clause-gains : goal.returns-clause-gains
+returns-clause-gains c = gains_then c.args.store.now c.levels_of.new.store c.directional.new.store c.args.limits c.directional.result c.in_ok-levels_of.ensures.gains c.directional.ensures.gains

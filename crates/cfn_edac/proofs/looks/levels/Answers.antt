@@ -1,16 +1,31 @@
+use Rattle.cfn_consistency.specs.Groups.{IsBegun}
+use Rattle.cfn_store.specs.Standing.{history}
 use Rattle.std.proofs.Common.{length, ap, arith}
-use Rattle.cfn_gain.proofs.CallerLemmas.{halts_after}
-use Rattle.cfn_edac.proofs.Passing.{LevelAt, pass_more, all_level}
+use Rattle.cfn_gain.proofs.CallerLemmas.{halts_after, passing_start, gained_none, leads_then, gains_halts}
+use Rattle.cfn_edac.proofs.Passing.{LevelAt, none_yet, pass_more, all_level}
 use Rattle.cfn_edac.proofs.looks.levels.Goals as goal
 
 pub returns-in_err-level-clause-does : goal.returns-in_err-level-clause-does
 returns-in_err-level-clause-does c =
-    halts_after c.args.store.now c.loop-x.store c.level.new.store c.args.limits _ c.in_err-level.field-0.0 c.from_residual.result c.loop-x.invariant c.in_err-level.ensures.does c.from_residual.ensures.1
+    halts_after c.args.store.now c.loop-x.store c.level.new.store c.args.limits _ c.in_err-level.field-0.0 c.from_residual.result c.loop-x.invariant.passing c.in_err-level.ensures.does c.from_residual.ensures.1
 
 pub loop-x-preserved : goal.loop-x-preserved
-loop-x-preserved c = pass_more (LevelAt c.args.limits.threshold) c.args.store.now c.loop-x.store c.level.new.store c.args.limits c.loop-x.x c.loop-x.invariant c.in_ok-level.ensures.does c.in_ok-level.ensures.level
+loop-x-preserved c = record {
+  passing = pass_more (LevelAt c.args.limits.threshold) c.args.store.now c.loop-x.store c.level.new.store c.args.limits c.loop-x.x c.loop-x.invariant.passing c.in_ok-level.ensures.does c.in_ok-level.ensures.level;
+  gained = leads_then c.args.store.now c.loop-x.store c.level.new.store IsBegun c.loop-x.invariant.gained c.in_ok-level.ensures.gains;
+}
 
 pub returns-clause-nodes : goal.returns-clause-nodes
 returns-clause-nodes c = λ same.
     let size = ap (λ P. length P.sizes) c.network-network.ensures in
-    all_level c.args.store.now.network _ c.args.limits.threshold c.loop-x.x (omega (arith, c.loop-x-test.false, c.variables-x-end.ensures, size, c.loop-x.auto.x-end)) (c.loop-x.invariant.fact same)
+    all_level c.args.store.now.network _ c.args.limits.threshold c.loop-x.x (omega (arith, c.loop-x-test.false, c.variables-x-end.ensures, size, c.loop-x.auto.x-end)) (c.loop-x.invariant.passing.fact same)
+
+pub loop-x-init : goal.loop-x-init
+loop-x-init c = record {
+  passing = passing_start c.args.store.now c.args.limits _ c.requires.goes (none_yet (LevelAt c.args.limits.threshold c.args.store.now.network (history c.args.store.now)));
+  gained = gained_none c.args.store.now;
+}
+
+pub returns-in_err-level-clause-gains : goal.returns-in_err-level-clause-gains
+returns-in_err-level-clause-gains c =
+    gains_halts c.args.store.now c.loop-x.store c.level.new.store c.args.limits c.in_err-level.field-0.0 c.from_residual.result c.loop-x.invariant.gained c.in_err-level.ensures.gains c.from_residual.ensures.1

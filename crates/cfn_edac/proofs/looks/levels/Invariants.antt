@@ -1,5 +1,9 @@
+use Rattle.cfn_gain.specs.Gains.{Gained}
 use Rattle.cfn_edac.proofs.Passing.{PassingTo, LevelAt}
 use Rattle.cfn_edac.proofs.looks.levels.Given as goal
 
 abbrev pub invariant-loop-x : goal.invariant-loop-x
-invariant-loop-x l = PassingTo (LevelAt l.limits.threshold) l.initial.store l.store l.limits l.x
+invariant-loop-x l = record {
+  passing : PassingTo (LevelAt l.limits.threshold) l.initial.store l.store l.limits l.x;
+  gained : Gained l.initial.store l.store;
+}

@@ -4,7 +4,10 @@ use Rattle.cfn_nc.specs.Passes.{IsLeast}
 use Rattle.cfn_gain.specs.Calls.{Does, Shows}
 use Rattle.cfn_gain.specs.Levels.{AreBelow}
 use Rattle.cfn_gain.proofs.Adding.{does_then}
-use Rattle.cfn_gain.proofs.Leveling.{emptied, level_of, level_grown}
+use Rattle.cfn_gain.proofs.Leveling.{emptied, level_of, level_grown, level_costs}
+use Rattle.cfn_consistency.specs.Groups.{IsBegun}
+use Rattle.cfn_gain.specs.Gains.{Gains}
+use Rattle.cfn_gain.proofs.Gaining.{gained_none, opened, gains_halt, gains_then}
 use Rattle.cfn_gain.proofs.levels.level.Goals.{then-least-gt0+in_ok-lift, else-least-gt0}
 use Rattle.cfn_gain.proofs.levels.level.Goals as goal
 
@@ -34,3 +37,42 @@ returns-clause-level c =
           (subst (IsLeast s.network (history s) c.args.x) (let none = w.if-least-gt0.false in omega (arith, none)) c.least-least.ensures)
           (subst (λ t. Shows t last c.cut_costly.result (AreBelow t.network (history t) k c.args.x)) w.store-is c.cut_costly.ensures.below)
     ]
+
+pub returns-then-is_empty-clause-gains : goal.returns-then-is_empty-clause-gains
+returns-then-is_empty-clause-gains c = gained_none c.args.store.now
+
+pub returns-then-is_empty-clause-closes : goal.returns-then-is_empty-clause-closes
+returns-then-is_empty-clause-closes c = λ costly.
+    (let s = c.args.store.now in let some = costly.some in
+    let found = c.live.ensures.all some.value (record { variable = some.is.variable; value = some.is.value }) some.live in
+    let t = c.if-is_empty.true in let e = c.is_empty.ensures in
+    absurd (let within = found.1 in grind (arith, t, e, within)))
+
+pub returns-in_err-lift-clause-gains : goal.returns-in_err-lift-clause-gains
+returns-in_err-lift-clause-gains c =
+    let s = c.args.store.now in
+    gains_halt s c.lift.new.store c.args.limits c.in_err-lift.field-0.0 c.from_residual.result (c.in_err-lift.ensures.gains s (opened s s IsBegun (gained_none s))) c.from_residual.ensures.1
+
+pub returns-in_err-lift-clause-closes : goal.returns-in_err-lift-clause-closes
+returns-in_err-lift-clause-closes c = λ costly start begins.
+    gains_halt start c.lift.new.store c.args.limits c.in_err-lift.field-0.0 c.from_residual.result (c.in_err-lift.ensures.gains start begins) c.from_residual.ensures.1
+
+pub returns-clause-gains : goal.returns-clause-gains
+returns-clause-gains c =
+    let s = c.args.store.now in let last = c.cut_costly.new.store in let limits = c.args.limits in
+    elim c.if-least-gt0.branch [
+      | then-least-gt0+in_ok-lift w ↦
+          gains_then s w.lift.new.store last limits c.cut_costly.result (w.in_ok-lift.ensures.gains s (opened s s IsBegun (gained_none s)))
+          (subst (λ t. Gains t last limits c.cut_costly.result) w.store-is c.cut_costly.ensures.gains)
+      | else-least-gt0 w ↦ subst (λ t. Gains t last limits c.cut_costly.result) w.store-is c.cut_costly.ensures.gains
+    ]
+
+pub returns-clause-closes : goal.returns-clause-closes
+returns-clause-closes c = λ costly start begins.
+    (let s = c.args.store.now in let last = c.cut_costly.new.store in let limits = c.args.limits in
+    elim c.if-least-gt0.branch [
+      | then-least-gt0+in_ok-lift w ↦
+          gains_then start w.lift.new.store last limits c.cut_costly.result (w.in_ok-lift.ensures.gains start begins)
+          (subst (λ t. Gains t last limits c.cut_costly.result) w.store-is c.cut_costly.ensures.gains)
+      | else-least-gt0 w ↦ absurd (level_costs s c.args.x c.least-least.result c.least-least.ensures costly (let none = w.if-least-gt0.false in omega (arith, none)))
+    ])

@@ -1,4 +1,6 @@
+use Rattle.std.proofs.Common.{refl}
 use Rattle.cfn_gain.proofs.Moving.{lift_does, lift_dead}
+use Rattle.cfn_gain.proofs.Gaining.{gains_refused, due_lift, lift_closes}
 use Rattle.cfn_gain.proofs.moves.lift.Goals as goal
 
 pub returns-then-least-lacks-clause-does : goal.returns-then-least-lacks-clause-does
@@ -10,3 +12,14 @@ pub returns-else-least-lacks-clause-does : goal.returns-else-least-lacks-clause-
 returns-else-least-lacks-clause-does c =
     let q = c.requires in
     lift_dead c.args.store.now c.lift.new.self c.args.limits c.args.x c.args.least c.min.result c.lacking-lacks.result q.goes q.variable q.least c.lacking-lacks.ensures c.min.ensures c.if-least-lacks.false c.in_ok-room.ensures.ok c.lift.ensures
+
+pub returns-in_err-room-clause-gains : goal.returns-in_err-room-clause-gains
+returns-in_err-room-clause-gains c = λ before begins.
+    let s = c.args.store.now in let q = c.requires in
+    gains_refused before s s c.args.limits c.from_residual.result c.in_err-room.field-0.0 begins (due_lift s c.args.limits c.args.x c.args.least q.variable q.least q.some) refl c.in_err-room.ensures.err c.from_residual.ensures.1
+
+pub returns-then-least-lacks-clause-gains : goal.returns-then-least-lacks-clause-gains
+returns-then-least-lacks-clause-gains c = λ before begins. lift_closes before c.args.store.now c.lift.new.self c.args.x c.min.result begins c.lift.ensures
+
+pub returns-else-least-lacks-clause-gains : goal.returns-else-least-lacks-clause-gains
+returns-else-least-lacks-clause-gains c = λ before begins. lift_closes before c.args.store.now c.lift.new.self c.args.x c.min.result begins c.lift.ensures

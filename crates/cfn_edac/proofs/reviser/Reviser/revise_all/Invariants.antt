@@ -1,11 +1,13 @@
 use Rattle.std.proofs.Common.{◌≡◌, ◌-◌, length}
 use Rattle.cfn_gain.specs.Calls.{Passing}
+use Rattle.cfn_gain.specs.Gains.{Gained}
 use Rattle.cfn_edac.specs.Revising.{HoldsIn}
 use Rattle.cfn_edac.proofs.reviser.Reviser.revise_all.Given as goal
 
 abbrev pub invariant-loop-store : goal.invariant-loop-store
 invariant-loop-store l = record {
   passing : Passing l.initial.store l.store l.limits (Unit {0});
+  gained : Gained l.initial.store l.store;
   network : l.self.network ≡ l.initial.self.network;
   holds : HoldsIn l.store l.self.due;
 }
