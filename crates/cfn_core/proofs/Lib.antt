@@ -1,3 +1,4 @@
+pub mod Reading
 pub mod Views
 pub mod Keeping
 pub mod Handing

@@ -9,7 +9,8 @@ use Rattle.cfn_model.specs.Tree.{Valid, bound, open_leaves}
 use Rattle.cfn_machine.specs.Pool.{Mark, Free, Out, PoolTree, Leaf, Shut, Fork, tree_of, IsLeaf, leaf_of, Task, IsTask, Piece, IsSound, AreNumbered, price}
 use Rattle.cfn_machine.specs.Steps.{IsOut}
 use Rattle.cfn_machine.specs.Laws.{AgreesOnce}
-use Rattle.cfn_core.specs.World.{World, HasWordRule, view_at, opening}
+use Rattle.cfn_machine.specs.Word.{HasWord}
+use Rattle.cfn_core.specs.World.{World, HasWordRule, view_at, opening, sights_of}
 use Rattle.cfn_core.specs.Actions.{Action, Look, Lower, Note, Meet, Take, Give, Back, Recall, Sweep, Reply, Idle, Given, Gone, Done, IsAction, IsThere, Acts, Runs, AreActions}
 
 -- The pool is sound, and the word keeps its rule.
@@ -95,6 +96,10 @@ IsFound = (P : Network) (w : World) → IsWorld P w → w.word < P.upper → (va
 abbrev pub Solves : Type 0
 Solves = (P : Network) (w : World) → IsNetwork P → IsWorld P w → open_leaves (tree_of w.pool.tree) ≡ 0 →
     (w.word < P.upper → Least P w.word) × (w.word ≡ P.upper → (values : List ℕ) → Fits P.sizes values → cost P values ≡ P.upper)
+
+-- The word of such a world keeps the rule that the word keeps in memory.
+abbrev pub ReadsAsWord : Type 0
+ReadsAsWord = (P : Network) (w : World) → HasWordRule P w → HasWord P.upper w.word (sights_of P w)
 
 -- No action calls the leaves back.
 abbrev pub IsNoRecall : Action → Type 0

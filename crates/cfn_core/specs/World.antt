@@ -1,7 +1,8 @@
 -- The world around the pool: the word, which is the least price that was found, what each worker has seen of it, notes
 -- of what was seen, and the tasks in hand.
-use Rattle.std.specs.Prelude.{◌≡◌, ℕ, ◌+◌, ◌-◌, ◌<◌, ◌≤◌, min, List, [], ◌∷◌, replicate, slice_index_or, Option, Some, None}
+use Rattle.std.specs.Prelude.{◌≡◌, ℕ, ◌+◌, ◌-◌, ◌<◌, ◌≤◌, min, List, [], ◌∷◌, ◌++◌, map, replicate, slice_index_or, Option, Some, None}
 use Rattle.cfn_model.specs.Network.{Network}
+use Rattle.cfn_machine.specs.declared.sight.Sight.{Sight}
 use Rattle.cfn_machine.specs.Pool.{Task, View, Pool, price, KeepsFitting, new_view, opening_pool}
 
 pub record World : Type 0 where
@@ -51,6 +52,25 @@ pub record HasWordRule (P : Network) (w : World) : Type 0 where
   pub one : (i : ℕ) (view : View) → view_at w.views i ≡ Some view → view.shares ≡ 1
   pub some : 0 < w.pool.view.shares
   pub all : w.pool.view.shares + shares_of w.views ≡ 128
+
+-- The word as all see it who have a part of it: the pool, the workers, and notes. A view that was met and a note have no
+-- share, and keep nothing.
+abbrev pub idle_sight : ℕ → ℕ → Sight
+idle_sight top seen = record { best = top; seen = seen; shares = 0 }
+
+abbrev pub sight_of : Network → View → Sight
+sight_of P view = record { best = price P view.best; seen = view.seen; shares = view.shares }
+
+abbrev pub view_sight : Network → Option View → Sight
+view_sight P None = idle_sight P.upper P.upper
+view_sight P (Some view) = sight_of P view
+
+abbrev pub note_sight : Network → Option ℕ → Sight
+note_sight P None = idle_sight P.upper P.upper
+note_sight P (Some seen) = idle_sight P.upper seen
+
+abbrev pub sights_of : Network → World → List Sight
+sights_of P w = sight_of P w.pool.view ∷ map (view_sight P) w.views ++ map (note_sight P) w.notes
 
 -- The opening for workers 0 to workers - 1, and the main thread as one more: the pool's, and nothing found.
 abbrev pub opening : Network → ℕ → ℕ → World

@@ -1,7 +1,7 @@
 //! What holds of the pool machine, each the contract of a function with nothing to do.
 
 ghost use Rattle.cfn_core.specs.Examples.{IsSplittable, SplitSpends, RecallRefuses, one_variable};
-ghost use Rattle.cfn_core.specs.Laws.{Opens, Keeps, OpensNumbered, KeepsNumbered, OpensHanded, KeepsHanded, Holds, IsFound, Solves, EndsAtMost, MeetsAll, HandsOutTasks, NeverGone, AnswersAll, AnswersOnce, AnswersNobody, RunsAll, RunsOnce};
+ghost use Rattle.cfn_core.specs.Laws.{Opens, Keeps, OpensNumbered, KeepsNumbered, OpensHanded, KeepsHanded, Holds, IsFound, Solves, EndsAtMost, MeetsAll, HandsOutTasks, NeverGone, AnswersAll, AnswersOnce, AnswersNobody, RunsAll, RunsOnce, ReadsAsWord};
 
 /// At the opening the pool is sound and the word keeps its rule, and each action of a worker keeps both.
 pub fn each_action()
@@ -42,6 +42,12 @@ pub fn solved()
 pub fn thresholds()
     ensures ends { EndsAtMost }
     ensures meets { MeetsAll }
+{}
+
+/// Of the word in a world all is true that is true of one in memory: it is the least of all that is kept, and at most all that
+/// was seen, and its shares are 128.
+pub fn words()
+    ensures { ReadsAsWord }
 {}
 
 /// The path of a task that is handed out runs at some threshold, with small costs all along it, and its grant is 1 to

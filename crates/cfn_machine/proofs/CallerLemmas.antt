@@ -7,3 +7,4 @@ pub use Rattle.cfn_machine.proofs.Covering.{covered, rises}
 pub use Rattle.cfn_machine.proofs.Tracing.{hands_out, takes_out}
 pub use Rattle.cfn_machine.proofs.Outgoing.{stays_out, was_out}
 pub use Rattle.cfn_machine.proofs.Answering.{takes_or_none, never_both, one_lack, gives_or_not, gives_out, returns_or_not, returns_out, one_task, one_pool}
+pub use Rattle.cfn_machine.proofs.Words.{best_top}

@@ -9,3 +9,4 @@ pub mod Tracing
 pub mod Outgoing
 pub mod CallerLemmas
 pub mod Rows
+pub mod Words

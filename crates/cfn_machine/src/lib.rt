@@ -9,3 +9,6 @@
 #![tactic(auto)]
 
 pub mod laws;
+mod sight;
+
+pub use sight::Sight;

@@ -1,0 +1,13 @@
+mod Offsets
+pub mod Counting
+mod Agreeing
+pub mod Going
+mod Striking
+mod Lowering
+mod Banning
+mod Looking
+mod Deriving
+mod Flags
+mod Noting
+pub mod Alive
+pub mod CallerLemmas

@@ -1,0 +1,16 @@
+use Rattle.cfn_derivation.specs.Banned.{bans_of}
+use Rattle.cfn_derivation.proofs.Going.{goes_then}
+use Rattle.cfn_derivation.proofs.Looking.{looking_start, looking_next}
+use Rattle.cfn_derivation.proofs.looks.look_at.Goals as goal
+
+pub loop-value-init : goal.loop-value-init
+loop-value-init c = looking_start c.args.q (bans_of c.args.bans.now) c.args.store.now c.args.work.now c.args.f c.args.place c.requires.room c.requires.alive c.requires.part
+
+pub returns-then-look_value-clause-goes : goal.returns-then-look_value-clause-goes
+returns-then-look_value-clause-goes c =
+    goes_then c.args.q (bans_of c.args.bans.now) c.args.store.now c.loop-value.store c.look_value.new.store c.args.work.now c.loop-value.work c.look_value.new.work c.loop-value.invariant.goes c.look_value.ensures.goes
+
+pub loop-value-preserved : goal.loop-value-preserved
+loop-value-preserved c =
+    looking_next c.args.q (bans_of c.args.bans.now) c.args.store.now c.loop-value.store c.look_value.new.store c.args.work.now c.loop-value.work c.look_value.new.work c.args.f c.args.place c.loop-value.value c.loop-value.invariant
+    c.look_value.ensures.goes (c.look_value.ensures.alive c.if-look_value.false) c.look_value.ensures.quiet

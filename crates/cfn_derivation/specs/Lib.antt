@@ -1,0 +1,4 @@
+pub mod Derived
+pub mod Working
+pub mod Watched
+pub mod Banned

@@ -1,0 +1,93 @@
+ghost use Rattle.std.specs.Prelude.{◌≡◌, ◌≤◌, true};
+ghost use Rattle.cfn_store.specs.Standing.{history};
+ghost use Rattle.cfn_derivation.specs.Derived.{AllAlive, value_count};
+
+use super::*;
+use cfn_incidence::Incidence;
+use cfn_net::{Builder, Network};
+use cfn_store::Store;
+use std::alloc::{AllocError, Global};
+use std::test::*;
+
+/// Value 1 of the first variable costs 2; its value 0 excludes the value 0 of the second and of the third by 1, and these two are
+/// not to have value 1 together.
+fn vac(alloc: Global) -> Result<Network, AllocError> {
+    let mut builder = Builder::make(alloc, b"vac", &[2, 2, 2], 10)?;
+    builder.function(&[0], 0, &[([1].as_slice(), 2)])?;
+    builder.function(&[0, 1], 0, &[([0, 0].as_slice(), 1)])?;
+    builder.function(&[0, 2], 0, &[([0, 0].as_slice(), 1)])?;
+    builder.function(&[1, 2], 0, &[([1, 1].as_slice(), 1)])?;
+    builder.finish()
+}
+
+/// Whether each variable has a live value.
+fn are_alive(store: &Store<'_>) -> bool
+    ensures { result ≡ true → AllAlive store.now.network (history store.now) }
+{
+    for x in 0..store.network().variables() {
+        if store.count(x) == 0 {
+            return false;
+        }
+    }
+    true
+}
+
+/// What a derivation at 1 comes to, where each variable has a live value.
+fn derived(
+    deriver: &mut Deriver<'_>,
+    store: &mut Store<'_>,
+    incidence: &Incidence,
+    bans: &Bans<'_>,
+) -> Option<Derived>
+    requires network { store.old.network ≡ deriver.old.network }
+    requires incidence { incidence.now ≡ deriver.old.network }
+    requires bans { bans.now.network ≡ deriver.old.network }
+    requires room { value_count deriver.old.network ≤ store.old.spare }
+{
+    deriver.begin(store, false, 1);
+    if !are_alive(store) {
+        return None;
+    }
+    Some(deriver.derive(store, incidence, 1, bans))
+}
+
+/// The same in a store of the network.
+fn derived_in(
+    alloc: Global,
+    network: &Network,
+    incidence: &Incidence,
+    bans: &Bans<'_>,
+    deriver: &mut Deriver<'_>,
+) -> Result<Option<Derived>, AllocError>
+    requires network { deriver.old.network ≡ network.now }
+    requires incidence { incidence.now ≡ network.now }
+    requires bans { bans.now.network ≡ network.now }
+{
+    let mut store = Store::build(alloc, network)?;
+    store.reserve(deriver.room())?;
+    Ok(derived(deriver, &mut store, incidence, bans))
+}
+
+/// The same with no bans, and how many values were deleted.
+fn derived_of(
+    alloc: Global,
+    network: &Network,
+    incidence: &Incidence,
+) -> Result<(Option<Derived>, usize), AllocError>
+    requires { incidence.now ≡ network.now }
+{
+    let bans = Bans::make(alloc, network)?;
+    let mut deriver = Deriver::make(alloc, network)?;
+    let answer = derived_in(alloc, network, incidence, &bans, &mut deriver)?;
+    Ok((answer, deriver.deletions().len()))
+}
+
+#[test]
+fn second_variable_is_emptied(rt: HostRuntime) -> Result<(), Fail> {
+    let network = vac(rt.alloc())?;
+    let incidence = Incidence::build(rt.alloc(), &network)?;
+    let (answer, deleted) = derived_of(rt.alloc(), &network, &incidence)?;
+    assert!(rt; answer == Some(Derived::Emptied(1)));
+    assert_eq!(rt; deleted, 4);
+    Ok(())
+}

@@ -1,0 +1,9 @@
+pub mod Running
+pub mod Numbers
+pub mod Cuts
+pub mod Gathering
+pub mod Derived
+pub mod Wanting
+pub mod Walking
+pub mod Lifts
+pub mod Roots

@@ -1,0 +1,45 @@
+//! The amounts at which virtual arc consistency is tried: none is above what a live value or a tuple costs.
+
+ghost use Rattle.std.specs.Prelude.{◌<◌, ◌≤◌};
+
+use crate::power::power_within;
+use cfn_store::Store;
+
+/// The greatest power of two that is at most a threshold, and at most the greatest cost that something live had before it was
+/// given more; 1 where nothing costs anything. At a greater amount nothing would be deleted.
+pub(crate) fn first_amount(store: &Store<'_>, threshold: u64) -> u64
+    requires { 0 < threshold }
+    ensures some { 0 < result }
+    ensures within { result ≤ threshold }
+{
+    let greatest = greatest_unary(store).max(greatest_entry(store));
+    power_within(threshold.min(greatest.max(1)))
+}
+
+/// The greatest unary cost of a live value, or 0.
+fn greatest_unary(store: &Store<'_>) -> u64 {
+    store.network().limits();
+    let mut greatest = 0;
+    for x in 0..store.network().variables() {
+        for value in store.live(x) {
+            greatest = greatest.max(store.unary(x, *value));
+        }
+    }
+    greatest
+}
+
+/// The greatest entry of a function below the upper bound, or 0.
+fn greatest_entry(store: &Store<'_>) -> u64 {
+    let network = store.network();
+    network.limits();
+    let upper = network.ub();
+    let mut greatest = 0;
+    for f in 0..network.functions() {
+        for entry in network.table(f) {
+            if *entry < upper {
+                greatest = greatest.max(*entry);
+            }
+        }
+    }
+    greatest
+}
