@@ -1,3 +1,4 @@
+pub mod Rounds
 pub mod Growing
 pub mod Waits
 pub mod Bounds

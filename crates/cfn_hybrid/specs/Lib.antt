@@ -7,3 +7,5 @@ pub mod Searching
 pub mod Judging
 pub mod Enforcing
 pub mod Chain
+pub mod Splitting
+pub mod Limit

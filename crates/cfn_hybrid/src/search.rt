@@ -32,35 +32,37 @@ ghost use Rattle.cfn_gain.specs.Calls.{Adds};
 ghost use Rattle.cfn_edac.specs.Settling.{IsBehindSettled};
 ghost use Rattle.cfn_hybrid.specs.Enforcing.{Finds, IsSettledAt, since_of};
 ghost use Rattle.cfn_hybrid.specs.Searching.{CanBranch};
+ghost use Rattle.cfn_hybrid.specs.Limit.{step_limit};
+ghost use Rattle.cfn_hybrid.specs.Splitting.{IsFirstValue, IsTakenUp};
+ghost use Rattle.cfn_model.specs.declared.step.Event.TheVariants.{Took};
+ghost use Rattle.cfn_model.specs.declared.step.Decision.TheVariants.{Is};
 ghost use Rattle.cfn_hybrid.specs.Sound.{Sound, StandsBehind, price_of};
 ghost use Rattle.cfn_hybrid.specs.Judging.{AreJudged};
 ghost use Rattle.cfn_hybrid.specs.Rows.{HasRows, AllListed, known};
 ghost use Rattle.cfn_hybrid.specs.Diving.{Begins, EndsWith, IsLeastFloor, limit_after as next_limit};
 
+use crate::limit::{MOST_STEPS, step_limit};
+use crate::propagation::{Asked, since};
+use crate::root::{Around, enforce};
 use crate::route::path_to;
+use crate::rows::{first_row, least_floor, opening_floor, push_row, upper_of};
+use crate::values::{first_value, held, offer, take_values};
 use cfn_branch::{Weights, choose};
 use cfn_close::shut;
 use cfn_edac::Enforcer;
-use cfn_gain::Limits;
 use cfn_incidence::Incidence;
 use cfn_model::{Decision, Event};
-use cfn_nc::{Settling, is_wiped};
+use cfn_nc::Settling;
 use cfn_net::{Network, Scored};
 use cfn_open::{OpenLeaf, OpenList};
 use cfn_proof::{Certificate, NodeId, Outcome, Row, Stop, Tree};
 use cfn_store::{Mark, Store};
 use std::alloc::{AllocError, Global};
 
-/// At most how many steps one node's propagation makes.
-const STEPS: usize = 65536;
-
 /// How many backtracks a dive may make at first and at least, and at most.
 const FEWEST_BACKTRACKS: u64 = 16;
 
 const MOST_BACKTRACKS: u64 = 128;
-
-/// How many rows of bounds are kept at most.
-const MOST_ROWS: usize = 256;
 
 /// An open leaf that waits: the second child of a split that the store's path goes through.
 #[derive(Drop)]
@@ -100,6 +102,8 @@ pub struct State<'n> {
     /// Bounds that held at the beginning and between dives, and the newest lower bound.
     pub rows: Vec<Row>,
     pub lower: u64,
+    /// By how many steps enforcing may go at a node.
+    pub steps: usize,
     /// Room for the numbers of the nodes on one path.
     pub chain: Vec<NodeId>,
     pub best: Scored,
@@ -119,6 +123,7 @@ impl<'n> State<'n> {
         ensures nodes { IfOk result (λ state. state.nodes ≡ 0) }
         ensures floor { IfOk result (λ state. state.floor ≡ floor network.now []) }
         ensures limit { IfOk result (λ state. (state.limit ≡ 16) × (state.left ≡ 16)) }
+        ensures steps { IfOk result (λ state. state.steps ≡ step_limit network.now) }
     {
         let store = Store::build(alloc, network)?;
         let floor = store.floor();
@@ -141,6 +146,7 @@ impl<'n> State<'n> {
             left: FEWEST_BACKTRACKS,
             rows,
             lower,
+            steps: step_limit(network),
             chain: Vec::new(alloc),
             best,
             values,
@@ -217,17 +223,24 @@ impl<'n> State<'n> {
         ensures nodes { self.new.nodes ≡ self.old.nodes }
     {
         network.limits();
-        let closing = network.variables() as usize + 2 * network.functions() as usize;
-        self.store.reserve(STEPS + closing + 1)?;
-        let k = self.best.price();
-        let since = self.since;
-        match propagate(
+        let closing = network.variables() as usize + 2 * network.functions() as usize + 1;
+        let asked = Asked {
+            threshold: self.best.price(),
+            steps: self.steps.min(MOST_STEPS),
+            since: self.since,
+        };
+        let around = Around {
+            more: closing,
+            is_root: leaf == Tree::ROOT,
+        };
+        match enforce(
+            alloc,
             &mut self.enforcer,
             &mut self.store,
             &self.incidence,
-            k,
-            since,
-        ) {
+            asked,
+            around,
+        )? {
             Settling::Dead => self.close_dead(alloc, leaf),
             Settling::Settled => self.branch(alloc, network, leaf, true),
             Settling::Spent => self.branch(alloc, network, leaf, false),
@@ -296,6 +309,7 @@ impl<'n> State<'n> {
         ensures ok { OnOk result (IsSearching self.old.store.network (self.old.nodes + 1) self.new) }
         ensures err { OnErr result (IsStopped self.old.store.network self.old self.new) }
         ensures nodes { self.new.nodes ≡ self.old.nodes }
+        ensures since { OnOk result ((a : ℕ) × IsFirstValue self.old.store self.old.best.held x a × (self.new.since ≡ since_of settled (Took (Is x a)))) }
     {
         let value = first_value(
             &self.best,
@@ -366,6 +380,7 @@ impl<'n> State<'n> {
         ensures nodes { self.new.nodes ≡ self.old.nodes }
         ensures ends { self.old.left ≡ 0 → self.new.current ≡ None }
         ensures counts { IfSome self.new.current (λ leaf. self.new.left + 1 ≡ self.old.left) }
+        ensures since { IfSome self.new.current (λ leaf. IsTakenUp self.old.waiting.items leaf self.new.since) }
     {
         let price = self.best.price();
         self.current = None;
@@ -574,6 +589,7 @@ impl<'n> State<'n> {
             left: _,
             rows,
             lower: _,
+            steps: _,
             chain: _,
             best,
             values: _,
@@ -645,82 +661,6 @@ fn limit_after(limit: u64, left: bool) -> u64
     }
 }
 
-/// The value that a split tries first: that of the best assignment where it is live, and else the one that asks least.
-fn first_value(
-    best: &Scored,
-    enforcer: &mut Enforcer<'_>,
-    store: &Store<'_>,
-    incidence: &Incidence,
-    x: u32,
-) -> u32
-    requires network { store.now.network ≡ enforcer.old }
-    requires incidence { incidence.now ≡ enforcer.old }
-    requires undecided { IsOpen store.now x }
-    requires solution { IsBest store.now.network best.now.held }
-    ensures choice { IsChoice store.now x result }
-    ensures same { enforcer.new ≡ enforcer.old }
-{
-    store.network().limits();
-    if let Some(values) = best.values() {
-        let value = values[x as usize];
-        if store.is_live(x, value) {
-            return value;
-        }
-    }
-    enforcer.cheapest(store, incidence, x)
-}
-
-/// The side by which a store stands behind a place, where it was fully consistent there.
-fn since(settled: bool, side: Event) -> Option<Event>
-    ensures { result ≡ since_of settled side }
-{
-    if settled { Some(side) } else { None }
-}
-
-/// Makes a store fully consistent at a threshold, as far as its steps go, and answers whether it is dead then, or consistent,
-/// or neither.
-fn propagate(
-    enforcer: &mut Enforcer<'_>,
-    store: &mut Store<'_>,
-    incidence: &Incidence,
-    k: u64,
-    since: Option<Event>,
-) -> Settling
-    requires network { store.old.network ≡ enforcer.old }
-    requires incidence { incidence.now ≡ enforcer.old }
-    requires threshold { k ≤ enforcer.old.upper }
-    requires room { 65536 ≤ length store.old.block + store.old.spare }
-    requires since { IfSome since (IsBehindSettled store.old) }
-    ensures adds { Adds store.old store.new (record { threshold = k; steps = 65536 }) }
-    ensures finds { Finds store.new.network (history store.new) k result }
-    ensures same { enforcer.new ≡ enforcer.old }
-{
-    store.network().limits();
-    let limits = Limits {
-        threshold: k,
-        steps: STEPS,
-    };
-    match enforcer.settle(store, incidence, limits, since) {
-        Settling::Dead => Settling::Dead,
-        Settling::Settled => Settling::Settled,
-        Settling::Spent => {
-            if is_dead(store, k) {
-                Settling::Dead
-            } else {
-                Settling::Spent
-            }
-        }
-    }
-}
-
-/// Whether the floor reaches a threshold, or a variable has no live value.
-fn is_dead(store: &Store<'_>, k: u64) -> bool
-    ensures dead { result ≡ true → CanClose store.now.network (history store.now) k }
-    ensures alive { result ≡ false → CanClose store.now.network (history store.now) k → ⊥ }
-{
-    store.floor() >= u128::from(k) || is_wiped(store.network(), store)
-}
-
 /// Searches a network for an assignment of least cost, expanding at most `budget` leaves.
 ///
 /// In a dive the newest open leaf is expanded first, and of two new children the first; a dive begins at the open leaf of
@@ -736,64 +676,6 @@ pub fn solve(alloc: Global, network: &Network, budget: u64) -> Result<Outcome, A
     Ok(state.finish(network, lower, budget))
 }
 
-/// The floor of a network before any step, capped at its upper bound.
-fn opening_floor(network: &Network, sum: u128) -> u64
-    requires { sum ≡ floor network.now [] }
-    ensures { result ≡ min network.now.upper (floor network.now []) }
-{
-    sum.min(u128::from(network.ub())) as u64
-}
-
-/// The opening row, with room for all others. An `Err` is want of memory.
-fn first_row(alloc: Global, lower: u64) -> Result<Vec<Row>, AllocError>
-    ensures rows { IfOk result (λ rows. rows.items ≡ record { lower = lower; upper = None } ∷ []) }
-    ensures room { IfOk result (λ rows. 256 ≤ vec_capacity rows) }
-{
-    let mut rows = Vec::with_capacity(alloc, MOST_ROWS)?;
-    rows.push_reserved(Row { lower, upper: None });
-    Ok(rows)
-}
-
-/// Adds a row, unless it is the same as the last one, or as many rows are there as are kept. It takes no memory.
-fn push_row(rows: &mut Vec<Row>, row: Row)
-    requires { 256 ≤ vec_capacity rows.old }
-    ensures rows { (rows.new.items ≡ rows.old.items) ⊎ (rows.new.items ≡ rows.old.items ++ row ∷ []) }
-    ensures kept { length rows.old.items < 256 → EndsWith rows.new.items row }
-    ensures room { 256 ≤ vec_capacity rows.new }
-{
-    if rows.len() < MOST_ROWS && !is_last(rows, row) {
-        rows.push_reserved(row);
-    }
-}
-
-/// Whether a row is the same as the last one.
-fn is_last(rows: &[Row], row: Row) -> bool
-    ensures { result ≡ true → EndsWith rows.now row }
-{
-    match rows.last() {
-        Some(last) => last.lower == row.lower && last.upper == row.upper,
-        None => false,
-    }
-}
-
-/// The least of a price and the floors of leaves.
-fn least_floor(others: &OpenList, price: u64) -> u64
-    ensures { IsLeastFloor price others.now.leaves result }
-{
-    match others.least() {
-        Some(least) => least.floor.min(u128::from(price)) as u64,
-        None => price,
-    }
-}
-
-/// The cost of the assignment that is held, if one is.
-fn upper_of(best: &Scored) -> Option<u64>
-    ensures { result ≡ known best.now.held }
-{
-    best.values()?;
-    Some(best.price())
-}
-
 /// Closes an open leaf whose floor reaches the price, and else takes its floor into the lower bound. It takes no memory.
 fn judge(tree: &mut Tree, leaf: NodeId, floor: u128, price: u64, lower: u64) -> u64
     requires there { leaf.number < length tree.old }
@@ -807,45 +689,5 @@ fn judge(tree: &mut Tree, leaf: NodeId, floor: u128, price: u64, lower: u64) -> 
     } else {
         tree.shut(leaf);
         lower
-    }
-}
-
-/// The first live value of each variable.
-fn take_values(store: &Store<'_>, values: &mut [u32])
-    requires same { length values.old ≡ length store.now.network.sizes }
-    requires some { (x : ℕ) → x < length store.now.network.sizes → 1 ≤ choices store.now x }
-    ensures same { length values.new ≡ length values.old }
-    ensures each { (x : ℕ) → x < length store.now.network.sizes → IsChoice store.now x (slice_index values.new x) }
-{
-    store.network().limits();
-    for x in 0..store.network().variables() {
-        values[x as usize] = store.live(x)[0];
-    }
-}
-
-/// Takes an assignment over where it costs less than what is held.
-fn offer(best: &mut Scored, network: &Network, values: &[u32])
-    requires same { best.old.network ≡ network.now }
-    requires fits { Fits network.now.sizes values.now }
-    requires solution { IsBest network.now best.old.held }
-    ensures network { best.new.network ≡ network.now }
-    ensures solution { IsBest network.now best.new.held }
-    ensures price { price_of best.new ≡ min (price_of best.old) (cost network.now values.now) }
-{
-    network.limits();
-    if network.cost(values).value() < best.price() {
-        best.fill(network, values);
-    }
-}
-
-/// A buffer that holds an assignment, or nothing where it is empty. It takes no memory.
-fn held(best: Scored) -> Option<Scored>
-    ensures solution { solution_of result ≡ best.held }
-    ensures held { ForSome result (λ scored. IsTrue (is_some scored.held)) }
-{
-    if best.values().is_some() {
-        Some(best)
-    } else {
-        None
     }
 }

@@ -11,6 +11,14 @@ const TEN: &[u8] = b"const 1 2 1 10\n2\n0 10 0\n";
 /// Two variables with two values. One tuple costs 3, and all others 2.
 const ARC: &[u8] = b"arc 2 2 1 10\n2 2\n2 0 1 2 1\n0 0 3\n";
 
+/// Three variables with two values. A value of the first costs 2, or 1, and the functions of two variables rule out that the
+/// root's bound stays at 0 where 2 can be gathered from it: one unit for each of the two others.
+const DEAR: &[u8] =
+    b"vac 3 2 4 10\n2 2 2\n1 0 0 1\n1 2\n2 0 1 0 1\n0 0 1\n2 0 2 0 1\n0 0 1\n2 1 2 0 1\n1 1 1\n";
+
+const CHEAP: &[u8] =
+    b"vac 3 2 4 10\n2 2 2\n1 0 0 1\n1 1\n2 0 1 0 1\n0 0 1\n2 0 2 0 1\n0 0 1\n2 1 2 0 1\n1 1 1\n";
+
 /// Two costs of the greatest number on one value.
 const TOP: &[u8] =
     b"top 1 1 2 9223372036854775807\n1\n1 0 9223372036854775807 0\n1 0 9223372036854775807 0\n";
@@ -41,6 +49,20 @@ fn root_lifts_what_all_tuples_cost(rt: HostRuntime) -> Result<(), Fail> {
     let certificate =
         b"wcspcert 2\nnetwork 2 1 10\nlower 2\nbest none\ntree\np 0 0 0 2\np 0 0 1 2\nu 0 2\nsplit 0 0\nopen\nopen\nend\n";
     assert_eq!(rt; run.certificate(), certificate.as_slice());
+    Ok(())
+}
+
+/// Virtual arc consistency lifts the root's bound by whole units alone.
+#[test]
+fn root_gathers_whole_units(rt: HostRuntime) -> Result<(), Fail> {
+    let rows: [(&[u8], &[u8]); 2] = [(DEAR, b"lower 1\n"), (CHEAP, b"lower 0\n")];
+    for (file, lower) in rows {
+        let words = ["wcspsolve", "solve", "in", "out", "--budget", "1"];
+        let run = Run::of(&rt, &words, file, &[])?;
+        assert_eq!(rt; run.status, 2);
+        assert!(rt; run.says(lower));
+        assert!(rt; run.says(b"upper none\nnodes 1\nresult budget\n"));
+    }
     Ok(())
 }
 

@@ -1,7 +1,8 @@
-use Rattle.std.proofs.Common.{◌+◌, ◌≤◌, [], ◌++◌, refl, sym, ap, ◌∙◌, subst, arith}
+use Rattle.std.proofs.Common.{◌≡◌, ◌+◌, ◌≤◌, List, [], ◌∷◌, ◌++◌, refl, sym, ap, ◌∙◌, subst, arith}
 use Rattle.std.specs.Prelude.{IfSome}
 use Rattle.cfn_model.specs.declared.step.Event.TheVariants.{Refused}
-use Rattle.std.proofs.lemmas.List.{append-nil}
+use Rattle.std.proofs.lemmas.List.{append-nil, append_assoc}
+use Rattle.cfn_hybrid.specs.declared.search.Waiting.{Waiting}
 use Rattle.cfn_model.specs.Steps.{IsDecision, after}
 use Rattle.cfn_store.specs.Standing.{history}
 use Rattle.cfn_edac.specs.Settling.{IsBehindSettled}
@@ -13,6 +14,21 @@ use Rattle.cfn_hybrid.specs.Others.{AreListed, idle}
 use Rattle.cfn_hybrid.proofs.Growing.{last_there, last_free}
 use Rattle.cfn_hybrid.proofs.Going.{popped, has_room, same_network, along_back, stands, along_now, floor_now, swept}
 use Rattle.cfn_hybrid.proofs.search.State.go_back.Goals as goal
+
+newer_than : (old items ws newer : List Waiting) (w : Waiting) → old ≡ items ++ newer → items ≡ ws ++ w ∷ [] → old ≡ ws ++ w ∷ newer
+newer_than old items ws newer w was is = was ∙ ap (λ l. l ++ newer) is ∙ append_assoc ws (w ∷ []) newer
+
+pub returns-then-waiting-from-clause-since : goal.returns-then-waiting-from-clause-since
+returns-then-waiting-from-clause-since c =
+    let w = c.in-Some.waiting in
+    record {
+      taken = w;
+      older = c.pop.new.self.items;
+      newer = c.loop-waiting.invariant.newer.0;
+      was = newer_than c.args.self.now.waiting.items c.loop-waiting.self.waiting.items c.pop.new.self.items c.loop-waiting.invariant.newer.0 w c.loop-waiting.invariant.newer.1 c.in-Some.ensures.items;
+      leaf_is = refl;
+      since_is = c.since-self.ensures;
+    }
 
 pub undo-requires : goal.undo-requires
 undo-requires c = (popped _ _ c.loop-waiting.self c.pop.new.self.items c.in-Some.waiting c.loop-waiting.invariant.path c.in-Some.ensures.items).behind
@@ -100,5 +116,6 @@ loop-waiting-preserved c =
       nodes = c.loop-waiting.invariant.nodes;
       dive = c.loop-waiting.invariant.dive;
       counts = c.loop-waiting.invariant.counts;
+      newer = (w ∷ c.loop-waiting.invariant.newer.0, newer_than c.args.self.now.waiting.items s.waiting.items ws c.loop-waiting.invariant.newer.0 w c.loop-waiting.invariant.newer.1 c.in-Some.ensures.items);
       price = c.loop-waiting.invariant.price;
     }

@@ -1,4 +1,5 @@
-use Rattle.std.proofs.Common.{◌≡◌, ◌+◌, ◌<◌, [], None}
+use Rattle.std.proofs.Common.{◌≡◌, ◌+◌, ◌<◌, List, [], ◌++◌, None}
+use Rattle.cfn_hybrid.specs.declared.search.Waiting.{Waiting}
 use Rattle.cfn_hybrid.specs.Searching.{IsOnPath}
 use Rattle.cfn_hybrid.specs.Sound.{price_of}
 use Rattle.cfn_hybrid.proofs.search.State.go_back.Given as goal
@@ -10,6 +11,7 @@ invariant-loop-waiting l = record {
   nodes : l.self.nodes ≡ l.fn.self.nodes;
   dive : 0 < l.self.left;
   counts : l.self.left ≡ l.fn.self.left;
+  newer : (newer : List Waiting) × (l.fn.self.waiting.items ≡ l.self.waiting.items ++ newer);
   price : l.price ≡ price_of l.self.best;
 }
 

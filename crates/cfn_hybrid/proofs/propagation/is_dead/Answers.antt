@@ -2,7 +2,7 @@ use Rattle.std.proofs.Common.{ℕ, ◌<◌, length, subst, arith}
 use Rattle.cfn_nc.specs.Passes.{HasLive}
 use Rattle.cfn_nc.proofs.CallerLemmas.{not_dead}
 use Rattle.cfn_store.specs.Standing.{history}
-use Rattle.cfn_hybrid.proofs.search.is_dead.Goals as goal
+use Rattle.cfn_hybrid.proofs.propagation.is_dead.Goals as goal
 
 pub returns-else-floor-from-clause-alive : goal.returns-else-floor-from-clause-alive
 returns-else-floor-from-clause-alive c = λ none.

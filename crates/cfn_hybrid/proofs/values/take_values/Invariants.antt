@@ -1,7 +1,7 @@
 use Rattle.std.proofs.Common.{◌≡◌, ℕ, ◌<◌, length}
 use Rattle.std.specs.Prelude.{slice_index}
 use Rattle.cfn_branch.specs.Choosing.{IsChoice}
-use Rattle.cfn_hybrid.proofs.search.take_values.Given as goal
+use Rattle.cfn_hybrid.proofs.values.take_values.Given as goal
 
 abbrev pub invariant-loop-x : goal.invariant-loop-x
 invariant-loop-x l = record {

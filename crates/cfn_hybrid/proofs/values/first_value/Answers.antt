@@ -3,7 +3,7 @@ use Rattle.std.specs.Prelude.{Option, Some}
 use Rattle.cfn_model.specs.Network.{Network, Fits}
 use Rattle.cfn_model.specs.Certificate.{Solution, IsBest}
 use Rattle.cfn_net.proofs.CallerLemmas.{Fits-at, Fits-length}
-use Rattle.cfn_hybrid.proofs.search.first_value.Goals as goal
+use Rattle.cfn_hybrid.proofs.values.first_value.Goals as goal
 
 -- the values that are held fit
 held_fits : (P : Network) (held : Option Solution) (best : Solution) → held ≡ Some best → IsBest P held → Fits P.sizes best.values

@@ -1,0 +1,12 @@
+use Rattle.std.proofs.Common.{◌∙◌}
+use Rattle.cfn_hybrid.proofs.Rounds.{goes_along}
+use Rattle.cfn_hybrid.proofs.root.rounds.Goals as goal
+
+pub loop-round-preserved : goal.loop-round-preserved
+loop-round-preserved c = record {
+  goes = goes_along _ _ _ _ c.loop-round.invariant.goes c.round.ensures.goes;
+  finds = c.in-Some.ensures.finds;
+  room = c.round.ensures.room;
+  vac = c.round.ensures.vac ∙ c.loop-round.invariant.vac;
+  same = c.round.ensures.same ∙ c.loop-round.invariant.same;
+}
