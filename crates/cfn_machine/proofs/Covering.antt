@@ -1,5 +1,5 @@
 -- Every assignment is covered by its leaf, and where all open leaves are free a sweep closes each whose floor is high.
-use Rattle.std.proofs.Common.{◌≡◌, ℕ, ◌<◌, ◌≤◌, inl, inr, List, [], ◌∷◌, refl, sym, ap, subst, arith}
+use Rattle.std.proofs.Common.{◌≡◌, ℕ, ◌<◌, ◌≤◌, inl, inr, List, [], ◌∷◌, refl, sym, ap, subst, arith, leb-false}
 use Rattle.std.proofs.lemmas.Bool.{cases_lt}
 use Rattle.std.specs.Prelude.{Bool, true, false, if◌then◌else◌, nat_le}
 use Rattle.cfn_model.specs.declared.step.Step.{Step}
@@ -54,13 +54,10 @@ covered P pool values network sound fits = leaf_cases values (IsCovered P pool v
     ]
 
 -- a sweep with no leaf out
-short : (k f : ℕ) → nat_le k f ≡ false → f < k
-short k f h = grind arith
-
 leaf_below : (P : Network) (k : ℕ) (b : Bool) (n : ℕ) (block : List Step) (history : List Event) → nat_le k (floor P (after block history)) ≡ b →
     OpenBelow P history (tree_of (if b then Shut block else Leaf n Free block)) k
 leaf_below P k true n block history test = tt
-leaf_below P k false n block history test = short _ _ test
+leaf_below P k false n block history test = leb-false _ _ test
 
 swept_below : (P : Network) (k : ℕ) (tree : PoolTree) (history : List Event) → ((n worker grant : ℕ) (path : List Event) → IsLeaf tree history n (Out worker grant) path → ⊥) →
     OpenBelow P history (tree_of (swept P k tree history)) k

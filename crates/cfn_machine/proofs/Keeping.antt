@@ -1,5 +1,5 @@
 -- Each step keeps the pool sound.
-use Rattle.std.proofs.Common.{◌≡◌, ℕ, ◌+◌, ◌<◌, ◌≤◌, inl, inr, min, List, [], ◌∷◌, refl, sym, ap, subst, arith, Option, ◌^◌}
+use Rattle.std.proofs.Common.{◌≡◌, ℕ, ◌+◌, ◌<◌, ◌≤◌, inl, inr, min, List, [], ◌∷◌, refl, sym, ap, subst, arith, Option, ◌^◌, ltb-true, ltb-false}
 use Rattle.std.proofs.Common.{Some, None}
 use Rattle.std.proofs.lemmas.Int.{ints}
 use Rattle.std.specs.Prelude.{Bool, true, false, if◌then◌else◌, pos, ◌<ℤ◌, nat_lt}
@@ -162,16 +162,10 @@ keeps_sound P pool new word Notes legal sound step = subst (IsSound P) (sym step
 keeps_sound P pool new word (Meets view) legal sound step = subst (IsSound P) (sym step) (seen_kept P pool sound (joined P pool.view view) (omega arith))
 
 -- what is kept where a view is joined in
-below : (a b : ℕ) → nat_lt a b ≡ true → a < b
-below a b h = grind arith
-
-not_below : (a b : ℕ) → nat_lt a b ≡ false → b ≤ a
-not_below a b h = grind arith
-
 module _ (P : Network) where
   cheaper_by : (b : Bool) (best other : Option (List ℕ)) → nat_lt (price P other) (price P best) ≡ b → price P (if b then other else best) ≡ min (price P best) (price P other)
-  cheaper_by true best other h = omega (arith, below _ _ h)
-  cheaper_by false best other h = omega (arith, not_below _ _ h)
+  cheaper_by true best other h = omega (arith, ltb-true _ _ h)
+  cheaper_by false best other h = omega (arith, ltb-false _ _ h)
 
   pub cheaper_price : (best other : Option (List ℕ)) → price P (cheaper P best other) ≡ min (price P best) (price P other)
   cheaper_price best other = cheaper_by (nat_lt (price P other) (price P best)) best other refl
@@ -210,7 +204,7 @@ keeps_rows P pool new word Notes step =
     by_room : (P : Network) (pool : Pool) (a b : Bool) (row : Row) → nat_lt (length pool.rows) 256 ≡ a →
         (let p : Pool = if a then (if b then pool else record pool { rows = pool.rows ++ row ∷ [] }) else pool in (p.rows ≡ pool.rows) ⊎ ((Notes ≡ Notes) × (length pool.rows < 256) × (p.rows ≡ pool.rows ++ row ∷ [])))
     by_room P pool true true row room = inl refl
-    by_room P pool true false row room = inr (refl, below _ _ room, refl)
+    by_room P pool true false row room = inr (refl, ltb-true _ _ room, refl)
     by_room P pool false b row room = inl refl
 
 pub keeps : Keeps

@@ -1,5 +1,5 @@
 -- Numbers of open leaves stay different.
-use Rattle.std.proofs.Common.{◌≡◌, ◌≢◌, ℕ, ◌+◌, ◌<◌, ◌≤◌, ◌⊎◌, inl, inr, List, [], ◌∷◌, refl, sym, ap₂, ◌∙◌, subst, arith, true, false, Bool, nat_le, if◌then◌else◌, ◌==◌, eq-eqb, Option}
+use Rattle.std.proofs.Common.{◌≡◌, ◌≢◌, ℕ, ◌+◌, ◌<◌, ◌≤◌, ◌⊎◌, inl, inr, List, [], ◌∷◌, refl, sym, ap₂, ◌∙◌, subst, arith, true, false, Bool, nat_le, if◌then◌else◌, ◌==◌, eq-eqb, Option, eqb-true}
 use Rattle.std.proofs.lemmas.Bool.{cases_lt}
 use Rattle.cfn_model.specs.declared.step.Step.{Step}
 use Rattle.cfn_model.specs.declared.step.Event.{Event}
@@ -20,15 +20,12 @@ use Rattle.cfn_machine.proofs.Placing.{after_append}
 one_at : (a b : ℕ) → a ≡ b → leaves_with b (Leaf a Free []) ≡ 1
 one_at a b h = let e : (a == b) ≡ true = eq-eqb a b h in rw e refl
 
-same_by : (a b : ℕ) → (a == b) ≡ true → a ≡ b
-same_by a b h = grind arith
-
 one_or_none : Bool → ℕ
 one_or_none t = if t then 1 else 0
 
 none_by : (t : Bool) (a b : ℕ) → (a == b) ≡ t → a ≢ b → one_or_none t ≡ 0
 unfolding one_or_none
-none_by true a b h other = absurd (other (same_by a b h))
+none_by true a b h other = absurd (other (eqb-true a b h))
 none_by false a b h other = refl
 
 none_at : (a b : ℕ) → a ≢ b → leaves_with b (Leaf a Free []) ≡ 0

@@ -1,6 +1,6 @@
 -- What a tree keeps where another takes the place of one of its leaves, where its leaves are called back, and where
 -- its free leaves are closed.
-use Rattle.std.proofs.Common.{◌≡◌, ℕ, ◌+◌, ◌≤◌, inl, inr, List, [], ◌∷◌, ◌++◌, refl, sym, ap₂, subst, arith, true, false, Bool, nat_le, if◌then◌else◌}
+use Rattle.std.proofs.Common.{◌≡◌, ℕ, ◌+◌, ◌≤◌, inl, inr, List, [], ◌∷◌, ◌++◌, refl, sym, ap₂, subst, arith, true, false, Bool, nat_le, if◌then◌else◌, leb-true}
 use Rattle.cfn_model.specs.declared.step.Step.{Step}
 use Rattle.cfn_model.specs.declared.step.Event.{Event}
 use Rattle.cfn_model.specs.declared.step.Event.TheVariants.{Did, Took, Refused}
@@ -149,14 +149,11 @@ recalled_granted (Shut block) = refl
 recalled_granted (Fork block d first second) = omega (arith, recalled_granted first, recalled_granted second)
 
 -- a tree whose free leaves are closed where their floor is at least k
-reaches : (k f : ℕ) → nat_le k f ≡ true → k ≤ f
-reaches k f h = grind arith
-
 module _ (P : Network) (k : ℕ) where
   -- a free leaf, by the test of its floor
   leaf_valid : (b : Bool) (n : ℕ) (block : List Step) (history : List Event) → nat_le k (floor P (after block history)) ≡ b → Run P history block k →
       Valid P history (tree_of (if b then Shut block else Leaf n Free block)) k
-  leaf_valid true n block history test run = (run, inl (reaches _ _ test))
+  leaf_valid true n block history test run = (run, inl (leb-true _ _ test))
   leaf_valid false n block history test run = run
 
   pub swept_valid : (tree : PoolTree) (history : List Event) → Valid P history (tree_of tree) k → Valid P history (tree_of (swept P k tree history)) k

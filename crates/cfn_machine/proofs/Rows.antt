@@ -1,5 +1,5 @@
 -- Where the leaves of a tree come from, and what a new row keeps.
-use Rattle.std.proofs.Common.{◌≡◌, ℕ, ◌<◌, ◌≤◌, inl, inr, List, [], ◌∷◌, ◌++◌, refl, ap, subst, arith, true, false, Bool, nat_le, nat_lt, if◌then◌else◌, Some, None, IfSome}
+use Rattle.std.proofs.Common.{◌≡◌, ℕ, ◌<◌, ◌≤◌, inl, inr, List, [], ◌∷◌, ◌++◌, refl, ap, subst, arith, true, false, Bool, nat_le, nat_lt, if◌then◌else◌, Some, None, IfSome, ltb-true}
 use Rattle.std.specs.List.{AllByRecursion}
 use Rattle.cfn_model.specs.declared.step.Step.{Step}
 use Rattle.cfn_model.specs.declared.step.Decision.{Decision}
@@ -67,11 +67,8 @@ bound_low P seen (Shut block) history n mark path at = absurd at
 bound_low P seen (Fork block d first second) history n mark path (inl at) = omega (arith, bound_low P seen first (Took d ∷ after block history) n mark path at)
 bound_low P seen (Fork block d first second) history n mark path (inr at) = omega (arith, bound_low P seen second (Refused d ∷ after block history) n mark path at)
 
-is_below : (a b : ℕ) → nat_lt a b ≡ true → a < b
-is_below a b h = grind arith
-
 upper_at : (P : Network) (seen : ℕ) (t : Bool) → nat_lt seen P.upper ≡ t → IfSome (if t then Some seen else None) (λ u. (u < P.upper) × (seen ≤ u))
-upper_at P seen true test = (is_below _ _ test, omega arith)
+upper_at P seen true test = (ltb-true _ _ test, omega arith)
 upper_at P seen false test = tt
 
 pub new_row : (P : Network) (tree : PoolTree) (seen : ℕ) → IsNetwork P → seen ≤ P.upper → Valid P [] (tree_of tree) seen → IsRow P tree seen (row_of P (tree_of tree) seen)

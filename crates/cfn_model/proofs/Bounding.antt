@@ -1,6 +1,6 @@
 -- In a valid tree no assignment below the threshold has a closed leaf, and the bound is at most every cost.
-use Rattle.std.proofs.Common.{◌≡◌, ℕ, zero, suc, ◌<◌, ◌≤◌, inl, inr, List, [], ◌∷◌, length, refl, sym, ap, ◌∙◌, subst, arith}
-use Rattle.std.proofs.lemmas.Bool.{cases_lt, cases_Bool}
+use Rattle.std.proofs.Common.{◌≡◌, ℕ, zero, suc, ◌<◌, ◌≤◌, inl, inr, List, [], ◌∷◌, length, refl, sym, ap, ◌∙◌, subst, arith, eqb-true}
+use Rattle.std.proofs.lemmas.Bool.{cases_lt, cases_Bool, and_parts}
 use Rattle.std.proofs.lemmas.Int.{ints}
 use Rattle.std.proofs.lemmas.List.Sums.{get_or-le-sum_by}
 use Rattle.std.specs.Prelude.{ℤ, pos, ◌+ℤ◌, ◌≤ℤ◌, neg_ℤ, Bool, true, false, not, ◌&&◌, ◌||◌, ◌==◌, IsTrue, slice_index, nat_lt, Option, Some, None}
@@ -94,15 +94,8 @@ at_none P values = record {
     when_not_negative true n = omega (arith, ints)
     when_not_negative false n = omega (arith, ints)
 
-and_true : (a b : Bool) → (a && b) ≡ true → (a ≡ true) × (b ≡ true)
-and_true true b h = (refl, h)
-and_true false b h = absurd (let k : false ≡ true = h in cc)
-
-same_of : (a b : ℕ) → (a == b) ≡ true → a ≡ b
-same_of a b h = grind arith
-
 pub both_same : (a b c d : ℕ) → ((a == b) && (c == d)) ≡ true → (a ≡ b) × (c ≡ d)
-both_same a b c d h = let p = and_true (a == b) (c == d) h in (same_of a b p.0, same_of c d p.1)
+both_same a b c d h = let p = and_parts (a == b) (c == d) h in (eqb-true a b p.0, eqb-true c d p.1)
 
 -- what an event adds keeps a cost from being negative, where it is large enough at the test
 kept_by : (b : Bool) (m : ℕ) (z : ℤ) → pos 0 ≤ℤ z → (b ≡ true → pos m ≤ℤ z) → pos 0 ≤ℤ (when b (neg_ℤ (pos m)) +ℤ z)
@@ -184,7 +177,7 @@ module _ (P : Network) (values : List ℕ) (k : ℕ) (network : IsNetwork P) (fi
     live = along.live;
     uncut = along.uncut;
     unary_costs = λ x h. kept_by (y == x) m _ (along.unary_costs x h) (λ test.
-        let same = same_of y x test in
+        let same = eqb-true y x test in
         subst (λ y. (a : ℕ) → a < slice_index P.sizes y → IsTrue (is_live history y a) → pos m ≤ℤ unary P history y a) same allowed.2 (slice_index values x) (fits_at P.sizes values x fits h) (along.live x h));
     residual_costs = λ g h. let r = along.residual_costs g h in omega (arith, ints, r);
   }
@@ -220,8 +213,8 @@ module _ (P : Network) (values : List ℕ) (k : ℕ) (network : IsNetwork P) (fi
   took_kept history d along is = record {
     in_range = (tt, along.in_range);
     live = λ y h. still_live ((variable_of d == y) && not (keeps d (slice_index values y))) _ (λ test.
-        let p = and_true (variable_of d == y) (not (keeps d (slice_index values y))) test in
-        not_both (keeps d (slice_index values y)) (sym (ap (λ x. keeps d (slice_index values x)) (same_of (variable_of d) y p.0)) ∙ is) p.1) (along.live y h);
+        let p = and_parts (variable_of d == y) (not (keeps d (slice_index values y))) test in
+        not_both (keeps d (slice_index values y)) (sym (ap (λ x. keeps d (slice_index values x)) (eqb-true (variable_of d) y p.0)) ∙ is) p.1) (along.live y h);
     uncut = along.uncut;
     unary_costs = λ y h. let u = along.unary_costs y h in omega (arith, ints, u);
     residual_costs = λ g h. let r = along.residual_costs g h in omega (arith, ints, r);
@@ -231,8 +224,8 @@ module _ (P : Network) (values : List ℕ) (k : ℕ) (network : IsNetwork P) (fi
   refused_kept history d along is = record {
     in_range = (tt, along.in_range);
     live = λ y h. still_live ((variable_of d == y) && keeps d (slice_index values y)) _ (λ test.
-        let p = and_true (variable_of d == y) (keeps d (slice_index values y)) test in
-        both_ways p.1 (sym (ap (λ x. keeps d (slice_index values x)) (same_of (variable_of d) y p.0)) ∙ is)) (along.live y h);
+        let p = and_parts (variable_of d == y) (keeps d (slice_index values y)) test in
+        both_ways p.1 (sym (ap (λ x. keeps d (slice_index values x)) (eqb-true (variable_of d) y p.0)) ∙ is)) (along.live y h);
     uncut = along.uncut;
     unary_costs = λ y h. let u = along.unary_costs y h in omega (arith, ints, u);
     residual_costs = λ g h. let r = along.residual_costs g h in omega (arith, ints, r);

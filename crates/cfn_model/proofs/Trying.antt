@@ -1,6 +1,6 @@
 -- Steps on variables of two values are decided by trying each value and tuple.
 use Rattle.std.proofs.Common.{◌≡◌, ℕ, zero, suc, ◌<◌, Bool, true, false, not, ◌&&◌, ◌||◌, T, List, [], ◌∷◌, refl, sym, subst, arith}
-use Rattle.std.proofs.lemmas.Bool.{eq-eqb}
+use Rattle.std.proofs.lemmas.Bool.{eq-eqb, and_parts}
 use Rattle.std.specs.Prelude.{ℤ, pos, ◌+ℤ◌, ◌≤ℤ◌, int_le, ◌==◌, slice_index}
 use Rattle.cfn_model.specs.declared.step.Event.{Event}
 use Rattle.cfn_model.specs.Network.{Network, Fits, cell, dims_at}
@@ -26,11 +26,6 @@ all_four true true true false e = absurd cc
 all_four true true false d e = absurd cc
 all_four true false c d e = absurd cc
 all_four false b c d e = absurd cc
-
-both : (a b : Bool) → (a && b) ≡ true → (a ≡ true) × (b ≡ true)
-both true true e = (refl, refl)
-both true false e = absurd cc
-both false b e = absurd cc
 
 pub at_most : {a b : ℤ} → int_le a b ≡ true → a ≤ℤ b
 at_most e = record { le = subst T (sym e) tt }
@@ -65,8 +60,8 @@ pub can_lift : (P : Network) (history : List Event) (x m : ℕ) → slice_index 
 can_lift P history x m two tests a lt live = at_most (where_same (is_live history x a) (int_le (pos m) (unary P history x a)) (by_value a (subst (λ n. a < n) two lt)) live)
   where
     by_value : (a : ℕ) → a < 2 → lifts P history x m a ≡ true
-    by_value zero lt = (both (lifts P history x m 0) (lifts P history x m 1) tests).0
-    by_value (suc zero) lt = (both (lifts P history x m 0) (lifts P history x m 1) tests).1
+    by_value zero lt = (and_parts (lifts P history x m 0) (lifts P history x m 1) tests).0
+    by_value (suc zero) lt = (and_parts (lifts P history x m 0) (lifts P history x m 1) tests).1
     by_value (suc (suc b)) lt = absurd (omega arith)
 
 abbrev reaches : Network → List Event → ℕ → ℕ → ℕ → List ℕ → Bool

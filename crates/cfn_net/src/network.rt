@@ -1,8 +1,9 @@
 //! The network, which does not change once it is built.
-ghost use Rattle.std.specs.Prelude.{◌≡◌, ◌≢◌, ℕ, ◌+◌, ◌-◌, ◌*◌, ◌<◌, ◌≤◌, ◌↔◌, List, [], length, slice_index, IfOk, OnOk, OnErr};
+ghost use Rattle.std.specs.Prelude.{◌≡◌, ◌≢◌, ℕ, ◌+◌, ◌-◌, ◌*◌, ◌^◌, ◌<◌, ◌≤◌, ◌↔◌, List, [], length, slice_index, IfOk, OnOk, OnErr};
 ghost use Rattle.cfn_model.specs.declared.limits.TheConstants.{GREATEST};
 ghost use Rattle.cfn_model.specs.Words.{IsWord};
 ghost use Rattle.cfn_model.specs.Network.{Fits, IsFunction, IsNetwork, function_at, scope_at, arity, dims_at, entry_at, restrict, cells, cell, cost, function_of};
+ghost use Rattle.cfn_model.specs.Sums.{constant, floor};
 ghost use Rattle.cfn_net.specs.Building.{AreSizes, CanTake, IsScope, last, list_at_end, new_network, with_function};
 ghost use Rattle.cfn_net.specs.Fitting.{IsFirstMisfit};
 
@@ -126,6 +127,18 @@ impl Network {
         ensures { result ≡ slice_index (function_at self.now f).entries number }
     {
         self.function(f).entries()[number as usize]
+    }
+
+    /// The sum of the functions of arity 0, which is the floor before any step. It is not capped at the upper bound.
+    pub fn constants(&self) -> u128
+        ensures value { result ≡ floor self.now [] }
+        ensures small { result < 2 ^ 96 }
+    {
+        let mut sum = 0;
+        for f in 0..self.functions() {
+            sum += u128::from(self.constant_of(f));
+        }
+        sum
     }
 
     /// The number of the cell of a tuple, in row-major order: the last variable runs fastest.
@@ -266,6 +279,19 @@ impl Network {
     {
         let entry = self.function(f).cost(self.sizes.as_slice(), values);
         Cost::of(entry, self.upper)
+    }
+
+    /// The cost that a function of arity 0 is, and 0 for another function.
+    fn constant_of(&self, f: u32) -> u64
+        requires { f < length self.now.functions }
+        ensures { result ≡ constant (function_at self.now f) }
+    {
+        self.limits();
+        if self.scope(f).is_empty() {
+            self.entry(f, 0)
+        } else {
+            0
+        }
     }
 
     fn function(&self, f: u32) -> &Function
