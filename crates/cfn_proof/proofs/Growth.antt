@@ -15,17 +15,21 @@ use Rattle.cfn_proof.specs.declared.tree.End.TheVariants.{Free, Shut, Split}
 use Rattle.cfn_proof.specs.declared.tree.Node.{Node}
 use Rattle.cfn_proof.specs.Nodes.{node_at, names_child, open_node, IsLinked, IsFamily, IsFree, Before, at_root, at_first, at_second, split_at, split_behind_at, split_end, close_at}
 
--- only the node i, an open leaf, has changed, and open leaves stand behind the nodes that were there
+-- only the node i, an open leaf, has changed, and no node behind those that were there is a parent of one of them
 pub record Changed (nodes new : List Node) (i : ℕ) : Type 0 where
   pub there : i < length nodes
   pub free : IsFree nodes i
   pub no_fewer : length nodes ≤ length new
   pub others : (j : ℕ) → j < length nodes → j ≢ i → node_at new j ≡ node_at nodes j
-  pub fresh : (j : ℕ) → length nodes ≤ j → (node_at new j).end ≡ Free
   pub children_fresh : (d : Decision) (first second : NodeId) → (node_at new i).end ≡ Split d first second → (length nodes ≤ first.number) × (length nodes ≤ second.number)
+  pub late_children : (j : ℕ) (d : Decision) (first second : NodeId) → length nodes ≤ j → (node_at new j).end ≡ Split d first second → (length nodes ≤ first.number) × (length nodes ≤ second.number)
+
+-- open leaves stand behind the nodes that were there
+abbrev pub Fresh : List Node → List Node → Type 0
+Fresh nodes new = (j : ℕ) → length nodes ≤ j → (node_at new j).end ≡ Free
 
 -- an end is of one kind
-not_free : {d : Decision} {first second : NodeId} {e : End} → e ≡ Free → e ≡ Split d first second → ⊥
+pub not_free : {d : Decision} {first second : NodeId} {e : End} → e ≡ Free → e ≡ Split d first second → ⊥
 not_free h k = cc
 
 -- what stands before a node that was there is what stood before it
@@ -38,7 +42,7 @@ before_old nodes new i j history linked changed (at_first parent d first second 
         | inl old ↦
             let e : node_at new parent ≡ node_at nodes parent = changed.others parent old other in
             at_first parent d first second above old (subst (λ n. n.end ≡ Split d first second) e is) (before_old nodes new i parent above linked changed before old) is_child (is_history ∙ ap (λ (n : Node). Took d ∷ after n.block above) e)
-        | inr late ↦ absurd (not_free (changed.fresh parent late) is)
+        | inr late ↦ absurd (let c = changed.late_children parent d first second late is in omega (arith, c.0))
       ]
     ]
 before_old nodes new i j history linked changed (at_second parent d first second above within is before is_child is_history) there =
@@ -48,7 +52,7 @@ before_old nodes new i j history linked changed (at_second parent d first second
         | inl old ↦
             let e : node_at new parent ≡ node_at nodes parent = changed.others parent old other in
             at_second parent d first second above old (subst (λ n. n.end ≡ Split d first second) e is) (before_old nodes new i parent above linked changed before old) is_child (is_history ∙ ap (λ (n : Node). Refused d ∷ after n.block above) e)
-        | inr late ↦ absurd (not_free (changed.fresh parent late) is)
+        | inr late ↦ absurd (let c = changed.late_children parent d first second late is in omega (arith, c.1))
       ]
     ]
 
@@ -62,9 +66,9 @@ pub record IsOf (nodes new : List Node) (i j : ℕ) (history : List Event) : Typ
   pub before : Before nodes i above
   pub side : ((j ≡ first.number) × (history ≡ Took d ∷ after (node_at new i).block above)) ⊎ ((j ≡ second.number) × (history ≡ Refused d ∷ after (node_at new i).block above))
 
-pub before_new : (nodes new : List Node) (i j : ℕ) (history : List Event) → IsLinked nodes → Changed nodes new i → Before new j history → length nodes ≤ j → IsOf nodes new i j history
-before_new nodes new i j history linked changed (at_root is_root is_empty) late = absurd (omega (arith, linked.some))
-before_new nodes new i j history linked changed (at_first parent d first second above within is before is_child is_history) late =
+pub before_new : (nodes new : List Node) (i j : ℕ) (history : List Event) → IsLinked nodes → Changed nodes new i → Fresh nodes new → Before new j history → length nodes ≤ j → IsOf nodes new i j history
+before_new nodes new i j history linked changed fresh (at_root is_root is_empty) late = absurd (omega (arith, linked.some))
+before_new nodes new i j history linked changed fresh (at_first parent d first second above within is before is_child is_history) late =
     elim (cases_eq parent i) [
       | inl same ↦
           let is_i : (node_at new i).end ≡ Split d first second = subst (λ p. (node_at new p).end ≡ Split d first second) same is in
@@ -83,10 +87,10 @@ before_new nodes new i j history linked changed (at_first parent d first second 
             let e : node_at new parent ≡ node_at nodes parent = changed.others parent old other in
             let family = linked.children parent d first second old (subst (λ n. n.end ≡ Split d first second) e is) in
             absurd (omega (arith, family.first_there))
-        | inr far ↦ absurd (not_free (changed.fresh parent far) is)
+        | inr far ↦ absurd (not_free (fresh parent far) is)
       ]
     ]
-before_new nodes new i j history linked changed (at_second parent d first second above within is before is_child is_history) late =
+before_new nodes new i j history linked changed fresh (at_second parent d first second above within is before is_child is_history) late =
     elim (cases_eq parent i) [
       | inl same ↦
           let is_i : (node_at new i).end ≡ Split d first second = subst (λ p. (node_at new p).end ≡ Split d first second) same is in
@@ -105,7 +109,7 @@ before_new nodes new i j history linked changed (at_second parent d first second
             let e : node_at new parent ≡ node_at nodes parent = changed.others parent old other in
             let family = linked.children parent d first second old (subst (λ n. n.end ≡ Split d first second) e is) in
             absurd (omega (arith, family.second_there))
-        | inr far ↦ absurd (not_free (changed.fresh parent far) is)
+        | inr far ↦ absurd (not_free (fresh parent far) is)
       ]
     ]
 
@@ -166,19 +170,22 @@ two_free o h (suc (suc m)) = refl
 pub split_numbers : {d c : Decision} {n : ℕ} {first second : NodeId} → split_end d n ≡ Split c first second → (c ≡ d) × (first.number ≡ n) × (second.number ≡ n + 1)
 split_numbers e = ((cc), (cc), (cc))
 
+pub fresh_by_split : (nodes : List Node) (i : ℕ) (block : List Step) (d : Decision) → i < length nodes → Fresh nodes (split_behind_at nodes i block d)
+fresh_by_split nodes i block d there j late = ap (λ (n : Node). n.end) (split_behind_at-behind nodes i block d there j late) ∙ two_free _ refl (j - length nodes)
+
 pub changed_by_split : (nodes : List Node) (i : ℕ) (block : List Step) (d : Decision) → i < length nodes → IsFree nodes i → Changed nodes (split_behind_at nodes i block d) i
 changed_by_split nodes i block d there free = record {
   there = there;
   free = free;
   no_fewer = omega (arith, length-split_behind_at nodes i block d there);
   others = λ j h other. split_behind_at-other nodes i block d there j h other;
-  fresh = λ j late. ap (λ (n : Node). n.end) (split_behind_at-behind nodes i block d there j late) ∙ two_free _ refl (j - length nodes);
   children_fresh = λ c first second is.
       let n = split_numbers (ap (λ (n : Node). n.end) (sym (split_behind_at-same nodes i block d there)) ∙ is) in
       (omega (arith, n.1), omega (arith, n.2));
+  late_children = λ j c first second late is. absurd (not_free (fresh_by_split nodes i block d there j late) is);
 }
 
-or_true : (b : Bool) → (b || true) ≡ true
+pub or_true : (b : Bool) → (b || true) ≡ true
 or_true true = refl
 or_true false = refl
 
@@ -253,7 +260,7 @@ linked_by_split nodes i block d linked there free room =
             })
         | inr other ↦ elim (cases_lt j (length nodes)) [
           | inl old ↦ family_kept nodes (split_behind_at nodes i block d) i linked changed kept j c first second old other is
-          | inr late ↦ absurd (not_free (changed.fresh j late) is)
+          | inr late ↦ absurd (not_free (fresh_by_split nodes i block d there j late) is)
         ]
       ];
       parents = λ j parent h is. elim (cases_lt j (length nodes)) [
@@ -283,7 +290,7 @@ module _ (nodes : List Node) (i : ℕ) (block : List Step) (there : i < length n
   pub close_at-other : (j : ℕ) → j ≢ i → node_at (close_at nodes i block) j ≡ node_at nodes j
   close_at-other j other = get_or-set_other nodes i j _ _ other
 
-past : (nodes : List Node) (j : ℕ) → length nodes ≤ j → (node_at nodes j).end ≡ Free
+pub past : (nodes : List Node) (j : ℕ) → length nodes ≤ j → (node_at nodes j).end ≡ Free
 past [] j h = refl
 past (node ∷ nodes) zero h = absurd (omega arith)
 past (node ∷ nodes) (suc j) h = past nodes j (omega arith)
@@ -291,14 +298,17 @@ past (node ∷ nodes) (suc j) h = past nodes j (omega arith)
 not_both : {d : Decision} {first second : NodeId} {e : End} → e ≡ Shut → e ≡ Split d first second → ⊥
 not_both h k = cc
 
+pub fresh_by_close : (nodes : List Node) (i : ℕ) (block : List Step) → i < length nodes → Fresh nodes (close_at nodes i block)
+fresh_by_close nodes i block there j late = past (close_at nodes i block) j (omega (arith, length-close_at nodes i block there))
+
 pub changed_by_close : (nodes : List Node) (i : ℕ) (block : List Step) → i < length nodes → IsFree nodes i → Changed nodes (close_at nodes i block) i
 changed_by_close nodes i block there free = record {
   there = there;
   free = free;
   no_fewer = omega (arith, length-close_at nodes i block there);
   others = λ j h other. close_at-other nodes i block there j other;
-  fresh = λ j late. past (close_at nodes i block) j (omega (arith, length-close_at nodes i block there));
   children_fresh = λ c first second is. absurd (not_both (ap (λ (n : Node). n.end) (close_at-same nodes i block there)) is);
+  late_children = λ j c first second late is. absurd (not_free (fresh_by_close nodes i block there j late) is);
 }
 
 pub linked_by_close : (nodes : List Node) (i : ℕ) (block : List Step) → IsLinked nodes → i < length nodes → IsFree nodes i → IsLinked (close_at nodes i block)

@@ -16,7 +16,7 @@ use Rattle.cfn_proof.specs.declared.tree.Node.{Node}
 use Rattle.cfn_proof.specs.Nodes.{node_at, names_child, tree_at, tree_of, with_children, IsLinked, IsFree, Before, at_root, at_first, at_second, split_behind_at, split_end, close_at}
 use Rattle.cfn_proof.specs.Local.{BeforeSplitLaw, BeforeSplitBehindLaw, BeforeCloseLaw, BeforeOnceLaw, BeforeSomeLaw, CountSplitLaw, CountSplitBehindLaw, CountCloseLaw, SplitsSplitLaw, SplitsSplitBehindLaw, SplitsCloseLaw}
 use Rattle.cfn_proof.proofs.TreeLemmas.{tree_at_is, from_last}
-use Rattle.cfn_proof.proofs.Growth.{Changed, before_old, before_new, changed_by_split, changed_by_close, split_numbers, split_behind_at-same, split_behind_at-first, split_behind_at-second, length-split_behind_at, close_at-same, length-close_at, linked_by_split, linked_by_close}
+use Rattle.cfn_proof.proofs.Growth.{Changed, before_old, before_new, fresh_by_split, changed_by_split, changed_by_close, split_numbers, split_behind_at-same, split_behind_at-first, split_behind_at-second, length-split_behind_at, close_at-same, length-close_at, linked_by_split, linked_by_close}
 
 -- the kinds of what stands before a node, by the node's parent
 pub record Side (nodes : List Node) (i : ℕ) (history : List Event) : Type 0 where
@@ -91,14 +91,14 @@ before_split_behind nodes i block d j history linked there free before =
     let changed = changed_by_split nodes i block d there free in (
       λ old. before_old nodes (split_behind_at nodes i block d) i j history linked changed before old,
       λ first.
-          let new = before_new nodes (split_behind_at nodes i block d) i j history linked changed before (omega (arith, first)) in
+          let new = before_new nodes (split_behind_at nodes i block d) i j history linked changed (fresh_by_split nodes i block d there) before (omega (arith, first)) in
           let n = split_numbers (ap (λ (n : Node). n.end) (sym (split_behind_at-same nodes i block d there)) ∙ new.is) in
           elim new.side [
             | inl left ↦ record { above = new.above; before = new.before; is = left.1 ∙ ap (λ c. Took c ∷ after (node_at (split_behind_at nodes i block d) i).block new.above) n.0 ∙ ap (λ b. Took d ∷ after b new.above) (put_block nodes i block d there) }
             | inr right ↦ absurd (omega (arith, right.0, n.2, first))
           ],
       λ second.
-          let new = before_new nodes (split_behind_at nodes i block d) i j history linked changed before (omega (arith, second)) in
+          let new = before_new nodes (split_behind_at nodes i block d) i j history linked changed (fresh_by_split nodes i block d there) before (omega (arith, second)) in
           let n = split_numbers (ap (λ (n : Node). n.end) (sym (split_behind_at-same nodes i block d there)) ∙ new.is) in
           elim new.side [
             | inl left ↦ absurd (omega (arith, left.0, n.1, second))
@@ -174,7 +174,7 @@ unfolding IsEnd
 one_side d early late h k = let e : Took d ≡ Refused d = same_ends (Took d) (Refused d) early h.0 k.0 (sym h.1 ∙ k.1) in cc
 
 -- a measure of trees that at a split is one more than on both its sides
-abbrev AddsOverSplits : (trees.Tree → ℕ) → Type 0
+abbrev pub AddsOverSplits : (trees.Tree → ℕ) → Type 0
 AddsOverSplits measure = (block : List Step) (d : Decision) (first second : trees.Tree) → measure (trees.Split block d first second) ≡ 1 + (measure first + measure second)
 
 -- a subtree that the changed leaf is not in stays
@@ -211,37 +211,50 @@ module _ (nodes new : List Node) (i : ℕ) (here : List Event) (linked : IsLinke
   as_split : (m : List Node) (j : ℕ) (d : Decision) (first second : NodeId) → IsLinked m → j < length m → (node_at m j).end ≡ Split d first second → tree_at m j ≡ trees.Split (node_at m j).block d (tree_at m first.number) (tree_at m second.number)
   as_split m j d first second l there is = tree_at_is m j l there ∙ ap (λ e. with_children (node_at m j).block e (tree_at m)) is
 
+  -- what holds of a subtree before and after, and goes over to the splits above it, holds of the whole tree
+  pub climbed : (R : List Event → trees.Tree → trees.Tree → Type 0) → ((block : List Step) (d : Decision) (above : List Event) (old now other : trees.Tree) → R (Took d ∷ after block above) old now → R above (trees.Split block d old other) (trees.Split block d now other)) → ((block : List Step) (d : Decision) (above : List Event) (old now other : trees.Tree) → R (Refused d ∷ after block above) old now → R above (trees.Split block d other old) (trees.Split block d other now)) → (j : ℕ) (history : List Event) → Before nodes j history → IsEnd history here → R history (tree_at nodes j) (tree_at new j) → R [] (tree_of nodes) (tree_of new)
+  climbed R took refused j history (at_root is_root is_empty) end holds = subst (λ h. R h (tree_of nodes) (tree_of new)) is_empty (subst (λ m. R history (tree_at nodes m) (tree_at new m)) is_root holds)
+  climbed R took refused j history (at_first parent d first second above there is before is_child is_history) end holds =
+      let block = (node_at nodes parent).block in
+      let e = node_same parent d first second there is in
+      let family = linked.children parent d first second there is in
+      let h : IsEnd (Took d ∷ after block above) here = subst (λ h. IsEnd h here) is_history end in
+      let same : tree_at new second.number ≡ tree_at nodes second.number =
+      apart_same second.number family.second_there (Refused d ∷ after block above) (at_second parent d first second above there is before refl refl) (λ k. one_side d (after block above) here h k) in
+      let up : IsEnd above here = end_of_after block above here (end_of_cons (Took d) (after block above) here h) in
+      let here_holds : R (Took d ∷ after block above) (tree_at nodes first.number) (tree_at new first.number) = subst (λ h. R h (tree_at nodes first.number) (tree_at new first.number)) is_history (subst (λ c. R history (tree_at nodes c) (tree_at new c)) is_child holds) in
+      let now : tree_at new parent ≡ trees.Split block d (tree_at new first.number) (tree_at nodes second.number) =
+      as_split new parent d first second linked_new (omega (arith, changed.no_fewer)) (ap (λ (n : Node). n.end) e ∙ is) ∙ ap (λ (n : Node). trees.Split n.block d (tree_at new first.number) (tree_at new second.number)) e ∙ ap (λ t. trees.Split block d (tree_at new first.number) t) same in
+      climbed R took refused parent above before up
+      (subst (λ t. R above t (tree_at new parent)) (sym (as_split nodes parent d first second linked there is))
+      (subst (λ t. R above (trees.Split block d (tree_at nodes first.number) (tree_at nodes second.number)) t) (sym now) (took block d above _ _ _ here_holds)))
+  climbed R took refused j history (at_second parent d first second above there is before is_child is_history) end holds =
+      let block = (node_at nodes parent).block in
+      let e = node_same parent d first second there is in
+      let family = linked.children parent d first second there is in
+      let h : IsEnd (Refused d ∷ after block above) here = subst (λ h. IsEnd h here) is_history end in
+      let same : tree_at new first.number ≡ tree_at nodes first.number =
+      apart_same first.number family.first_there (Took d ∷ after block above) (at_first parent d first second above there is before refl refl) (λ k. one_side d (after block above) here k h) in
+      let up : IsEnd above here = end_of_after block above here (end_of_cons (Refused d) (after block above) here h) in
+      let here_holds : R (Refused d ∷ after block above) (tree_at nodes second.number) (tree_at new second.number) = subst (λ h. R h (tree_at nodes second.number) (tree_at new second.number)) is_history (subst (λ c. R history (tree_at nodes c) (tree_at new c)) is_child holds) in
+      let now : tree_at new parent ≡ trees.Split block d (tree_at nodes first.number) (tree_at new second.number) =
+      as_split new parent d first second linked_new (omega (arith, changed.no_fewer)) (ap (λ (n : Node). n.end) e ∙ is) ∙ ap (λ (n : Node). trees.Split n.block d (tree_at new first.number) (tree_at new second.number)) e ∙ ap (λ t. trees.Split block d t (tree_at new second.number)) same in
+      climbed R took refused parent above before up
+      (subst (λ t. R above t (tree_at new parent)) (sym (as_split nodes parent d first second linked there is))
+      (subst (λ t. R above (trees.Split block d (tree_at nodes first.number) (tree_at nodes second.number)) t) (sym now) (refused block d above _ _ _ here_holds)))
+
   -- what a subtree gains of a measure that adds over splits, the whole tree gains
   pub gained : (measure : trees.Tree → ℕ) → AddsOverSplits measure → (gain j : ℕ) (history : List Event) → Before nodes j history → IsEnd history here → measure (tree_at new j) ≡ measure (tree_at nodes j) + gain → measure (tree_of new) ≡ measure (tree_of nodes) + gain
-  gained measure adds gain j history (at_root is_root is_empty) end more = subst (λ m. measure (tree_at new m) ≡ measure (tree_at nodes m) + gain) is_root more
-  gained measure adds gain j history (at_first parent d first second above there is before is_child is_history) end more =
-      let e = node_same parent d first second there is in
-      let family = linked.children parent d first second there is in
-      let h : IsEnd (Took d ∷ after (node_at nodes parent).block above) here = subst (λ h. IsEnd h here) is_history end in
-      let same : tree_at new second.number ≡ tree_at nodes second.number =
-      apart_same second.number family.second_there (Refused d ∷ after (node_at nodes parent).block above) (at_second parent d first second above there is before refl refl) (λ k. one_side d (after (node_at nodes parent).block above) here h k) in
-      let up : IsEnd above here = end_of_after (node_at nodes parent).block above here (end_of_cons (Took d) (after (node_at nodes parent).block above) here h) in
-      let old = ap measure (as_split nodes parent d first second linked there is) ∙ adds (node_at nodes parent).block d (tree_at nodes first.number) (tree_at nodes second.number) in
-      let now = ap measure (as_split new parent d first second linked_new (omega (arith, changed.no_fewer)) (ap (λ (n : Node). n.end) e ∙ is)) ∙ adds (node_at new parent).block d (tree_at new first.number) (tree_at new second.number) in
-      let m : measure (tree_at new first.number) ≡ measure (tree_at nodes first.number) + gain = subst (λ c. measure (tree_at new c) ≡ measure (tree_at nodes c) + gain) is_child more in
-      gained measure adds gain parent above before up (omega (arith, old, now, m, ap measure same))
-  gained measure adds gain j history (at_second parent d first second above there is before is_child is_history) end more =
-      let e = node_same parent d first second there is in
-      let family = linked.children parent d first second there is in
-      let h : IsEnd (Refused d ∷ after (node_at nodes parent).block above) here = subst (λ h. IsEnd h here) is_history end in
-      let same : tree_at new first.number ≡ tree_at nodes first.number =
-      apart_same first.number family.first_there (Took d ∷ after (node_at nodes parent).block above) (at_first parent d first second above there is before refl refl) (λ k. one_side d (after (node_at nodes parent).block above) here k h) in
-      let up : IsEnd above here = end_of_after (node_at nodes parent).block above here (end_of_cons (Refused d) (after (node_at nodes parent).block above) here h) in
-      let old = ap measure (as_split nodes parent d first second linked there is) ∙ adds (node_at nodes parent).block d (tree_at nodes first.number) (tree_at nodes second.number) in
-      let now = ap measure (as_split new parent d first second linked_new (omega (arith, changed.no_fewer)) (ap (λ (n : Node). n.end) e ∙ is)) ∙ adds (node_at new parent).block d (tree_at new first.number) (tree_at new second.number) in
-      let m : measure (tree_at new second.number) ≡ measure (tree_at nodes second.number) + gain = subst (λ c. measure (tree_at new c) ≡ measure (tree_at nodes c) + gain) is_child more in
-      gained measure adds gain parent above before up (omega (arith, old, now, m, ap measure same))
+  gained measure adds gain =
+      climbed (λ history old now. measure now ≡ measure old + gain)
+      (λ block d above old now other more. omega (arith, adds block d old other, adds block d now other, more))
+      (λ block d above old now other more. omega (arith, adds block d other old, adds block d other now, more))
 
 -- an open leaf's measure, where open leaves measure nothing
-leaf_measure : (measure : trees.Tree → ℕ) → ((block : List Step) → measure (trees.Open block) ≡ 0) → (nodes : List Node) (i : ℕ) → IsLinked nodes → i < length nodes → IsFree nodes i → measure (tree_at nodes i) ≡ 0
+pub leaf_measure : (measure : trees.Tree → ℕ) → ((block : List Step) → measure (trees.Open block) ≡ 0) → (nodes : List Node) (i : ℕ) → IsLinked nodes → i < length nodes → IsFree nodes i → measure (tree_at nodes i) ≡ 0
 leaf_measure measure none nodes i linked there free = ap measure (tree_at_is nodes i linked there ∙ ap (λ e. with_children (node_at nodes i).block e (tree_at nodes)) free) ∙ none (node_at nodes i).block
 
-itself : (history : List Event) → IsEnd history history
+pub itself : (history : List Event) → IsEnd history history
 unfolding IsEnd
 itself history = ([], refl)
 
@@ -271,10 +284,10 @@ close_gains measure adds none gain closes nodes i block linked there free some =
     gained nodes new i some.0 linked linked_new changed some.1 measure adds gain i some.0 some.1 (itself some.0)
     (omega (arith, tree, leaf_measure measure none nodes i linked there free))
 
-count_adds : AddsOverSplits count
+pub count_adds : AddsOverSplits count
 count_adds block d first second = refl
 
-splits_adds : AddsOverSplits splits
+pub splits_adds : AddsOverSplits splits
 splits_adds block d first second = refl
 
 pub count_split_behind : CountSplitBehindLaw

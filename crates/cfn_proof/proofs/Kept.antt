@@ -1,12 +1,12 @@
 -- A split behind a block keeps valid and strict nodes.
-use Rattle.std.proofs.Common.{◌≡◌, ℕ, ◌+◌, ◌<◌, inl, inr, List, length, Some, subst, sym, arith}
+use Rattle.std.proofs.Common.{◌≡◌, ℕ, ◌+◌, ◌<◌, inl, inr, List, ◌++◌, length, Some, subst, sym, arith}
 use Rattle.std.proofs.lemmas.Bool.{cases_eq, cases_lt}
 use Rattle.cfn_model.specs.declared.step.Step.{Step}
 use Rattle.cfn_model.specs.declared.step.Decision.{Decision}
 use Rattle.cfn_model.specs.declared.step.Event.{Event}
 use Rattle.cfn_proof.specs.declared.tree.Node.{Node}
 use Rattle.cfn_proof.specs.Nodes.{node_at, open_node, IsLinked, IsFree, Before, split_behind_at, split_end}
-use Rattle.cfn_proof.specs.Local.{ValidNode, StrictNode, ValidSplitBehindLaw, StrictSplitBehindLaw}
+use Rattle.cfn_proof.specs.Local.{ValidNode, StrictNode, ValidSplitBehindLaw, StrictSplitBehindLaw, ValidBehindSplitLaw, StrictBehindSplitLaw}
 use Rattle.cfn_proof.proofs.Growth.{length-split_behind_at, split_behind_at-same, split_behind_at-other, split_behind_at-first, split_behind_at-second}
 use Rattle.cfn_proof.proofs.Histories.{before_split_behind}
 
@@ -37,4 +37,15 @@ valid_split_behind P nodes k i block d linked there free valid runs decision = r
 pub strict_split_behind : StrictSplitBehindLaw
 strict_split_behind P nodes i block d linked there free strict splits = record {
   each = kept (λ history n. StrictNode P history n.block n.end) nodes i block d linked there free strict.each splits (λ history. tt);
+}
+
+-- the same behind a base
+pub valid_behind_split : ValidBehindSplitLaw
+valid_behind_split P base nodes k i block d linked there free valid runs decision = record {
+  each = kept (λ history n. ValidNode P (history ++ base) n.block n.end k) nodes i block d linked there free valid.each (λ history before. (runs history before, decision)) (λ history. tt);
+}
+
+pub strict_behind_split : StrictBehindSplitLaw
+strict_behind_split P base nodes i block d linked there free strict splits = record {
+  each = kept (λ history n. StrictNode P (history ++ base) n.block n.end) nodes i block d linked there free strict.each splits (λ history. tt);
 }

@@ -1,6 +1,9 @@
 pub mod TreeLemmas
 pub mod Growth
+pub mod Bases
 pub mod Histories
+pub mod Grafts
+pub mod Grafted
 pub mod WholeTree
 pub mod Kept
 pub mod Packed

@@ -288,6 +288,35 @@ module _ (old new : List ℕ) (step : Step) (packed : IsPacked old) (adds : Adds
     };
   }
 
+numbers_of_append : (steps more : List Step) → numbers_of_all (steps ++ more) ≡ numbers_of_all steps ++ numbers_of_all more
+numbers_of_append [] more = refl
+numbers_of_append (s ∷ steps) more = ap (λ l. numbers_of s ++ l) (numbers_of_append steps more) ∙ sym (append_assoc (numbers_of s) (numbers_of_all steps) (numbers_of_all more))
+
+pub all_append : (P : Step → Type 0) (steps more : List Step) → AllByRecursion P steps → AllByRecursion P more → AllByRecursion P (steps ++ more)
+all_append P [] more all rest = rest
+all_append P (s ∷ steps) more all rest = (all.0, all_append P steps more all.1 rest)
+
+-- packed bytes behind others
+module _ (first behind : List ℕ) (packed : IsPacked first) (packed_behind : IsPacked behind) where
+  pub unpacked_append : unpacked (first ++ behind) ≡ unpacked first ++ unpacked behind
+  unpacked_append =
+      ap steps_of (numbers_append first behind packed.whole ∙ ap (λ l. l ++ numbers_in behind) packed.steps.all)
+      ∙ steps_of_all (unpacked first) (numbers_in behind)
+
+  pub packed_append : IsPacked (first ++ behind)
+  packed_append = record {
+    whole = whole_append first behind packed.whole packed_behind.whole;
+    steps = record {
+      all =
+          numbers_append first behind packed.whole
+          ∙ ap (λ l. l ++ numbers_in behind) packed.steps.all
+          ∙ ap (λ l. numbers_of_all (unpacked first) ++ l) packed_behind.steps.all
+          ∙ sym (numbers_of_append (unpacked first) (unpacked behind))
+          ∙ ap numbers_of_all (sym unpacked_append);
+      small = subst (λ l. AllByRecursion IsSmallStep l) (sym unpacked_append) (all_append IsSmallStep (unpacked first) (unpacked behind) packed.steps.small packed_behind.steps.small);
+    };
+  }
+
 pub none_packed : IsPacked []
 none_packed = record { whole = tt; steps = record { all = refl; small = tt } }
 

@@ -11,7 +11,7 @@ use Rattle.std.specs.List.{AllByRecursion}
 use Rattle.std.proofs.lemmas.Bool.{cases_eq, cases_lt}
 use Rattle.cfn_model.specs.Text.{IsSpelledStep, IsSpelledDecision}
 use Rattle.cfn_proof.specs.Nodes.{IsFree, IsLinked, IsTree, IsSpelledEnd, node_at, open_node, split_at, split_behind_at, split_end, close_at}
-use Rattle.cfn_proof.proofs.Growth.{Changed, changed_by_split, changed_by_close, linked_by_split, linked_by_close, split_behind_at-same, split_behind_at-behind, close_at-same, length-close_at}
+use Rattle.cfn_proof.proofs.Growth.{Changed, Fresh, fresh_by_split, fresh_by_close, changed_by_split, changed_by_close, linked_by_split, linked_by_close, split_behind_at-same, split_behind_at-behind, close_at-same, length-close_at}
 
 -- a node that was read, with another block and end
 read_is : (inside : List Node) (i : ℕ) (read : Node) → i < length inside → read ≡ get_or inside i read → read ≡ node_at inside i
@@ -55,7 +55,7 @@ two_empty o h (suc zero) = h
 two_empty o h (suc (suc m)) = refl
 
 -- a node with a spelled block and end in place of another leaves spelled nodes
-module _ (nodes new : List Node) (i : ℕ) (tree : IsTree nodes) (changed : Changed nodes new i) (linked : IsLinked new) (blocks : (j : ℕ) → length nodes ≤ j → (node_at new j).block ≡ []) (block : AllByRecursion IsSpelledStep (node_at new i).block) (end : IsSpelledEnd (node_at new i).end) where
+module _ (nodes new : List Node) (i : ℕ) (tree : IsTree nodes) (changed : Changed nodes new i) (fresh : Fresh nodes new) (linked : IsLinked new) (blocks : (j : ℕ) → length nodes ≤ j → (node_at new j).block ≡ []) (block : AllByRecursion IsSpelledStep (node_at new i).block) (end : IsSpelledEnd (node_at new i).end) where
   pub tree_kept : IsTree new
   tree_kept = record {
     linked = linked;
@@ -70,14 +70,14 @@ module _ (nodes new : List Node) (i : ℕ) (tree : IsTree nodes) (changed : Chan
       | inl same ↦ subst (λ m. IsSpelledEnd (node_at new m).end) (sym same) end
       | inr other ↦ elim (cases_lt j (length nodes)) [
         | inl old ↦ subst (λ (n : Node). IsSpelledEnd n.end) (sym (changed.others j old other)) (tree.ends j old)
-        | inr late ↦ subst (λ e. IsSpelledEnd e) (sym (changed.fresh j late)) tt
+        | inr late ↦ subst (λ e. IsSpelledEnd e) (sym (fresh j late)) tt
       ]
     ];
   }
 
 pub tree_by_split : (nodes : List Node) (i : ℕ) (block : List Step) (d : Decision) → IsTree nodes → i < length nodes → IsFree nodes i → length nodes + 2 ≤ 2 ^ 32 → AllByRecursion IsSpelledStep block → IsSpelledDecision d → IsTree (split_behind_at nodes i block d)
 tree_by_split nodes i block d tree there free room steps spelled =
-    tree_kept nodes (split_behind_at nodes i block d) i tree (changed_by_split nodes i block d there free) (linked_by_split nodes i block d tree.linked there free room)
+    tree_kept nodes (split_behind_at nodes i block d) i tree (changed_by_split nodes i block d there free) (fresh_by_split nodes i block d there) (linked_by_split nodes i block d tree.linked there free room)
     (λ j late. ap (λ (n : Node). n.block) (split_behind_at-behind nodes i block d there j late) ∙ two_empty _ refl (j - length nodes))
     (subst (λ (n : Node). AllByRecursion IsSpelledStep n.block) (sym (split_behind_at-same nodes i block d there)) steps)
     (subst (λ (n : Node). IsSpelledEnd n.end) (sym (split_behind_at-same nodes i block d there)) spelled)
@@ -89,7 +89,7 @@ past_empty (node ∷ nodes) (suc j) h = past_empty nodes j (omega arith)
 
 pub tree_by_close : (nodes : List Node) (i : ℕ) (block : List Step) → IsTree nodes → i < length nodes → IsFree nodes i → AllByRecursion IsSpelledStep block → IsTree (close_at nodes i block)
 tree_by_close nodes i block tree there free spelled =
-    tree_kept nodes (close_at nodes i block) i tree (changed_by_close nodes i block there free) (linked_by_close nodes i block tree.linked there free)
+    tree_kept nodes (close_at nodes i block) i tree (changed_by_close nodes i block there free) (fresh_by_close nodes i block there) (linked_by_close nodes i block tree.linked there free)
     (λ j late. past_empty (close_at nodes i block) j (omega (arith, length-close_at nodes i block there)))
     (subst (λ (n : Node). AllByRecursion IsSpelledStep n.block) (sym (close_at-same nodes i block there)) spelled)
     (subst (λ (n : Node). IsSpelledEnd n.end) (sym (close_at-same nodes i block there)) tt)

@@ -1,5 +1,5 @@
 -- What a list of nodes means as a tree.
-use Rattle.std.specs.Prelude.{◌≡◌, ℕ, ◌+◌, ◌-◌, ◌<◌, ◌≤◌, ◌^◌, List, [], ◌∷◌, ◌++◌, length, slice_index_or, slice_set, Bool, false, ◌||◌, ◌==◌, Option, Some, None, IsTrue}
+use Rattle.std.specs.Prelude.{◌≡◌, ℕ, zero, suc, ◌+◌, ◌-◌, ◌<◌, ◌≤◌, ◌^◌, List, [], ◌∷◌, ◌++◌, length, map, drop, slice_index_or, slice_set, Bool, false, ◌||◌, ◌==◌, Option, Some, None, IsTrue}
 use Rattle.std.specs.List.{AllByRecursion}
 use Rattle.cfn_model.specs.declared.step.Step.{Step}
 use Rattle.cfn_model.specs.declared.step.Decision.{Decision}
@@ -85,6 +85,44 @@ split_at nodes i d = split_behind_at nodes i (node_at nodes i).block d
 -- A leaf closed behind a block.
 abbrev pub close_at : List Node → ℕ → List Step → List Node
 close_at nodes i block = slice_set nodes i (record (node_at nodes i) { block = block; end = Shut })
+
+-- Where a node of a piece stands once the piece's root has taken the place of the node i of a tree of n nodes: the root
+-- at i, and the others, in their order, behind those of the tree.
+abbrev pub moved : ℕ → ℕ → ℕ → ℕ
+moved i n zero = i
+moved i n (suc m) = n + m
+
+abbrev pub moved_parent : ℕ → ℕ → Option NodeId → Option NodeId
+moved_parent i n None = None
+moved_parent i n (Some parent) = Some (record { number = moved i n parent.number })
+
+abbrev pub moved_end : ℕ → ℕ → End → End
+moved_end i n Free = Free
+moved_end i n Shut = Shut
+moved_end i n (Split d first second) = Split d (record { number = moved i n first.number }) (record { number = moved i n second.number })
+
+abbrev pub moved_node : ℕ → ℕ → Node → Node
+moved_node i n node = record node { parent = moved_parent i n node.parent; end = moved_end i n node.end }
+
+-- A tree after the root of a piece has taken the place of a leaf: the leaf's block goes on with the root's, the leaf
+-- ends as the root does, and the piece's other nodes stand behind all nodes of the tree.
+abbrev pub graft_at : List Node → ℕ → List Node → List Node
+graft_at nodes i piece =
+    slice_set nodes i (record (node_at nodes i) { block = (node_at nodes i).block ++ (node_at piece 0).block; end = moved_end i (length nodes) (node_at piece 0).end })
+    ++ map (moved_node i (length nodes)) (drop 1 piece)
+
+-- The numbers of the nodes that a node names stay below 2^32 where it is moved behind n nodes.
+abbrev pub FitsParent : ℕ → Option NodeId → Type 0
+FitsParent n None = Unit {0}
+FitsParent n (Some parent) = n + parent.number ≤ 2 ^ 32
+
+abbrev pub FitsEnd : ℕ → End → Type 0
+FitsEnd n Free = Unit {0}
+FitsEnd n Shut = Unit {0}
+FitsEnd n (Split d first second) = (n + first.number ≤ 2 ^ 32) × (n + second.number ≤ 2 ^ 32)
+
+abbrev pub FitsBehind : ℕ → Node → Type 0
+FitsBehind n node = FitsParent n node.parent × FitsEnd n node.end
 
 -- A node is an open leaf.
 abbrev pub IsFree : List Node → ℕ → Type 0

@@ -73,6 +73,23 @@ impl Block {
         pushed
     }
 
+    /// Puts the steps of another block before its own. It takes no memory where the other has no steps. An `Err`, want of
+    /// memory, leaves the block as it was.
+    pub(crate) fn put_behind(&mut self, first: &Block) -> Result<(), AllocError>
+        ensures ok { OnOk result (self.new ≡ first.now ++ self.old) }
+        ensures err { OnErr result (self.new ≡ self.old) }
+    {
+        if first.bytes.is_empty() {
+            return Ok(());
+        }
+        let alloc = *self.bytes.allocator();
+        let mut bytes = Vec::with_capacity(alloc, first.bytes.len() + self.bytes.len())?;
+        bytes.extend_from_slice(&first.bytes)?;
+        bytes.extend_from_slice(&self.bytes)?;
+        self.bytes = bytes;
+        Ok(())
+    }
+
     /// The same steps, in no more memory than they need. It takes no memory.
     pub(crate) fn fitted(self) -> Block
         ensures is { result ≡ self }

@@ -1,6 +1,6 @@
-//! Laws of trees: what a whole tree has where each of its nodes has it, and what a split or a closing changes.
+//! Laws of trees: what a whole tree has where each of its nodes has it, and what a split, a closing or a graft changes.
 
-ghost use Rattle.cfn_proof.specs.Local.{ValidLaw, StrictLaw, OpenBelowLaw, BoundFromLaw, BoundAtLaw, CountSplitLaw, CountSplitBehindLaw, CountCloseLaw, SplitsSplitLaw, SplitsSplitBehindLaw, SplitsCloseLaw, BeforeSplitLaw, BeforeSplitBehindLaw, BeforeCloseLaw, ValidSplitBehindLaw, StrictSplitBehindLaw, BeforeOnceLaw, BeforeSomeLaw, SpelledLaw, LinesLaw, NoneOpenLaw, SomeOpenLaw};
+ghost use Rattle.cfn_proof.specs.Local.{ValidLaw, StrictLaw, OpenBelowLaw, BoundFromLaw, BoundAtLaw, ValidBehindLaw, StrictBehindLaw, OpenBelowBehindLaw, BoundFromBehindLaw, BoundAtBehindLaw, CountSplitLaw, CountSplitBehindLaw, CountCloseLaw, SplitsSplitLaw, SplitsSplitBehindLaw, SplitsCloseLaw, CountGraftLaw, SplitsGraftLaw, GraftLaw, BeforeSplitLaw, BeforeSplitBehindLaw, BeforeCloseLaw, BeforeGraftLaw, ValidSplitBehindLaw, StrictSplitBehindLaw, ValidBehindSplitLaw, StrictBehindSplitLaw, ValidGraftLaw, StrictGraftLaw, BeforeOnceLaw, BeforeSomeLaw, SpelledLaw, LinesLaw, NoneOpenLaw, SomeOpenLaw};
 
 /// A tree is valid at a threshold, or strict, where each of its nodes is after what stands before it.
 pub fn valid_where_nodes_are()
@@ -13,6 +13,19 @@ pub fn bound_where_floors_are()
     ensures below { OpenBelowLaw }
     ensures from { BoundFromLaw }
     ensures at { BoundAtLaw }
+{}
+
+/// The same of a tree that stands behind a history, where each of its nodes has it behind that history.
+pub fn valid_behind_where_nodes_are()
+    ensures valid { ValidBehindLaw }
+    ensures strict { StrictBehindLaw }
+{}
+
+/// The floors of the open leaves of a tree that stands behind a history decide the same.
+pub fn bound_behind_where_floors_are()
+    ensures below { OpenBelowBehindLaw }
+    ensures from { BoundFromBehindLaw }
+    ensures at { BoundAtBehindLaw }
 {}
 
 /// A split or a closing of an open leaf adds one to the number of splits and closed leaves.
@@ -29,6 +42,13 @@ pub fn one_split_more()
     ensures close { SplitsCloseLaw }
 {}
 
+/// A graft puts a piece's tree in the place of the leaf, and adds its splits and closed leaves.
+pub fn grafted_tree()
+    ensures tree { GraftLaw }
+    ensures count { CountGraftLaw }
+    ensures splits { SplitsGraftLaw }
+{}
+
 /// What stands before a node stays where another leaf is split or closed.
 pub fn same_before()
     ensures split { BeforeSplitLaw }
@@ -42,6 +62,20 @@ pub fn same_before()
 pub fn kept_by_a_split()
     ensures valid { ValidSplitBehindLaw }
     ensures strict { StrictSplitBehindLaw }
+{}
+
+/// The same of nodes that stand behind a history.
+pub fn kept_behind_by_a_split()
+    ensures valid { ValidBehindSplitLaw }
+    ensures strict { StrictBehindSplitLaw }
+{}
+
+/// After a graft, what stands before a node of the piece is what stood before it, behind the leaf's path; so nodes stay
+/// valid and strict where those of the piece are behind that path.
+pub fn kept_by_a_graft()
+    ensures before { BeforeGraftLaw }
+    ensures valid { ValidGraftLaw }
+    ensures strict { StrictGraftLaw }
 {}
 
 /// A tree whose nodes have a spelling has one, and version 2 has lines for all of its decisions.

@@ -1,11 +1,12 @@
 //! A search tree, kept as a list of nodes in which every node stands behind its parent.
 //!
 //! So a tree is walked without recursion and without memory, and no drop is deep. Nodes are only added, and an
-//! open leaf may become a split or a closed leaf.
+//! open leaf may become a split or a closed leaf, or give its place to the root of another tree.
 
-ghost use Rattle.std.specs.Prelude.{◌≡◌, ◌+◌, ◌<◌, ◌≤◌, ◌^◌, [], ◌∷◌, ◌++◌, length, vec_len, vec_capacity, Some, None, IfOk, OnOk, OnErr};
+ghost use Rattle.std.specs.Prelude.{◌≡◌, ◌+◌, ◌<◌, ◌≤◌, ◌^◌, [], ◌∷◌, ◌++◌, length, map, drop, slice_set, vec_len, vec_capacity, Some, None, IfOk, IfErr, OnOk, OnErr};
+ghost use Rattle.std.specs.List.{AllByRecursion};
 ghost use Rattle.cfn_model.specs.Text.{IsSpelledDecision};
-ghost use Rattle.cfn_proof.specs.Nodes.{IsFree, IsTree, node_at, open_node, split_at, split_behind_at, close_at};
+ghost use Rattle.cfn_proof.specs.Nodes.{FitsBehind, FitsEnd, FitsParent, IsFree, IsTree, node_at, open_node, split_at, split_behind_at, close_at, graft_at, moved, moved_end, moved_node, moved_parent};
 ghost use Rattle.cfn_proof.specs.declared.tree.End.TheVariants.{Split};
 
 use crate::block::Block;
@@ -106,6 +107,93 @@ fn push_children(nodes: &mut Vec<Node>, leaf: NodeId)
     let second = Node::open(alloc, Some(leaf));
     nodes.push_reserved(first);
     nodes.push_reserved(second);
+}
+
+/// Where the nodes of a piece go: the root to a leaf of a tree of so many nodes, and the others behind those.
+#[derive(Clone, Copy)]
+struct Place {
+    leaf: NodeId,
+    nodes: usize,
+}
+
+impl Place {
+    /// Where a node goes.
+    fn id(self, id: NodeId) -> NodeId
+        requires { self.nodes + id.number ≤ 2 ^ 32 }
+        ensures { result.number ≡ moved self.leaf.number self.nodes id.number }
+    {
+        if id.number == 0 {
+            return self.leaf;
+        }
+        NodeId {
+            number: (self.nodes + id.number as usize - 1) as u32,
+        }
+    }
+
+    /// A parent by its new number.
+    fn parent(self, parent: Option<NodeId>) -> Option<NodeId>
+        requires { FitsParent self.nodes parent }
+        ensures { result ≡ moved_parent self.leaf.number self.nodes parent }
+    {
+        match parent {
+            None => None,
+            Some(parent) => Some(self.id(parent)),
+        }
+    }
+
+    /// An end with the new numbers of its children.
+    fn end(self, end: End) -> End
+        requires { FitsEnd self.nodes end }
+        ensures { result ≡ moved_end self.leaf.number self.nodes end }
+    {
+        match end {
+            End::Free => End::Free,
+            End::Shut => End::Shut,
+            End::Split {
+                decision,
+                first,
+                second,
+            } => End::Split {
+                decision,
+                first: self.id(first),
+                second: self.id(second),
+            },
+        }
+    }
+
+    /// A node with the new numbers of its parent and its children. It takes no memory.
+    fn node(self, node: Node) -> Node
+        requires { FitsBehind self.nodes node }
+        ensures { result ≡ moved_node self.leaf.number self.nodes node }
+    {
+        Node {
+            parent: self.parent(node.parent),
+            block: node.block,
+            end: self.end(node.end),
+        }
+    }
+
+    /// Puts the root of a piece in the leaf's place, and its other nodes behind all nodes. It takes no memory.
+    fn put(self, nodes: &mut Vec<Node>, piece: Vec<Node>)
+        requires there { self.leaf.number < length nodes.old.items }
+        requires some { 0 < length piece.items }
+        requires fit { AllByRecursion (FitsBehind self.nodes) piece.items }
+        requires room { vec_len nodes.old + vec_len piece ≤ vec_capacity nodes.old + 1 }
+        ensures { nodes.new.items ≡ slice_set nodes.old.items self.leaf.number (record (node_at nodes.old.items self.leaf.number) {
+          block = (node_at piece.items 0).block;
+          end = moved_end self.leaf.number self.nodes (node_at piece.items 0).end;
+        }) ++ map (moved_node self.leaf.number self.nodes) (drop 1 piece.items) }
+    {
+        let mut rest = piece.into_iter();
+        if let Some(root) = rest.next() {
+            let node = &mut nodes[self.leaf.number as usize];
+            node.block = root.block;
+            node.end = self.end(root.end);
+        }
+        for node in rest {
+            nodes.push_reserved(self.node(node));
+        }
+    }
 }
 
 /// A search tree of at most 4,294,967,296 nodes. Contracts see the list of its nodes.
@@ -230,6 +318,30 @@ impl Tree {
     {
         let node = &mut self.nodes[leaf.number as usize];
         node.end = End::Shut;
+    }
+
+    /// Puts a piece into an open leaf: its root takes the leaf's place, behind the leaf's block, and its other nodes stand
+    /// behind all nodes of the tree, in their order. No block is copied where the leaf's is empty. An `Err`, want of
+    /// memory or of numbers (more than 4,294,967,296 nodes), leaves the tree as it was and gives back the piece.
+    pub fn graft(&mut self, leaf: NodeId, piece: Tree) -> Result<(), Tree>
+        requires there { leaf.number < length self.old }
+        requires free { IsFree self.old leaf.number }
+        ensures ok { OnOk result (self.new ≡ graft_at self.old leaf.number piece) }
+        ensures err { OnErr result (self.new ≡ self.old) }
+        ensures back { IfErr result (λ given. given ≡ piece) }
+    {
+        let mut piece = piece;
+        let nodes = self.nodes.len();
+        let others = piece.nodes.len() - 1;
+        if others > Tree::MOST - nodes || self.nodes.reserve(others).is_err() {
+            return Err(piece);
+        }
+        let own = &self.nodes[leaf.number as usize].block;
+        if piece.nodes[0].block.put_behind(own).is_err() {
+            return Err(piece);
+        }
+        Place { leaf, nodes }.put(&mut self.nodes, piece.nodes);
+        Ok(())
     }
 
     /// The same tree, or want of memory.
