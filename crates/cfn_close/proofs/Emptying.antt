@@ -1,6 +1,6 @@
 -- What a lift, and a project with a lift, make of the state between the shifts that close a leaf.
 use Rattle.std.proofs.Common.{◌≡◌, ℕ, zero, suc, ◌+◌, ◌*◌, ◌<◌, ◌≤◌, inl, inr, List, [], ◌∷◌, length, Bool, true, false, refl, sym, ap, ◌∙◌, subst, arith}
-use Rattle.std.proofs.lemmas.Bool.{cases_eq}
+use Rattle.std.proofs.lemmas.Bool.{cases_eq, and_parts}
 use Rattle.std.proofs.lemmas.Int.{ints}
 use Rattle.std.specs.Prelude.{ℤ, pos, ◌+ℤ◌, neg_ℤ, ◌==◌, ◌&&◌, not, nat_lt, slice_index, IsTrue}
 use Rattle.cfn_model.specs.declared.step.Step.{Step}
@@ -67,25 +67,20 @@ lift_more before s t values k x f a there some is_a old lifted =
     }
 
 -- the one live tuple of a scope is the assignment's
-both : (a b : Bool) → (a && b) ≡ true → (a ≡ true) × (b ≡ true)
-both true true h = (refl, refl)
-both true false h = cc
-both false b h = cc
-
 tuple_is : (P : Network) (late : List Event) (values : List ℕ) → ((x v : ℕ) → IsValue P x v → IsTrue (is_live late x v) → v ≡ slice_index values x) → (scope tuple : List ℕ) → ((i : ℕ) → i < length scope → slice_index scope i < length P.sizes) → Fits (dims P.sizes scope) tuple → all_live late scope tuple ≡ true → tuple ≡ restrict scope values
 tuple_is P late values only [] [] within fits live = refl
 tuple_is P late values only [] (v ∷ tuple) within fits live = absurd fits
 tuple_is P late values only (x ∷ scope) [] within fits live = absurd fits
 tuple_is P late values only (x ∷ scope) (v ∷ tuple) within fits live =
-    let l = both (is_live late x v) (all_live late scope tuple) live in
+    let l = and_parts (is_live late x v) (all_live late scope tuple) live in
     let head = only x v (record { variable = within 0 (omega arith); value = fits.0 }) l.0 in
     let rest = tuple_is P late values only scope tuple (λ i h. within (suc i) (omega (arith, h))) fits.1 l.1 in
     ap (λ w. w ∷ tuple) head ∙ ap (λ t. slice_index values x ∷ t) rest
 
 picked_is : (P : Network) (late : List Event) (values : List ℕ) (f a : ℕ) (tuple : List ℕ) → IsNetwork P → f < length P.functions → ((x v : ℕ) → IsValue P x v → IsTrue (is_live late x v) → v ≡ slice_index values x) → IsPicked P late f 0 a tuple → tuple ≡ restrict (scope_at P f) values
 picked_is P late values f a tuple net there only is =
-    let b = both (all_live late (scope_at P f) tuple && nat_lt (entry_at P f tuple) P.upper) (not (is_cut late f (cell (dims_at P f) tuple))) is.live in
-    let d = both (all_live late (scope_at P f) tuple) (nat_lt (entry_at P f tuple) P.upper) b.0 in
+    let b = and_parts (all_live late (scope_at P f) tuple && nat_lt (entry_at P f tuple) P.upper) (not (is_cut late f (cell (dims_at P f) tuple))) is.live in
+    let d = and_parts (all_live late (scope_at P f) tuple) (nat_lt (entry_at P f tuple) P.upper) b.0 in
     tuple_is P late values only (scope_at P f) tuple (net.functions f there).variables is.fits d.0
 
 pub shift_more : (before s u t : Standing) (values : List ℕ) (k f a x : ℕ) → IsNetwork s.network → IsPlace s.network f 0 a → x ≡ variable_at s.network f 0 → x < length s.network.sizes → a ≡ slice_index values x → floor s.network (history s) < k → 1 < s.spare → IsShutting before s values k (length s.network.sizes) f → IsProjected s u k f a → IsLifted u t k x a → IsShutting before t values k (length s.network.sizes) (f + 1)

@@ -1,6 +1,6 @@
 -- Values get supports one after another.
 use Rattle.std.proofs.Common.{◌≡◌, ℕ, ◌+◌, ◌<◌, ◌≤◌, inl, inr, List, sym, ap, ◌∙◌, subst, arith}
-use Rattle.std.proofs.lemmas.Bool.{cases_eq}
+use Rattle.std.proofs.lemmas.Bool.{cases_eq, cases_lt}
 use Rattle.std.specs.Prelude.{Ok, pos, IsTrue}
 use Rattle.cfn_model.specs.declared.step.Event.{Event}
 use Rattle.cfn_model.specs.Network.{Network, arity, variable_at}
@@ -9,7 +9,7 @@ use Rattle.cfn_model.specs.Steps.{IsPlace, CanProject}
 use Rattle.cfn_consistency.specs.Consistency.{HasSupport, IsArcConsistent}
 use Rattle.cfn_store.specs.declared.scan.Extreme.{Extreme}
 use Rattle.cfn_store.specs.declared.scan.Sense.TheVariants.{Least}
-use Rattle.cfn_store.specs.Extremes.{NonePicked, IsExtreme}
+use Rattle.cfn_store.specs.Extremes.{NonePicked, IsExtreme, IsFree}
 use Rattle.cfn_store.specs.Standing.{Standing, history}
 use Rattle.cfn_gain.specs.declared.limits.Limits.{Limits}
 use Rattle.cfn_gain.specs.Calls.{Does, Passing, IsUnchanged}
@@ -60,18 +60,34 @@ can_project P history f i a found is tuple fits at live = is.bounds tuple (recor
 pub none_to_project : (P : Network) (history : List Event) (f i a m : ℕ) → NonePicked P history f i a → CanProject P history f i a m
 none_to_project P history f i a m none tuple fits at live = absurd (none tuple (record { fits = fits; value = at; live = live }))
 
--- one value more, which got a support or is not live
+-- one value more, which got a support
 pub supported_more : (before now next : Standing) (limits : Limits) (f i n : ℕ) → Passing before now limits (AreSupportedTo before.network (history before) f i n) → Does now next limits (Ok tt) → (IsUnchanged now next → HasSupport now.network (history now) f i n) → Passing before next limits (AreSupportedTo before.network (history before) f i (n + 1))
 supported_more before now next limits f i n p does here =
     passing_adds before now next limits _ _ p does.adds does.ends
     (λ is fact same. next_supported before.network (history before) f i n fact (λ place live. subst (λ t. HasSupport t.network (history t) f i n) is (here same)))
 
-pub supported_skip : (before now : Standing) (limits : Limits) (f i n : ℕ) → Passing before now limits (AreSupportedTo before.network (history before) f i n) → (IsTrue (is_live (history now) (variable_at now.network f i) n) → ⊥) → Passing before now limits (AreSupportedTo before.network (history before) f i (n + 1))
-supported_skip before now limits f i n p dead = record {
+-- the values up to another one, each of which has a tuple that costs nothing
+free_support : (P : Network) (history : List Event) (f i a : ℕ) → IsFree P history f i a → HasSupport P history f i a
+free_support P history f i a is = record {
+  tuple = is.tuple;
+  fits = is.picked.fits;
+  at = is.picked.value;
+  live = is.picked.live;
+  free = is.free;
+}
+
+pub supported_passed : (before now : Standing) (limits : Limits) (f i n m : ℕ) → Passing before now limits (AreSupportedTo before.network (history before) f i n)
+    → ((a : ℕ) → n ≤ a → a < m → IsPlace now.network f i a → IsTrue (is_live (history now) (variable_at now.network f i) a) → IsFree now.network (history now) f i a)
+    → Passing before now limits (AreSupportedTo before.network (history before) f i m)
+supported_passed before now limits f i n m p passed = record {
   goes = p.goes;
   adds = p.adds;
-  fact = λ same. next_supported before.network (history before) f i n (p.fact same)
-      (λ place live. absurd (dead (subst (λ t. IsTrue (is_live (history t) (variable_at t.network f i) n)) (sym (unchanged before now limits p.adds same)) live)));
+  fact = λ same a l place live. elim (cases_lt a n) [
+    | inl less ↦ p.fact same a less place live
+    | inr from ↦ (let is = unchanged before now limits p.adds same in
+        subst (λ t. HasSupport t.network (history t) f i a) is (free_support now.network (history now) f i a
+        (passed a from l (subst (λ t. IsPlace t.network f i a) (sym is) place) (subst (λ t. IsTrue (is_live (history t) (variable_at t.network f i) a)) (sym is) live))))
+  ];
 }
 
 pub place_more : (before now next : Standing) (limits : Limits) (f n : ℕ) → Passing before now limits (ArePlacesTo before.network (history before) f n) → Does now next limits (Ok tt) → (IsUnchanged now next → AreSupported now.network (history now) f n) → Passing before next limits (ArePlacesTo before.network (history before) f (n + 1))

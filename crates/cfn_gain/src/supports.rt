@@ -85,11 +85,13 @@ pub fn support_at(store: &mut Store<'_>, limits: Limits, f: u32, place: u32) -> 
     ensures supports { Shows store.old store.new result (AreSupported store.old.network (history store.old) f place) }
 {
     store.network().limits();
-    let x = store.network().scope(f)[place as usize];
-    for value in 0..store.network().size(x) {
-        if store.is_live(x, value) {
-            support(store, limits, f, place, value)?;
-        }
+    let size = store
+        .network()
+        .size(store.network().scope(f)[place as usize]);
+    let mut value = store.next_in_doubt(f, place, 0);
+    while value < size {
+        support(store, limits, f, place, value)?;
+        value = store.next_in_doubt(f, place, value + 1);
     }
     Ok(())
 }

@@ -1,16 +1,15 @@
 -- Histories: what they take, what they lift, and the steps at their end.
-use Rattle.std.proofs.Common.{◌≡◌, ℕ, suc, ◌+◌, ◌*◌, ◌<◌, ◌≤◌, ◌^◌, not, ◌&&◌, List, [], ◌∷◌, ◌++◌, length, reverse, refl, sym, ap, ◌∙◌, arith}
+use Rattle.std.proofs.Common.{◌≡◌, ℕ, ◌+◌, ◌*◌, ◌≤◌, ◌^◌, not, ◌&&◌, List, [], ◌∷◌, ◌++◌, length, reverse, refl, sym, ap, ◌∙◌, arith}
 use Rattle.std.proofs.lemmas.List.{reverse-append, append_assoc}
-use Rattle.std.proofs.lemmas.List.Sums.{sum_by-cons}
 use Rattle.std.proofs.Math.Nat.{mul-le-mul}
-use Rattle.std.specs.Prelude.{sum_by, slice_index, slice_index_or}
 use Rattle.cfn_model.specs.declared.step.Step.{Step}
 use Rattle.cfn_model.specs.declared.step.Step.TheVariants.{Project, Extend, Lift, CutValue, CutTuple}
 use Rattle.cfn_model.specs.declared.step.Event.{Event}
 use Rattle.cfn_model.specs.declared.step.Event.TheVariants.{Did, Took, Refused}
-use Rattle.cfn_model.specs.Network.{Function, Network, IsNetwork, function_at, no_function}
-use Rattle.cfn_model.specs.Sums.{is_live, removes, floor, constant, constant_of}
+use Rattle.cfn_model.specs.Network.{Network, IsNetwork}
+use Rattle.cfn_model.specs.Sums.{is_live, removes, floor}
 use Rattle.cfn_model.specs.Steps.{after, AllInRange, EventInRange}
+use Rattle.cfn_net.proofs.CallerLemmas.{floor_at_root}
 use Rattle.cfn_store.specs.Events.{removals, steps_in, AllSteps}
 use Rattle.cfn_store.specs.Exact.{InPlace, AllInPlace, IsExact, IsExactAlong, LiftsFit}
 
@@ -45,26 +44,9 @@ pub all_in_range : (P : Network) (history : List Event) → AllInPlace P history
 all_in_range P [] place = tt {0}
 all_in_range P (event ∷ history) place = (in_range P event place.0, all_in_range P history place.1)
 
--- the constants together
-constants_below : (fs : List Function) (most : ℕ) → ((f : ℕ) → f < length fs → constant (slice_index_or fs f no_function) ≤ most) → sum_by constant fs ≤ length fs * most
-constants_below [] most each = omega arith
-constants_below (f ∷ fs) most each =
-    let r = constants_below fs most (λ i l. each (suc i) (omega (arith, l))) in
-    let h = each 0 (omega arith) in
-    let c = sum_by-cons constant f fs in
-    let g : suc (length fs) * most ≡ most + length fs * most = grind arith in
-    omega (arith, r, h, c, g)
-
-capped_constant : (P : Network) (f : ℕ) → IsNetwork P → f < length P.functions → constant (function_at P f) ≤ P.upper
-capped_constant P f net l = go (function_at P f).scope (function_at P f).entries (λ c. (net.functions f l).capped c)
-  where
-    go : (scope entries : List ℕ) → ((c : ℕ) → slice_index entries c ≤ P.upper) → constant_of scope entries ≤ P.upper
-    go [] entries capped = capped 0
-    go (x ∷ scope) entries capped = omega arith
-
 pub floor_start : (P : Network) → IsNetwork P → floor P [] ≤ 2 ^ 20 * 2 ^ 64
 floor_start P net =
-    let s = constants_below P.functions P.upper (λ f l. capped_constant P f net l) in
+    let s = floor_at_root P net in
     let u = net.upper in
     let few = net.few_functions in
     let small : P.upper ≤ 18446744073709551616 = omega (arith, u) in

@@ -1,5 +1,6 @@
 -- A scan from the start of a scope finds the extreme residual cost.
-use Rattle.std.proofs.Common.{◌≡◌, ℕ, ◌+◌, ◌<◌, ◌^◌, Bool, true, false, not, ◌&&◌, List, length, refl, sym, ap, subst, ◌∙◌, arith}
+use Rattle.std.proofs.Common.{◌≡◌, ℕ, ◌+◌, ◌<◌, ◌^◌, true, false, not, ◌&&◌, List, length, refl, sym, ap, subst, ◌∙◌, arith}
+use Rattle.std.proofs.lemmas.Bool.{and_parts, and_from}
 use Rattle.std.proofs.lemmas.Int.{ints}
 use Rattle.std.specs.Prelude.{ℤ, pos, neg_ℤ, ◌+ℤ◌, slice_index, slice_index_or, nat_lt, Option, Some, None, MatchOption}
 use Rattle.cfn_model.specs.declared.step.Event.{Event}
@@ -27,16 +28,6 @@ use Rattle.cfn_store.specs.Reading.{Reads, start}
 use Rattle.cfn_store.proofs.Shifting.{residual_is}
 use Rattle.cfn_store.proofs.Wrapping.{exact, itself}
 
-both : (a b : Bool) → (a && b) ≡ true → (a ≡ true) × (b ≡ true)
-both true true h = (refl, refl)
-both true false h = cc
-both false b h = cc
-
-join : (a b : Bool) → a ≡ true → b ≡ true → (a && b) ≡ true
-join true true h k = refl
-join true false h k = cc
-join false b h k = cc
-
 last_is : (P : Network) (history : List Event) (f : ℕ) (scan : Scan) (tuple : List ℕ) → Reads P history f scan → Fits (dims_at P f) tuple → is_last scan (cell_from 0 (dims scan.sizes.now (scope_at P f)) tuple) ≡ (nat_lt (entry_at P f tuple) P.upper && not (is_cut history f (cell (dims_at P f) tuple)))
 last_is P history f scan tuple reads fits =
     let same : cell_from 0 (dims scan.sizes.now (scope_at P f)) tuple ≡ cell (dims_at P f) tuple = ap (λ sizes. cell_from 0 (dims sizes (scope_at P f)) tuple) reads.sizes in
@@ -51,12 +42,12 @@ pub picked : (P : Network) (history : List Event) (f : ℕ) (one two : Pin) (sca
 picked P history f one two scan tuple reads first second l m met =
     let fits : Fits (dims_at P f) tuple = subst (λ sizes. Fits (dims sizes (scope_at P f)) tuple) reads.sizes met.fits in
     let facts = met_facts scan history reads.live (scope_at P f) tuple start met.fits met.met in
-    let last = both (nat_lt (entry_at P f tuple) P.upper) (not (is_cut history f (cell (dims_at P f) tuple))) (sym (last_is P history f scan tuple reads fits) ∙ facts.3) in
+    let last = and_parts (nat_lt (entry_at P f tuple) P.upper) (not (is_cut history f (cell (dims_at P f) tuple))) (sym (last_is P history f scan tuple reads fits) ∙ facts.3) in
     record {
       fits = fits;
       one = subst (λ pin. AgreesFrom pin (scope_at P f) 0 tuple) first facts.1 one.place l (omega arith);
       other = subst (λ pin. AgreesFrom pin (scope_at P f) 0 tuple) second facts.2 two.place m (omega arith);
-      live = join (all_live history (scope_at P f) tuple && nat_lt (entry_at P f tuple) P.upper) (not (is_cut history f (cell (dims_at P f) tuple))) (join (all_live history (scope_at P f) tuple) (nat_lt (entry_at P f tuple) P.upper) facts.0 last.0) last.1;
+      live = and_from (all_live history (scope_at P f) tuple && nat_lt (entry_at P f tuple) P.upper) (not (is_cut history f (cell (dims_at P f) tuple))) (and_from (all_live history (scope_at P f) tuple) (nat_lt (entry_at P f tuple) P.upper) facts.0 last.0) last.1;
     }
 
 agrees_all : (pin : Pin) (scope tuple : List ℕ) → slice_index tuple pin.place ≡ pin.value → AgreesFrom pin scope 0 tuple
@@ -65,14 +56,14 @@ agrees_all pin scope tuple is j l e = (let there : j ≡ pin.place = omega (arit
 pub met : (P : Network) (history : List Event) (f : ℕ) (one two : Pin) (scan : Scan) (tuple : List ℕ) → Reads P history f scan → scan.one ≡ one → scan.two ≡ two → IsPickedBetween P history f one.place one.value two.place two.value tuple → IsMet scan (scope_at P f) start tuple
 met P history f one two scan tuple reads first second is =
     let fits = subst (λ sizes. Fits (dims sizes (scope_at P f)) tuple) (sym reads.sizes) is.fits in
-    let b = both (all_live history (scope_at P f) tuple && nat_lt (entry_at P f tuple) P.upper) (not (is_cut history f (cell (dims_at P f) tuple))) is.live in
-    let d = both (all_live history (scope_at P f) tuple) (nat_lt (entry_at P f tuple) P.upper) b.0 in
+    let b = and_parts (all_live history (scope_at P f) tuple && nat_lt (entry_at P f tuple) P.upper) (not (is_cut history f (cell (dims_at P f) tuple))) is.live in
+    let d = and_parts (all_live history (scope_at P f) tuple) (nat_lt (entry_at P f tuple) P.upper) b.0 in
     record {
       fits = fits;
       met = facts_met scan history reads.live (scope_at P f) tuple start fits d.0
           (subst (λ pin. AgreesFrom pin (scope_at P f) 0 tuple) (sym first) (agrees_all one (scope_at P f) tuple is.one))
           (subst (λ pin. AgreesFrom pin (scope_at P f) 0 tuple) (sym second) (agrees_all two (scope_at P f) tuple is.other))
-          (last_is P history f scan tuple reads is.fits ∙ join (nat_lt (entry_at P f tuple) P.upper) (not (is_cut history f (cell (dims_at P f) tuple))) d.1 b.1);
+          (last_is P history f scan tuple reads is.fits ∙ and_from (nat_lt (entry_at P f tuple) P.upper) (not (is_cut history f (cell (dims_at P f) tuple))) d.1 b.1);
     }
 
 some_places : (n : ℕ) (z : ℤ) → 0 < n → when (nat_lt 0 n) z ≡ z

@@ -13,7 +13,7 @@ use Rattle.cfn_store.specs.declared.line.Line.{Line}
 use Rattle.cfn_store.specs.declared.scan.Extreme.{Extreme}
 use Rattle.cfn_store.specs.declared.scan.Sense.TheVariants.{Least}
 use Rattle.cfn_store.specs.Scanning.{IsSooner}
-use Rattle.cfn_store.specs.Extremes.{IsPicked, NonePicked, IsExtreme, IsPickedBetween, NoneBetween, IsLeastBetween}
+use Rattle.cfn_store.specs.Extremes.{IsPicked, NonePicked, IsExtreme, IsPickedBetween, NoneBetween, IsLeastBetween, IsFree}
 use Rattle.cfn_store.specs.Lines.{IsLine, IsAlong}
 use Rattle.cfn_store.specs.Rooms.{sets_of}
 use Rattle.cfn_store.specs.Standing.{Standing, history}
@@ -122,7 +122,7 @@ stands_along s f i a j line values k is place are l =
     record {
       is_line = is;
       place = record {
-        function = is.place.function;
+        function = is.is_way.place.function;
         place = place;
         value = let v = live.0.value in let d = get_or-dims s.network.sizes (scope_at s.network f) j place in omega (arith, v, d);
       };
@@ -137,4 +137,12 @@ nothing_is_least P history f i a j b found exact there least none = record {
   cell_is = least.cell_is;
   cost_is = least.cost_is;
   bounds = λ other picked. let debt = exact.no_debts.residual f other there picked.fits picked.live in subst (λ n. pos n ≤ℤ residual P history f other) (sym none) debt;
+}
+
+-- such a tuple is one that has one of its values, too
+pub free_between : (P : Network) (history : List Event) (f i a j b : ℕ) (found : Extreme) → IsLeastBetween P history f i a j b found → found.cost ≡ 0 → IsFree P history f i a
+free_between P history f i a j b found least none = record {
+  tuple = least.tuple;
+  picked = picked_one P history f i a j b least.tuple least.picked;
+  free = least.cost_is ∙ ap pos none;
 }

@@ -16,6 +16,7 @@ pub mod Going
 pub mod Paths
 pub mod Amounts
 pub mod Lines
+pub mod Sides
 pub mod Tuples
 pub mod Least
 pub mod CallerLemmas

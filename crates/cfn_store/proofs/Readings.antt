@@ -1,12 +1,12 @@
 -- What a scan reads of a history: which tuples it meets, and that their words are their residual costs.
-use Rattle.std.proofs.Common.{◌≡◌, ℕ, suc, zero, ◌+◌, ◌<◌, ◌^◌, Bool, true, false, not, ◌&&◌, ◌||◌, List, [], ◌∷◌, length, refl, sym, ap, subst, ◌∙◌, inl, inr, arith}
-use Rattle.std.proofs.lemmas.Bool.{cases_eq}
+use Rattle.std.proofs.Common.{◌≡◌, ℕ, suc, zero, ◌+◌, ◌<◌, ◌^◌, Bool, true, false, not, ◌&&◌, ◌||◌, List, [], ◌∷◌, length, refl, sym, ap, subst, ◌∙◌, arith, eqb-true}
+use Rattle.std.proofs.lemmas.Bool.{and_parts, and_from}
 use Rattle.std.proofs.lemmas.Int.{ints}
 use Rattle.std.specs.Prelude.{ℤ, pos, neg_ℤ, ◌+ℤ◌, ◌==◌, slice_index, slice_index_or, nat_lt}
 use Rattle.cfn_model.specs.declared.step.Event.{Event}
 use Rattle.cfn_model.specs.Network.{Network, Fits, cell_from, dims, dims_at, scope_at, arity}
 use Rattle.cfn_model.specs.Sums.{is_live, all_live}
-use Rattle.cfn_model.proofs.CallerLemmas.{eqb_same, eqb_other}
+use Rattle.cfn_model.proofs.CallerLemmas.{eqb_same}
 use Rattle.cfn_net.proofs.CallerLemmas.{length-dims}
 use Rattle.cfn_store.specs.Wrapped.{StandsFor}
 use Rattle.cfn_store.specs.Shifts.{shift, along, offset}
@@ -18,16 +18,6 @@ use Rattle.cfn_store.specs.Reading.{Reads}
 use Rattle.cfn_store.proofs.Wrapping.{sum_stands, difference_stands, itself}
 use Rattle.cfn_store.proofs.Offsets.{offset_next}
 
-both : (a b : Bool) → (a && b) ≡ true → (a ≡ true) × (b ≡ true)
-both true true h = (refl, refl)
-both true false h = cc
-both false b h = cc
-
-join : (a b : Bool) → a ≡ true → b ≡ true → (a && b) ≡ true
-join true true h k = refl
-join true false h k = cc
-join false b h k = cc
-
 other : (a b : Bool) → (not a || b) ≡ true → a ≡ true → b ≡ true
 other true b h e = h
 other false b h e = cc
@@ -35,15 +25,6 @@ other false b h e = cc
 either : (a b : Bool) → (a ≡ true → b ≡ true) → (not a || b) ≡ true
 either true b h = h refl
 either false b h = refl
-
-same_number : (a b : ℕ) → (a == b) ≡ true → a ≡ b
-same_number a b h = elim (cases_eq a b) [
-  | inl e ↦ e
-  | inr e ↦ absurd (no (sym h ∙ eqb_other a b e))
-]
-  where
-    no : true ≡ false → ⊥
-    no e = cc
 
 -- the entry of a tuple is below the upper bound, and it is not cut
 abbrev pub is_last : Scan → ℕ → Bool
@@ -54,11 +35,11 @@ abbrev pub AgreesFrom : Pin → List ℕ → ℕ → List ℕ → Type 0
 AgreesFrom pin scope place rest = (j : ℕ) → j < length scope → place + j ≡ pin.place → slice_index rest j ≡ pin.value
 
 agrees_more : (pin : Pin) (x : ℕ) (scope : List ℕ) (place v : ℕ) (rest : List ℕ) → agrees pin place v ≡ true → AgreesFrom pin scope (place + 1) rest → AgreesFrom pin (x ∷ scope) place (v ∷ rest)
-agrees_more pin x scope place v rest asked later zero l e = same_number v pin.value (other (place == pin.place) (v == pin.value) asked (eqb_same place pin.place (omega (arith, e))))
+agrees_more pin x scope place v rest asked later zero l e = eqb-true v pin.value (other (place == pin.place) (v == pin.value) asked (eqb_same place pin.place (omega (arith, e))))
 agrees_more pin x scope place v rest asked later (suc j) l e = later j (omega (arith, l)) (omega (arith, e))
 
 agrees_here : (pin : Pin) (x : ℕ) (scope : List ℕ) (place v : ℕ) (rest : List ℕ) → AgreesFrom pin (x ∷ scope) place (v ∷ rest) → agrees pin place v ≡ true
-agrees_here pin x scope place v rest at = either (place == pin.place) (v == pin.value) (λ e. eqb_same v pin.value (at 0 (omega arith) (let s = same_number place pin.place e in omega (arith, s))))
+agrees_here pin x scope place v rest at = either (place == pin.place) (v == pin.value) (λ e. eqb_same v pin.value (at 0 (omega arith) (let s = eqb-true place pin.place e in omega (arith, s))))
 
 agrees_behind : (pin : Pin) (x : ℕ) (scope : List ℕ) (place v : ℕ) (rest : List ℕ) → AgreesFrom pin (x ∷ scope) place (v ∷ rest) → AgreesFrom pin scope (place + 1) rest
 agrees_behind pin x scope place v rest at = λ j l e. at (suc j) (omega (arith, l)) (omega (arith, e))
@@ -71,11 +52,11 @@ met_facts scan history live [] (v ∷ rest) spot fits met = absurd fits
 met_facts scan history live (x ∷ scope) [] spot fits met = absurd fits
 met_facts scan history live (x ∷ scope) (v ∷ rest) spot fits met =
     let next = gone_on scan spot (slice_index scan.sizes.now x) v in
-    let b = both (may_stand scan spot.place x v) (is_met scan scope next rest) met in
-    let d = both (is_live scan.live.now.history x v) (agrees scan.one spot.place v && agrees scan.two spot.place v) b.0 in
-    let e = both (agrees scan.one spot.place v) (agrees scan.two spot.place v) d.1 in
+    let b = and_parts (may_stand scan spot.place x v) (is_met scan scope next rest) met in
+    let d = and_parts (is_live scan.live.now.history x v) (agrees scan.one spot.place v && agrees scan.two spot.place v) b.0 in
+    let e = and_parts (agrees scan.one spot.place v) (agrees scan.two spot.place v) d.1 in
     let r = met_facts scan history live scope rest next fits.1 b.1 in (
-      join (is_live history x v) (all_live history scope rest) (sym (live x v) ∙ d.0) r.0,
+      and_from (is_live history x v) (all_live history scope rest) (sym (live x v) ∙ d.0) r.0,
       agrees_more scan.one x scope spot.place v rest e.0 r.1,
       agrees_more scan.two x scope spot.place v rest e.1 r.2,
       r.3,
@@ -88,10 +69,10 @@ facts_met scan history live [] (v ∷ rest) spot fits all one two last = absurd 
 facts_met scan history live (x ∷ scope) [] spot fits all one two last = absurd fits
 facts_met scan history live (x ∷ scope) (v ∷ rest) spot fits all one two last =
     let next = gone_on scan spot (slice_index scan.sizes.now x) v in
-    let b = both (is_live history x v) (all_live history scope rest) all in
-    let here = join (agrees scan.one spot.place v) (agrees scan.two spot.place v) (agrees_here scan.one x scope spot.place v rest one) (agrees_here scan.two x scope spot.place v rest two) in
-    join (may_stand scan spot.place x v) (is_met scan scope next rest)
-    (join (is_live scan.live.now.history x v) (agrees scan.one spot.place v && agrees scan.two spot.place v) (live x v ∙ b.0) here)
+    let b = and_parts (is_live history x v) (all_live history scope rest) all in
+    let here = and_from (agrees scan.one spot.place v) (agrees scan.two spot.place v) (agrees_here scan.one x scope spot.place v rest one) (agrees_here scan.two x scope spot.place v rest two) in
+    and_from (may_stand scan spot.place x v) (is_met scan scope next rest)
+    (and_from (is_live scan.live.now.history x v) (agrees scan.one spot.place v && agrees scan.two spot.place v) (live x v ∙ b.0) here)
     (facts_met scan history live scope rest next fits.1 b.1 (agrees_behind scan.one x scope spot.place v rest one) (agrees_behind scan.two x scope spot.place v rest two) last)
 
 -- the word of a tuple stands for its entry less what was moved away along it

@@ -1,6 +1,6 @@
 -- How what a scan finds behind each choice makes what it finds.
-use Rattle.std.proofs.Common.{◌≡◌, ℕ, suc, ◌+◌, ◌*◌, ◌%◌, ◌^◌, ◌<◌, ◌≤◌, Bool, true, false, ◌&&◌, List, [], ◌∷◌, length, refl, sym, ap, subst, ◌∙◌, inl, inr, arith}
-use Rattle.std.proofs.lemmas.Bool.{cases_eq}
+use Rattle.std.proofs.Common.{◌≡◌, ℕ, suc, ◌+◌, ◌*◌, ◌%◌, ◌^◌, ◌<◌, ◌≤◌, List, [], ◌∷◌, length, refl, sym, ap, subst, ◌∙◌, inl, inr, arith}
+use Rattle.std.proofs.lemmas.Bool.{cases_eq, and_parts, and_from}
 use Rattle.std.proofs.lemmas.List.{drop_more, drop_all}
 use Rattle.std.proofs.Math.Nat.{mul-le-mul_left, mul-le-mul_right, mul_assoc}
 use Rattle.std.specs.Prelude.{Option, Some, None, slice_index, drop, IsTrue, MatchOption}
@@ -15,16 +15,6 @@ use Rattle.cfn_store.specs.declared.scan.Sense.{Sense}
 use Rattle.cfn_store.specs.declared.scan.Sense.TheVariants.{Least, Greatest}
 use Rattle.cfn_store.specs.Scanning.{IsSpot, AreChoices, NoneMet, IsFound, IsMet, IsSooner, Before, is_met, word_of, gone_on, may_stand, ended, key, found_with, IsTail}
 
-both : (a b : Bool) → (a && b) ≡ true → (a ≡ true) × (b ≡ true)
-both true true h = (refl, refl)
-both true false h = cc
-both false b h = cc
-
-join : (a b : Bool) → a ≡ true → b ≡ true → (a && b) ≡ true
-join true true h k = refl
-join true false h k = cc
-join false b h k = cc
-
 abbrev behind : Scan → ℕ → Spot → ℕ → Spot
 behind scan x spot value = gone_on scan spot (slice_index scan.sizes.now x) value
 
@@ -32,12 +22,12 @@ behind scan x spot value = gone_on scan spot (slice_index scan.sizes.now x) valu
 met_of : (scan : Scan) (x : ℕ) (scope : List ℕ) (spot : Spot) (value : ℕ) (rest : List ℕ) → value < slice_index scan.sizes.now x → IsTrue (may_stand scan spot.place x value) → IsMet scan scope (behind scan x spot value) rest → IsMet scan (x ∷ scope) spot (value ∷ rest)
 met_of scan x scope spot value rest small stands met = record {
   fits = (small, met.fits);
-  met = join (may_stand scan spot.place x value) (is_met scan scope (behind scan x spot value) rest) stands met.met;
+  met = and_from (may_stand scan spot.place x value) (is_met scan scope (behind scan x spot value) rest) stands met.met;
 }
 
 met_behind : (scan : Scan) (x : ℕ) (scope : List ℕ) (spot : Spot) (value : ℕ) (rest : List ℕ) → IsMet scan (x ∷ scope) spot (value ∷ rest) → (value < slice_index scan.sizes.now x) × IsTrue (may_stand scan spot.place x value) × IsMet scan scope (behind scan x spot value) rest
 met_behind scan x scope spot value rest met =
-    let b = both (may_stand scan spot.place x value) (is_met scan scope (behind scan x spot value) rest) met.met in
+    let b = and_parts (may_stand scan spot.place x value) (is_met scan scope (behind scan x spot value) rest) met.met in
     (met.fits.0, b.0, record { fits = met.fits.1; met = b.1 })
 
 pub record IsFirst (scan : Scan) (x : ℕ) (scope : List ℕ) (spot : Spot) (values : List ℕ) (n : ℕ) (found : Extreme) : Type 0 where

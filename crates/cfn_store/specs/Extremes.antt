@@ -47,6 +47,12 @@ pub record IsLeastBetween (P : Network) (history : List Event) (f i a j b : ℕ)
   pub cost_is : residual P history f tuple ≡ pos extreme.cost
   pub least : (other : List ℕ) → IsPickedBetween P history f i a j b other → pos extreme.cost ≤ℤ residual P history f other
 
+-- A live tuple of f with the value a at place i costs nothing.
+pub record IsFree (P : Network) (history : List Event) (f i a : ℕ) : Type 0 where
+  pub tuple : List ℕ
+  pub picked : IsPicked P history f i a tuple
+  pub free : residual P history f tuple ≡ pos 0
+
 -- The same of the least and the greatest, for a scan that asks for the two values.
 pub record IsExtremeBetween (P : Network) (history : List Event) (f i a j b : ℕ) (sense : Sense) (extreme : Extreme) : Type 0 where
   pub tuple : List ℕ

@@ -1,4 +1,5 @@
 pub mod Wrapped
+pub mod Unaries
 pub mod Shifts
 pub mod Exact
 pub mod Events

@@ -3,8 +3,9 @@
 //! - `Store` stands for a list of events along a path. Each call that makes a step, or goes to a side of a split, appends
 //!   its event; `mark` and `undo` go back, and `replay` goes to another path by way of what the two have in common. It
 //!   tells the floor, unary costs, live values, extreme residual costs and the greatest amounts that steps take.
-//! - `Mark` is a place on the path; `Extreme` is a residual cost with a tuple that has it; `Line` tells the residual costs of
-//!   a function of two variables along the values of one of them.
+//! - `Mark` is a place on the path; `Extreme` is a residual cost with a tuple that has it; a `Side` is a function of two
+//!   variables seen from one of them, and its `Line` tells the residual costs along the values of the other one;
+//!   `Unaries` are the unary costs of one variable's values.
 //!
 //! Inside, `State` keeps the events and undoes each as it was made: `Sums` has the costs (`sums.rt`), `Cuts` which tuples
 //! are cut, and `cfn_live` which values are live. `scan.rt` is the only loop over tables; `block.rt` packs the newest steps.
@@ -19,11 +20,13 @@ mod state;
 mod store;
 mod sums;
 mod supports;
+mod unaries;
 
-pub use line::Line;
+pub use line::{Line, Side};
 pub use mark::Mark;
 pub use scan::{Extreme, Sense};
 pub use store::Store;
+pub use unaries::Unaries;
 
 #[cfg(test)]
 mod tests;

@@ -1,79 +1,131 @@
-//! The tuples of a function of two variables that have one value at one place: one for each value of the other variable.
+//! Functions of two variables: the tuples that have one value at one place, one for each value of the other variable.
 //!
-//! What a function's row needs is looked up once, so that a loop over the other values reads a table entry and a shift for
-//! each of them, and nothing else (the "delta costs" of binary cost functions in toulbar2).
+//! What a function's tuples need is looked up once for a place, so that a loop over the values there, and over the other
+//! variable's, reads a table entry and a shift for each of them, and nothing else (the "delta costs" of binary cost
+//! functions in toulbar2).
 
-ghost use Rattle.std.specs.Prelude.{◌≡◌, ℕ, List, true, MatchOption, IsSomeAnd};
+ghost use Rattle.std.specs.Prelude.{◌≡◌, ℕ, ◌+◌, ◌<◌, List, [], ◌∷◌, true, MatchOption, IsSomeAnd};
 ghost use Rattle.cfn_model.specs.declared.step.Event.{Event};
-ghost use Rattle.cfn_model.specs.Network.{Network};
+ghost use Rattle.cfn_model.specs.Network.{Network, variable_at};
 ghost use Rattle.cfn_store.specs.Extremes.{NoneBetween, IsLeastBetween};
+ghost use Rattle.cfn_store.specs.Reading.{start};
 ghost use Rattle.cfn_store.specs.declared.scan.Sense.TheVariants.{Least};
-ghost use Rattle.cfn_store.specs.Scanning.{IsSooner};
-ghost use Rattle.cfn_store.specs.Lines.{IsAlong, turned_to, first_value, second_value};
+ghost use Rattle.cfn_store.specs.Scanning.{IsSooner, IsSpot};
+ghost use Rattle.cfn_model.specs.Steps.{IsPlace};
+ghost use Rattle.cfn_store.specs.Lines.{IsAlong, IsSideOf, IsSide, line_of};
 
-use crate::scan::{Extreme, Pin, Scan, Spot};
+use crate::scan::{Extreme, Scan};
+
+/// A function of two variables, seen from one of its places.
+#[derive(Drop)]
+pub struct Side<'a> {
+    table: &'a [u64],
+    flags: &'a [bool],
+    /// What was moved away from the tuples with each value at this place, and with each value at the other one.
+    own: &'a [u64],
+    others: &'a [u64],
+    upper: u64,
+    /// How far the numbers of tuples are apart whose values at this place, or at the other one, are neighbours.
+    step: u32,
+    stride: u32,
+    /// The variable at the other place.
+    other: u32,
+}
+
+impl<'a> Side<'a> {
+    /// What a scan over a function's two variables reads, seen from a place.
+    #[inline]
+    pub(crate) fn of(scan: &Scan<'a>, first: u32, second: u32, place: usize) -> Side<'a>
+        requires spot { IsSpot scan.now (first ∷ second ∷ []) start }
+        requires place { place < 2 }
+        ensures { IsSideOf scan.now first second place result }
+    {
+        let width = scan.sizes[second as usize];
+        let (front, behind) = scan.shifts.split_at(scan.sizes[first as usize] as usize);
+        if place == 0 {
+            Side {
+                table: scan.table,
+                flags: scan.flags,
+                own: front,
+                others: behind,
+                upper: scan.upper,
+                step: width,
+                stride: 1,
+                other: second,
+            }
+        } else {
+            Side {
+                table: scan.table,
+                flags: scan.flags,
+                own: behind,
+                others: front,
+                upper: scan.upper,
+                step: 1,
+                stride: width,
+                other: first,
+            }
+        }
+    }
+
+    /// The variable at the other place.
+    pub fn other(&self) -> u32
+        ensures { (P : Network) (history : List Event) (f i j : ℕ) → IsSide P history f i j self.now → result ≡ variable_at P f j }
+    {
+        self.other
+    }
+
+    /// The tuples with a live value at this place.
+    #[inline]
+    pub fn line(&self, value: u32) -> Line<'a>
+        requires { (P : Network) × (history : List Event) × (f : ℕ) × (i : ℕ) × (j : ℕ) × IsSide P history f i j self.now × IsPlace P f i value }
+        ensures { result ≡ line_of self.now value }
+    {
+        Line {
+            table: self.table,
+            flags: self.flags,
+            shifts: self.others,
+            upper: self.upper,
+            own: self.own[value as usize],
+            base: value * self.step,
+            stride: self.stride,
+        }
+    }
+}
 
 /// The live tuples of a function of two variables with one live value at one place.
 #[derive(Drop)]
 pub struct Line<'a> {
-    pub(crate) scan: Scan<'a>,
-    /// The function's two variables.
-    pub(crate) first: u32,
-    pub(crate) second: u32,
-    /// The place of the other variable.
-    pub(crate) other: usize,
+    table: &'a [u64],
+    flags: &'a [bool],
+    /// What was moved away from the tuples with each value at the other place.
+    shifts: &'a [u64],
+    upper: u64,
+    /// What was moved away from those with the value at its own place.
+    own: u64,
+    /// The number of the tuple with the other variable's value 0, and how far the next ones are apart.
+    base: u32,
+    stride: u32,
 }
 
 impl Line<'_> {
     /// The residual cost of the tuple with a live value at the other place, and its number; `None` exactly where it is not
     /// live.
+    #[inline]
     pub fn least(&self, value: u32) -> Option<Extreme>
         requires { (P : Network) × (history : List Event) × (f : ℕ) × (i : ℕ) × (a : ℕ) × (j : ℕ) × IsAlong P history f i a j self.now value }
         ensures { (P : Network) (history : List Event) (f i a j : ℕ) → IsAlong P history f i a j self.now value
             → MatchOption result (NoneBetween P history f i a j value) (IsLeastBetween P history f i a j value) }
     {
-        let scan = self.turned_to(value);
-        let (one, two) = self.values(value);
-        let start = Spot {
-            cell: 0,
-            shift: 0,
-            offset: 0,
-            place: 0,
-        };
-        let middle = scan.gone_on(start, self.first, one);
-        scan.here(scan.gone_on(middle, self.second, two))
-    }
-
-    /// The values of the tuple with a value at the other place, in the order of the scope.
-    fn values(&self, value: u32) -> (u32, u32)
-        ensures one { result.0 ≡ first_value self.now value }
-        ensures two { result.1 ≡ second_value self.now value }
-    {
-        if self.other == 0 {
-            (value, self.scan.one.value)
-        } else {
-            (self.scan.one.value, value)
+        let cell = self.base + value * self.stride;
+        let entry = self.table[cell as usize];
+        if entry >= self.upper || self.flags[cell as usize] {
+            return None;
         }
-    }
-
-    /// The scan that asks for a value at the other place.
-    fn turned_to(&self, value: u32) -> Scan<'_>
-        ensures { result ≡ turned_to self.now value }
-    {
-        Scan {
-            sizes: self.scan.sizes,
-            table: self.scan.table,
-            shifts: self.scan.shifts,
-            flags: self.scan.flags,
-            live: self.scan.live,
-            upper: self.scan.upper,
-            one: self.scan.one,
-            two: Pin {
-                place: self.other,
-                value,
-            },
-            sense: self.scan.sense,
-        }
+        let moved = self.own.wrapping_add(self.shifts[value as usize]);
+        Some(Extreme {
+            cost: entry.wrapping_sub(moved),
+            cell,
+        })
     }
 }
 

@@ -1,20 +1,20 @@
 //! The events along a path, and what they make of the network: each is undone as it was made.
 
-ghost use Rattle.std.specs.Prelude.{◌≡◌, ℕ, ◌<◌, ◌≤◌, ◌^◌, take, reverse, List, [], ◌∷◌, ◌++◌, length, IfOk, OnErr, OnOk, MatchOption, IsTrue};
+ghost use Rattle.std.specs.Prelude.{◌≡◌, ℕ, ◌+◌, ◌<◌, ◌≤◌, ◌^◌, take, reverse, List, [], ◌∷◌, ◌++◌, length, IfOk, OnErr, OnOk, MatchOption, IsTrue};
 ghost use Rattle.cfn_model.specs.declared.step.Event.{Event as PathEvent};
 ghost use Rattle.cfn_model.specs.declared.step.Event.TheVariants.{Did};
 ghost use Rattle.cfn_model.specs.Sums.{is_live, lifted};
 ghost use Rattle.cfn_model.specs.Steps.{InRange, IsPlace};
 ghost use Rattle.cfn_store.specs.Extremes.{NoneBetween, IsExtremeBetween};
 ghost use Rattle.cfn_store.specs.Reading.{Reads, start};
-ghost use Rattle.cfn_store.specs.Lines.{IsLine};
+ghost use Rattle.cfn_store.specs.Lines.{IsSide};
 ghost use Rattle.cfn_store.specs.Scanning.{IsSpot};
 ghost use Rattle.cfn_model.specs.Network.{arity, scope_at, variable_at};
 ghost use Rattle.cfn_store.specs.Exact.{InPlace, IsExact, IsExactAlong};
 ghost use Rattle.cfn_store.specs.State.{Keeps, IsState, HasRoom, history_of};
 
 use crate::cuts::Cuts;
-use crate::line::Line;
+use crate::line::Side;
 use crate::scan::{Extreme, Pin, Scan, Sense, Spot};
 use crate::sums::Sums;
 use cfn_live::LiveSets;
@@ -91,6 +91,7 @@ impl State {
     }
 
     /// The scan over these tuples.
+    #[inline]
     fn scan<'a>(
         &'a self,
         network: &'a Network,
@@ -123,30 +124,20 @@ impl State {
         }
     }
 
-    /// The line of a function of two variables with a live value at a place.
-    pub(crate) fn line<'a>(
-        &'a self,
-        network: &'a Network,
-        f: u32,
-        one: Pin,
-        other: usize,
-    ) -> Line<'a>
+    /// A function of two variables, seen from a place.
+    #[inline]
+    pub(crate) fn side<'a>(&'a self, network: &'a Network, f: u32, place: usize) -> Side<'a>
         requires state { IsState network.now self.now }
-        requires one { IsPlace network.now f one.place one.value }
-        requires live { IsTrue (is_live (history_of self.now) (variable_at network.now f one.place) one.value) }
+        requires function { f < length network.now.functions }
         requires two { arity network.now f ≡ 2 }
-        requires other { other < 2 }
-        requires different { one.place ≡ other → ⊥ }
-        ensures { IsLine network.now (history_of self.now) f one.place one.value other result }
+        requires place { place < 2 }
+        ensures { (other : ℕ) → place + other ≡ 1 → IsSide network.now (history_of self.now) f place other result }
     {
         network.limits();
         let scope = network.scope(f);
-        Line {
-            scan: self.scan(network, f, one, one, Sense::Least),
-            first: scope[0],
-            second: scope[1],
-            other,
-        }
+        let pin = Pin { place, value: 0 };
+        let scan = self.scan(network, f, pin, pin, Sense::Least);
+        Side::of(&scan, scope[0], scope[1], place)
     }
 
     /// Goes on by an event.

@@ -1,6 +1,6 @@
 //! The store: what a path makes of a network, step by step and back.
 
-ghost use Rattle.std.specs.Prelude.{◌≡◌, ℕ, ◌+◌, ◌-◌, ◌<◌, ◌≤◌, List, [], ◌∷◌, ◌++◌, length, reverse, slice_index, slice_index_or, pos, IsTrue, IfOk, IfSome, OnOk, OnErr, MatchOption};
+ghost use Rattle.std.specs.Prelude.{◌≡◌, ℕ, ◌+◌, ◌-◌, ◌^◌, ◌<◌, ◌≤◌, List, [], ◌∷◌, ◌++◌, length, reverse, slice_index, slice_index_or, pos, IsTrue, IfOk, IfSome, OnOk, OnErr, MatchOption};
 ghost use Rattle.cfn_model.specs.declared.step.Step.{Step as PathStep};
 ghost use Rattle.cfn_model.specs.declared.step.Step.TheVariants.{Project, Extend, Lift, CutValue, CutTuple};
 ghost use Rattle.cfn_model.specs.declared.step.Event.{Event as PathEvent};
@@ -13,18 +13,20 @@ ghost use Rattle.cfn_model.specs.Text.{IsSpelledStep};
 ghost use Rattle.cfn_store.specs.Exact.{IsExact, IsExactAlong};
 ghost use Rattle.cfn_live.specs.Sets.{AreLive, live_count};
 ghost use Rattle.cfn_store.specs.declared.scan.Sense.TheVariants.{Least, Greatest};
-ghost use Rattle.cfn_store.specs.Extremes.{NonePicked, IsExtreme, NoneBetween, IsLeastBetween};
-ghost use Rattle.cfn_store.specs.Lines.{IsLine};
+ghost use Rattle.cfn_store.specs.Extremes.{NonePicked, IsExtreme, NoneBetween, IsLeastBetween, IsFree};
+ghost use Rattle.cfn_store.specs.Lines.{IsLine, IsSide};
+ghost use Rattle.cfn_store.specs.Unaries.{AreUnaries};
 ghost use Rattle.cfn_store.specs.Rooms.{sets_of, IsProjectRoom, IsExtendRoom, IsLiftRoom, IsAbove, IsToExtend};
 ghost use Rattle.cfn_store.specs.Marking.{IsMark, IsBehind, back_at};
 ghost use Rattle.cfn_store.specs.Standing.{history, at_root, with_step, with_side, FitsProject, FitsExtend, FitsLift};
 
 use crate::block::{block_from, step_from};
-use crate::line::{Line, costs_nothing, lesser};
+use crate::line::{Line, Side, costs_nothing, lesser};
 use crate::mark::Mark;
 use crate::scan::{Extreme, Pin, Sense};
 use crate::state::{State, in_common};
 use crate::supports::Supports;
+use crate::unaries::Unaries;
 use cfn_model::{Decision, Event, GREATEST, Step};
 use cfn_net::Network;
 use cfn_proof::{Block, Path};
@@ -51,7 +53,7 @@ impl<'n> Model for Store<'n> {
     ghost use Rattle.std.specs.Prelude.{◌-◌, length, reverse, take, drop};
     ghost use Rattle.cfn_live.specs.Sets.{AreLive, live_count};
     ghost use Rattle.cfn_store.specs.declared.scan.Sense.TheVariants.{Least, Greatest};
-    ghost use Rattle.cfn_store.specs.Extremes.{NonePicked, IsExtreme, NoneBetween, IsLeastBetween};
+    ghost use Rattle.cfn_store.specs.Extremes.{NonePicked, IsExtreme, NoneBetween, IsLeastBetween, IsFree};
     ghost use Rattle.cfn_store.specs.Lines.{IsLine};
     ghost use Rattle.cfn_store.specs.Rooms.{sets_of, IsProjectRoom, IsExtendRoom, IsLiftRoom, IsAbove, IsToExtend};
     ghost use Rattle.cfn_store.specs.Standing.{Standing};
@@ -225,8 +227,15 @@ impl<'n> Store<'n> {
         requires { IsValue self.now.network x value }
         ensures { IsTrue (is_live (history self.now) x value) → pos result ≡ unary self.now.network (history self.now) x value }
     {
-        self.exact();
-        self.state.sums.unary(x, value)
+        self.unaries(x).of(value)
+    }
+
+    /// The unary costs of a variable's values.
+    pub fn unaries(&self, x: u32) -> Unaries<'_>
+        requires { x < length self.now.network.sizes }
+        ensures { AreUnaries self.now.network (history self.now) x result }
+    {
+        self.state.sums.unaries(x)
     }
 
     /// Whether a value is live.
@@ -347,37 +356,105 @@ impl<'n> Store<'n> {
         }
     }
 
+    /// The first live value at a place of `f`, from `from` on, of which it is not known that a tuple with it costs nothing: in a
+    /// function of two variables the tuple that cost nothing last is looked at, in another one none is. Where all are known it
+    /// is no value of the variable. It takes no memory.
+    pub fn next_in_doubt(&self, f: u32, place: u32, from: u32) -> u32
+        requires function { f < length self.now.network.functions }
+        requires place { place < arity self.now.network f }
+        ensures from { from ≤ result }
+        ensures live { IsPlace self.now.network f place result → IsTrue (is_live (history self.now) (variable_at self.now.network f place) result) }
+        ensures passed { (a : ℕ) → from ≤ a → a < result → IsPlace self.now.network f place a → IsTrue (is_live (history self.now) (variable_at self.now.network f place) a)
+            → IsFree self.now.network (history self.now) f place a }
+    {
+        self.network.limits();
+        let x = self.network.scope(f)[place as usize];
+        let size = self.network.size(x);
+        let side = self.side(f, place);
+        let known = self.last_supports(f, place);
+        let mut value = from;
+        while value < size {
+            if self.is_live(x, value) && !self.is_known(&side, known, f, place, value) {
+                return value;
+            }
+            value += 1;
+        }
+        value
+    }
+
+    /// Whether a live value costs nothing together with the other value with which it did so last.
+    fn is_known(
+        &self,
+        side: &Option<Side<'_>>,
+        known: &[u32],
+        f: u32,
+        place: u32,
+        value: u32,
+    ) -> bool
+        requires place { IsPlace self.now.network f place value }
+        requires live { IsTrue (is_live (history self.now) (variable_at self.now.network f place) value) }
+        requires side { IfSome side.now (λ side. (arity self.now.network f ≡ 2) × ((other : ℕ) → other < arity self.now.network f → (place ≡ other → ⊥) → IsSide self.now.network (history self.now) f place other side)) }
+        ensures { IsTrue result → IsFree self.now.network (history self.now) f place value }
+    {
+        let (Some(side), Some(last)) = (side, known.get(value as usize)) else {
+            return false;
+        };
+        if !self.is_live_at(f, 1 - place, *last) {
+            return false;
+        }
+        match side.line(value).least(*last) {
+            Some(extreme) => extreme.cost == 0,
+            None => false,
+        }
+    }
+
     /// The live value of the other variable with which a value of a function of two variables cost nothing last, where there
     /// is one. It may cost something now.
-    pub fn last_support(&self, f: u32, place: u32, value: u32, other: u32) -> Option<u32>
+    fn last_support(&self, f: u32, place: u32, value: u32, other: u32) -> Option<u32>
         requires place { IsPlace self.now.network f place value }
         requires other { other < arity self.now.network f }
         ensures { IfSome result (λ b. IsPlace self.now.network f other b × IsTrue (is_live (history self.now) (variable_at self.now.network f other) b)) }
     {
         self.network.limits();
-        let slot = self.support_slot(f, place, value)?;
-        let last = self.supports.at(f, slot)?;
-        let y = self.network.scope(f)[other as usize];
-        if last < self.network.size(y) && self.is_live(y, last) {
+        let last = *self.last_supports(f, place).get(value as usize)?;
+        if self.is_live_at(f, other, last) {
             Some(last)
         } else {
             None
         }
     }
 
-    /// Where the support of a value at a place is kept; `None` where the function has another number of variables than two.
-    fn support_slot(&self, f: u32, place: u32, value: u32) -> Option<usize>
-        requires { IsPlace self.now.network f place value }
+    /// Whether a number is a live value of the variable at a place.
+    fn is_live_at(&self, f: u32, place: u32, value: u32) -> bool
+        requires function { f < length self.now.network.functions }
+        requires place { place < arity self.now.network f }
+        ensures { IsTrue result → IsPlace self.now.network f place value × IsTrue (is_live (history self.now) (variable_at self.now.network f place) value) }
     {
         self.network.limits();
-        let scope = self.network.scope(f);
-        if scope.len() != 2 {
-            return None;
-        }
+        let x = self.network.scope(f)[place as usize];
+        value < self.network.size(x) && self.is_live(x, value)
+    }
+
+    /// For the values at a place of `f`, from value 0 on, numbers of values with which they cost nothing last, where `f` has two
+    /// variables. Nothing is promised of them, and there may be none: they tell where to look first.
+    pub fn last_supports(&self, f: u32, place: u32) -> &[u32]
+        requires function { f < length self.now.network.functions }
+        requires place { place < arity self.now.network f }
+    {
+        self.supports.from(f, self.support_start(f, place))
+    }
+
+    /// Where those of a place begin in a function's row.
+    fn support_start(&self, f: u32, place: u32) -> usize
+        requires function { f < length self.now.network.functions }
+        requires place { place < arity self.now.network f }
+        ensures { result < 2 ^ 32 }
+    {
+        self.network.limits();
         if place == 0 {
-            Some(value as usize)
+            0
         } else {
-            Some(self.network.size(scope[0]) as usize + value as usize)
+            self.network.size(self.network.scope(f)[0]) as usize
         }
     }
 
@@ -391,13 +468,11 @@ impl<'n> Store<'n> {
         if extreme.cost > 0 {
             return;
         }
-        if let Some(slot) = self.support_slot(f, place, value) {
-            let network = self.network;
-            let scope = network.scope(f);
-            if scope.len() == 2 {
-                let last = network.value_at(f, extreme.cell, 1 - place);
-                self.supports.keep(f, slot, last);
-            }
+        let network = self.network;
+        if network.scope(f).len() == 2 {
+            let last = network.value_at(f, extreme.cell, 1 - place);
+            let slot = self.support_start(f, place) + value as usize;
+            self.supports.keep(f, slot, last);
         }
     }
 
@@ -441,8 +516,24 @@ impl<'n> Store<'n> {
         self.state.first(self.network, f, one, two, Sense::Least)
     }
 
+    /// A function of two variables, seen from a place; `None` where `f` has another number of variables.
+    #[inline]
+    pub fn side(&self, f: u32, place: u32) -> Option<Side<'_>>
+        requires function { f < length self.now.network.functions }
+        requires place { place < arity self.now.network f }
+        ensures { IfSome result (λ side. (arity self.now.network f ≡ 2)
+            × ((other : ℕ) → other < arity self.now.network f → (place ≡ other → ⊥) → IsSide self.now.network (history self.now) f place other side)) }
+    {
+        self.network.limits();
+        if self.network.scope(f).len() != 2 {
+            return None;
+        }
+        Some(self.state.side(self.network, f, place as usize))
+    }
+
     /// The tuples of `f`, a function of two variables, with a live `value` at `place`, along the other variable's values; `None`
     /// where `f` has another number of variables, or the value is not live.
+    #[inline]
     pub fn line(&self, f: u32, place: u32, value: u32, other: u32) -> Option<Line<'_>>
         requires place { IsPlace self.now.network f place value }
         requires other { other < arity self.now.network f }
@@ -450,15 +541,10 @@ impl<'n> Store<'n> {
         ensures { IfSome result (IsLine self.now.network (history self.now) f place value other) }
     {
         self.network.limits();
-        let scope = self.network.scope(f);
-        if scope.len() != 2 || !self.is_live(scope[place as usize], value) {
+        if !self.is_live(self.network.scope(f)[place as usize], value) {
             return None;
         }
-        let pin = Pin {
-            place: place as usize,
-            value,
-        };
-        Some(self.state.line(self.network, f, pin, other as usize))
+        Some(self.side(f, place)?.line(value))
     }
 
     /// The greatest amount that can be projected there, limited to what has a spelling and keeps costs below 2^64; 0 where

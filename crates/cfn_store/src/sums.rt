@@ -9,12 +9,14 @@ ghost use Rattle.std.specs.Prelude.{◌≡◌, ℕ, ◌+◌, ◌-◌, ◌*◌, �
 ghost use Rattle.cfn_model.specs.Network.{Network as CostNetwork, arity, dims_at, function_at};
 ghost use Rattle.cfn_model.specs.Sums.{constant, floor, unary};
 ghost use Rattle.cfn_model.specs.declared.step.Event.{Event};
-ghost use Rattle.cfn_store.specs.Wrapped.{StandsFor};
+ghost use Rattle.cfn_store.specs.Exact.{IsExact};
+ghost use Rattle.cfn_store.specs.Unaries.{AreUnaries};
 ghost use Rattle.cfn_model.specs.Steps.{IsPlace, IsValue};
 ghost use Rattle.cfn_rows.specs.Jagged.{row_at};
 ghost use Rattle.cfn_store.specs.Shifts.{offset};
 ghost use Rattle.cfn_store.specs.Sums.{IsSums, Moves, Lifts, HasShape, has_more, has_less, width_of};
 
+use crate::unaries::Unaries;
 use cfn_net::Network;
 use cfn_rows::Rows;
 use std::alloc::{AllocError, Global};
@@ -37,7 +39,7 @@ impl Sums {
         ensures { IfOk result (IsSums network.now []) }
     {
         Ok(Sums {
-            floor: constants(network),
+            floor: network.constants(),
             lifted: vec![in alloc; 0; network.variables() as usize]?,
             given: Rows::filled(alloc, network.sizes(), 0)?,
             shifts: Rows::filled(alloc, &widths(alloc, network)?, 0)?,
@@ -72,16 +74,16 @@ impl Sums {
         subtract(&mut self.shifts, f as usize, at, amount);
     }
 
-    /// The word of a value's unary cost.
-    pub(crate) fn unary(&self, x: u32, value: u32) -> u64
-        requires { (P : CostNetwork) × HasShape P self.now × IsValue P x value }
-        ensures { (P : CostNetwork) (history : List Event) → IsSums P history self.now → IsValue P x value
-            → StandsFor result (unary P history x value) }
+    /// The unary costs of a variable's values.
+    pub(crate) fn unaries(&self, x: u32) -> Unaries<'_>
+        requires { (P : CostNetwork) × HasShape P self.now × (x < length P.sizes) }
+        ensures { (P : CostNetwork) (history : List Event) → IsSums P history self.now → IsExact P history → x < length P.sizes
+            → AreUnaries P history x result }
     {
-        less(
-            self.given.row(x as usize)[value as usize],
-            self.lifted[x as usize],
-        )
+        Unaries {
+            given: self.given.row(x as usize),
+            lifted: self.lifted[x as usize],
+        }
     }
 
     /// Moves an amount from each value of `x` to the floor.
@@ -102,32 +104,6 @@ impl Sums {
     {
         self.floor -= u128::from(amount);
         self.lifted[x as usize] = self.lifted[x as usize].wrapping_sub(amount);
-    }
-}
-
-/// The sum of the constants, which are the functions of arity 0.
-fn constants(network: &Network) -> u128
-    ensures { result ≡ floor network.now [] }
-{
-    network.limits();
-    let mut sum = 0;
-    for f in 0..network.functions() {
-        sum += u128::from(constant(network, f));
-    }
-    sum
-}
-
-/// The constant that a function of arity 0 is, and 0 for any other function.
-fn constant(network: &Network, f: u32) -> u64
-    requires { f < length network.now.functions }
-    ensures value { result ≡ constant (function_at network.now f) }
-    ensures capped { result ≤ network.now.upper }
-{
-    network.limits();
-    if network.scope(f).is_empty() {
-        network.entry(f, 0)
-    } else {
-        0
     }
 }
 
@@ -187,11 +163,4 @@ fn subtract(rows: &mut Rows<u64>, r: usize, i: usize, amount: u64)
 {
     let word = rows.row(r)[i].wrapping_sub(amount);
     rows.set(r, i, word);
-}
-
-/// The word of what is an amount less.
-fn less(word: u64, amount: u64) -> u64
-    ensures { (z : ℤ) → StandsFor word z → StandsFor result (z +ℤ neg_ℤ (pos amount)) }
-{
-    word.wrapping_sub(amount)
 }

@@ -20,14 +20,14 @@ impl Supports {
         })
     }
 
-    /// The number at a slot of a function's row, where there is one.
-    pub(crate) fn at(&self, f: u32, slot: usize) -> Option<u32> {
+    /// The numbers of a function, from a slot on, where there are some.
+    pub(crate) fn from(&self, f: u32, slot: usize) -> &[u32] {
         let f = f as usize;
-        if f < self.rows.len() {
-            self.rows.row(f).get(slot).copied()
-        } else {
-            None
+        if f >= self.rows.len() {
+            return &[];
         }
+        let row = self.rows.row(f);
+        &row[slot.min(row.len())..]
     }
 
     /// Keeps a number at a slot of a function's row, where there is one.

@@ -1,35 +1,29 @@
-use Rattle.std.proofs.Common.{[], subst, sym, MatchOption}
-use Rattle.cfn_store.specs.Lines.{turned_to}
-use Rattle.cfn_store.specs.Reading.{start}
-use Rattle.cfn_store.specs.Scanning.{IsInner, IsSpot, NoneMet, IsFound}
-use Rattle.cfn_store.proofs.Lines.{first_inner, second_inner, end_spot, found_between, middle_is, end_is}
+use Rattle.std.proofs.Common.{not, ap, refl, arith, lt-ltb, le-ltb}
+use Rattle.std.proofs.lemmas.Bool.{and_from, and_left, and_right}
+use Rattle.cfn_store.proofs.Lines.{cell_there, value_there, line_none, line_found}
+use Rattle.cfn_store.proofs.line.Line.least.Goals.{then-entry-self-via-then-entry-self, then-entry-self-via-else-entry-self+then-self-cell}
 use Rattle.cfn_store.proofs.line.Line.least.Goals as goal
 
-pub gone_on-middle-requires : goal.gone_on-middle-requires
-gone_on-middle-requires c =
-    let r = c.requires in
-    subst (λ s. IsInner s c.args.self.now.first c.values-one.result.0 start) (sym c.turned_to-scan.ensures)
-    (subst (λ v. IsInner (turned_to c.args.self.now c.args.value) c.args.self.now.first v start) (sym c.values-one.ensures.one) (first_inner r.0 r.1 r.2 r.3 r.4 r.5 c.args.self.now c.args.value r.6))
+pub overflow_mul-cell : goal.overflow_mul-cell
+overflow_mul-cell c = let r = c.requires in let t = cell_there r.0 r.1 r.2 r.3 r.4 r.5 c.args.self.now c.args.value r.6 in let l = t.2 in omega (arith, l)
 
-pub gone_on-requires : goal.gone_on-requires
-gone_on-requires c =
-    let r = c.requires in
-    subst (λ s. IsInner s c.args.self.now.second c.values-one.result.1 c.gone_on-middle.result) (sym c.turned_to-scan.ensures)
-    (subst (λ v. IsInner (turned_to c.args.self.now c.args.value) c.args.self.now.second v c.gone_on-middle.result) (sym c.values-one.ensures.two)
-    (subst (IsInner (turned_to c.args.self.now c.args.value) c.args.self.now.second _) (sym (middle_is c.args.self.now c.args.value c.turned_to-scan.result c.values-one.result.0 c.gone_on-middle.result c.turned_to-scan.ensures c.values-one.ensures.one c.gone_on-middle.ensures)) (second_inner r.0 r.1 r.2 r.3 r.4 r.5 c.args.self.now c.args.value r.6)))
+pub overflow_add-cell : goal.overflow_add-cell
+overflow_add-cell c = let r = c.requires in let t = cell_there r.0 r.1 r.2 r.3 r.4 r.5 c.args.self.now c.args.value r.6 in let l = t.2 in omega (arith, l)
 
-pub here-requires : goal.here-requires
-here-requires c =
-    let r = c.requires in
-    let middle = middle_is c.args.self.now c.args.value c.turned_to-scan.result c.values-one.result.0 c.gone_on-middle.result c.turned_to-scan.ensures c.values-one.ensures.one c.gone_on-middle.ensures in
-    let end = end_is c.args.self.now c.args.value c.turned_to-scan.result c.values-one.result.1 c.gone_on-middle.result c.gone_on.result c.turned_to-scan.ensures c.values-one.ensures.two middle c.gone_on.ensures in
-    subst (λ s. IsSpot s [] c.gone_on.result) (sym c.turned_to-scan.ensures) (subst (IsSpot (turned_to c.args.self.now c.args.value) []) (sym end) (end_spot r.0 r.1 r.2 r.3 r.4 r.5 c.args.self.now c.args.value r.6))
+pub bounds-self-cell : goal.bounds-self-cell
+bounds-self-cell c = let r = c.requires in (cell_there r.0 r.1 r.2 r.3 r.4 r.5 c.args.self.now c.args.value r.6).0
+
+pub bounds-self-cell-else-entry-self : goal.bounds-self-cell-else-entry-self
+bounds-self-cell-else-entry-self c = let r = c.requires in (cell_there r.0 r.1 r.2 r.3 r.4 r.5 c.args.self.now c.args.value r.6).1
+
+pub bounds-self-value : goal.bounds-self-value
+bounds-self-value c = let r = c.requires in value_there r.0 r.1 r.2 r.3 r.4 r.5 c.args.self.now c.args.value r.6
+
+pub returns-then-entry-self : goal.returns-then-entry-self
+returns-then-entry-self c = λ P history f i a j along. line_none P history f i a j c.args.self.now c.args.value along (elim c.then-entry-self.branch [
+  | then-entry-self-via-then-entry-self w ↦ and_left _ _ (le-ltb _ _ w.if-entry-self.true)
+  | then-entry-self-via-else-entry-self+then-self-cell w ↦ and_right _ _ (ap not w.if-self-cell.true)
+])
 
 pub returns : goal.returns
-returns c = λ P history f i a j along.
-    (let line = c.args.self.now in let b = c.args.value in
-    let middle = middle_is line b c.turned_to-scan.result c.values-one.result.0 c.gone_on-middle.result c.turned_to-scan.ensures c.values-one.ensures.one c.gone_on-middle.ensures in
-    let end = end_is line b c.turned_to-scan.result c.values-one.result.1 c.gone_on-middle.result c.gone_on.result c.turned_to-scan.ensures c.values-one.ensures.two middle c.gone_on.ensures in
-    found_between P history f i a j line b c.here.result along
-    (subst (λ s. MatchOption c.here.result (NoneMet (turned_to line b) [] s) (IsFound (turned_to line b) [] s)) end
-    (subst (λ scan. MatchOption c.here.result (NoneMet scan [] c.gone_on.result) (IsFound scan [] c.gone_on.result)) c.turned_to-scan.ensures c.here.ensures)))
+returns c = λ P history f i a j along. line_found P history f i a j c.args.self.now c.args.value along _ (and_from _ _ (lt-ltb _ _ c.if-entry-self.false) (ap not c.if-self-cell.false)) refl refl

@@ -22,7 +22,7 @@ returns c =
     let net = subst IsNetwork c.network.ensures c.limits.ensures in
     found_all s c.args.f c.args.place c.args.value c.args.other c.live-value-items.result.now c.loop-value.value-index c.loop-value.best c.requires.other
     (subst (λ x. AreLive (sets_of s) x c.live-value-items.result.now) y c.live-value-items.ensures)
-    ((net.functions c.args.f c.requires.line.place.function).variables c.args.other c.requires.other) c.loop-value-test.false c.loop-value.invariant
+    ((net.functions c.args.f c.requires.line.is_way.place.function).variables c.args.other c.requires.other) c.loop-value-test.false c.loop-value.invariant
 
 pub returns-then-costs_nothing : goal.returns-then-costs_nothing
 returns-then-costs_nothing c =
@@ -30,5 +30,5 @@ returns-then-costs_nothing c =
     let y = ap (λ l. slice_index l c.args.other) c.scope.ensures ∙ ap (λ P. variable_at P c.args.f c.args.other) c.network-2.ensures in
     let are = subst (λ x. AreLive (sets_of s) x c.live-value-items.result.now) y c.live-value-items.ensures in
     let along = stands_along s c.args.f c.args.place c.args.value c.args.other c.args.line.now c.live-value-items.result.now c.loop-value.value-index c.requires.line c.requires.other are c.loop-value-test.true in
-    nothing_found s.network (history s) c.args.f c.args.place c.args.value c.args.other c.live-value-items.result.now (c.loop-value.value-index + 1) c.lesser-best.result c.requires.line.exact c.requires.line.place.function (c.costs_nothing.ensures c.if-costs_nothing.true)
+    nothing_found s.network (history s) c.args.f c.args.place c.args.value c.args.other c.live-value-items.result.now (c.loop-value.value-index + 1) c.lesser-best.result c.requires.line.is_way.exact c.requires.line.is_way.place.function (c.costs_nothing.ensures c.if-costs_nothing.true)
     (found_more s.network (history s) c.args.f c.args.place c.args.value c.args.other c.live-value-items.result.now c.loop-value.value-index c.loop-value.best c.least.result c.lesser-best.result c.loop-value.invariant (c.least.ensures s.network (history s) c.args.f c.args.place c.args.value c.args.other along) c.lesser-best.ensures)

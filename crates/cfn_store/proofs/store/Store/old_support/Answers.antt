@@ -1,6 +1,4 @@
-use Rattle.std.proofs.Common.{◌≡◌, ◌<◌, ◌-◌, length, sym, ap, ◌∙◌, subst}
-use Rattle.std.specs.Prelude.{MatchOption}
-use Rattle.cfn_store.specs.Extremes.{NoneBetween, IsLeastBetween}
+use Rattle.std.proofs.Common.{◌-◌}
 use Rattle.cfn_store.specs.Standing.{history}
 use Rattle.cfn_store.proofs.Least.{nothing_is_least}
 use Rattle.cfn_store.proofs.store.Store.old_support.Goals as goal
@@ -11,4 +9,4 @@ returns-then-extreme-eq0 c =
     let is_line = c.in_ok-line.ensures in
     let last = c.in_ok-last.ensures in
     let least = c.in_ok-extreme.ensures s.network (history s) c.args.f c.args.place c.args.value (1 - c.args.place) (record { is_line = is_line; place = last.0; live = last.1 }) in
-    nothing_is_least s.network (history s) c.args.f c.args.place c.args.value (1 - c.args.place) c.in_ok-last.last c.in_ok-extreme.extreme is_line.exact is_line.place.function least c.if-extreme-eq0.true
+    nothing_is_least s.network (history s) c.args.f c.args.place c.args.value (1 - c.args.place) c.in_ok-last.last c.in_ok-extreme.extreme is_line.is_way.exact is_line.is_way.place.function least c.if-extreme-eq0.true
