@@ -2,6 +2,7 @@ pub mod Counting
 pub mod Places
 pub mod Opening
 pub mod Planning
+pub mod Binaries
 pub mod Costs
 pub mod Trimming
 pub mod Spreading

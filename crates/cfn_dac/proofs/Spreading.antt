@@ -17,11 +17,13 @@ use Rattle.cfn_store.specs.Extremes.{IsPicked, NoneBetween, IsLeastBetween}
 use Rattle.cfn_store.specs.Standing.{Standing, history, with_step, FitsExtend}
 use Rattle.cfn_store.proofs.CallerLemmas.{tuple_at, exact_now, picked_swapped}
 use Rattle.cfn_gain.specs.declared.limits.Limits.{Limits}
+use Rattle.cfn_store.specs.declared.line.Line.{Line}
+use Rattle.cfn_store.specs.Lines.{IsLine, IsAlong}
 use Rattle.cfn_gain.specs.Calls.{GoesOn, Does, Passing}
 use Rattle.cfn_gain.proofs.CallerLemmas.{passing_adds}
 use Rattle.cfn_dac.specs.declared.pair.Pair.{Pair}
 use Rattle.cfn_dac.specs.Full.{IsPair, first_of, second_of}
-use Rattle.cfn_dac.specs.Moves.{IsLiveTuple, Covers, AreWithin, AreLent, IsShare, IsLack, lack_of, Trims, CostBelow}
+use Rattle.cfn_dac.specs.Moves.{IsLiveTuple, Covers, AreWithin, AreForLive, AreLent, IsShare, IsLack, lack_of, Trims, CostBelow}
 use Rattle.cfn_dac.proofs.Places.{cases_lt, not_both, place_of, variables_apart}
 use Rattle.cfn_dac.proofs.Costs.{residual_extended, residual_kept, unary_kept}
 
@@ -208,6 +210,12 @@ pub all_lent : (P : Network) (history : List Event) (pair : Pair) (moves : List 
 all_lent P history pair moves b is all covers tuple live h =
     let at = tuple_at P history pair.function pair.other tuple is.other live.fits live.live in let l = at.0 in
     covers.done tuple live (omega (arith, l, all))
+
+-- a first value that gets an amount stands on a line of a second value
+pub first_along : (P : Network) (history : List Event) (pair : Pair) (moves : List ℕ) (a b share : ℕ) (line : Line) → IsPair P pair → IsLine P history pair.function pair.other b pair.place line → AreForLive P history pair moves → a < slice_index P.sizes (first_of P pair) → share < slice_index moves a → IsAlong P history pair.function pair.other b pair.place line a
+first_along P history pair moves a b share line is is_line live small gets =
+    let place = place_of P pair.function pair.place a is.function is.place small in
+    record { is_line = is_line; place = place; live = live a place (omega (arith, gets)) }
 
 -- what the tuple of a line lacks of an amount
 pub lack_along : (P : Network) (history : List Event) (pair : Pair) (a b amount : ℕ) (found : Option Extreme) → MatchOption found (NoneBetween P history pair.function pair.other b pair.place a) (IsLeastBetween P history pair.function pair.other b pair.place a) → IsLack P history pair a b amount (lack_of amount found)

@@ -3,3 +3,4 @@ pub mod Full
 pub mod Moves
 pub mod Shifts
 pub mod Going
+pub mod Binaries

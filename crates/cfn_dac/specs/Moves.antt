@@ -59,6 +59,10 @@ pub record Covers (P : Network) (history : List Event) (pair : Pair) (moves : Li
 abbrev pub AreWithin : Network → List Event → Pair → ℕ → List ℕ → ℕ → Type 0
 AreWithin P history pair most moves n = (a : ℕ) → IsPlace P pair.function pair.place a → n ≤ a → 0 < slice_index moves a → IsWithin P history pair most a (slice_index moves a)
 
+-- Only live values get an amount.
+abbrev pub AreForLive : Network → List Event → Pair → List ℕ → Type 0
+AreForLive P history pair moves = (a : ℕ) → IsPlace P pair.function pair.place a → 0 < slice_index moves a → IsTrue (is_live history (first_of P pair) a)
+
 -- From the value n on live tuples have their first values' amounts.
 abbrev pub AreLent : Network → List Event → Pair → List ℕ → ℕ → Type 0
 AreLent P history pair moves n =

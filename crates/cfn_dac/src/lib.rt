@@ -3,6 +3,7 @@
 //!
 //! - `pair.rt`: full supports for the values of one variable of a function, with regard to another;
 //! - `plan.rt`: what is to go to each of these values;
+//! - `binary.rt`: what each value has, looked up once where the function has two variables;
 //! - `spread.rt`: what the values of the other variable give for it;
 //! - `trim.rt`: costly tuples are cut;
 //! - `collect.rt`: each value gets its amount;
@@ -10,6 +11,7 @@
 //! - `open.rt`: which variables of a function are open, and whether it takes part.
 #![tactic(auto)]
 
+mod binary;
 mod collect;
 mod dac;
 mod open;

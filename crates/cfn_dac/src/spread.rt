@@ -9,7 +9,7 @@ ghost use Rattle.cfn_gain.specs.Calls.{GoesOn, Does};
 ghost use Rattle.cfn_dac.specs.Full.{IsPair, first_of, second_of};
 ghost use Rattle.cfn_dac.specs.Shifts.{AreHeld};
 ghost use Rattle.cfn_dac.specs.Going.{Fills};
-ghost use Rattle.cfn_dac.specs.Moves.{Covers, AreWithin, AreLent, IsShare, IsLack, lack_of};
+ghost use Rattle.cfn_dac.specs.Moves.{Covers, AreWithin, AreForLive, AreLent, IsShare, IsLack, lack_of};
 
 use crate::pair::Pair;
 use crate::trim::trim;
@@ -75,21 +75,21 @@ fn fill(
     extend(store, limits, pair.function, pair.other, value, share)
 }
 
-/// The most that a live tuple with a second value lacks of its first value's amount.
+/// The most that a live tuple with a second value lacks of its first value's amount; only live values get one.
 fn share(store: &Store<'_>, pair: Pair, moves: &[u64], value: u32) -> u64
     requires pair { IsPair store.now.network pair }
     requires room { slice_index store.now.network.sizes (first_of store.now.network pair) ≤ length moves.now }
     requires value { IsPlace store.now.network pair.function pair.other value }
+    requires live { AreForLive store.now.network (history store.now) pair moves.now }
     ensures { IsShare store.now.network (history store.now) pair moves.now value result }
 {
     store.network().limits();
-    store.exact();
-    let scope = store.network().scope(pair.function);
-    if !store.is_live(scope[pair.other as usize], value) {
+    let y = store.network().scope(pair.function)[pair.other as usize];
+    if !store.is_live(y, value) {
         return 0;
     }
-    match store.line(pair.function, pair.other, value, pair.place) {
-        Some(line) => share_along(store, pair, moves, value, &line),
+    match store.side(pair.function, pair.other) {
+        Some(side) => share_along(store, pair, moves, value, &side.line(value)),
         None => share_apart(store, pair, moves, value),
     }
 }
@@ -99,6 +99,7 @@ fn share_along(store: &Store<'_>, pair: Pair, moves: &[u64], value: u32, line: &
     requires pair { IsPair store.now.network pair }
     requires room { slice_index store.now.network.sizes (first_of store.now.network pair) ≤ length moves.now }
     requires line { IsLine store.now.network (history store.now) pair.function pair.other value pair.place line.now }
+    requires live { AreForLive store.now.network (history store.now) pair moves.now }
     ensures { IsShare store.now.network (history store.now) pair moves.now value result }
 {
     store.network().limits();
@@ -108,33 +109,10 @@ fn share_along(store: &Store<'_>, pair: Pair, moves: &[u64], value: u32, line: &
     for first in 0..store.network().size(x) {
         let amount = moves[first as usize];
         if amount > share {
-            share = share.max(lack_along(store, pair, value, line, first, amount));
+            share = share.max(lack_of(amount, line.least(first)));
         }
     }
     share
-}
-
-/// The most that the tuple of a line with a first value lacks of an amount, where it is live.
-fn lack_along(
-    store: &Store<'_>,
-    pair: Pair,
-    second: u32,
-    line: &Line<'_>,
-    first: u32,
-    amount: u64,
-) -> u64
-    requires pair { IsPair store.now.network pair }
-    requires first { IsPlace store.now.network pair.function pair.place first }
-    requires line { IsLine store.now.network (history store.now) pair.function pair.other second pair.place line.now }
-    ensures { IsLack store.now.network (history store.now) pair first second amount result }
-{
-    store.network().limits();
-    let x = store.network().scope(pair.function)[pair.place as usize];
-    if store.is_live(x, first) {
-        lack_of(amount, line.least(first))
-    } else {
-        0
-    }
 }
 
 /// The same, one pair of values after another.

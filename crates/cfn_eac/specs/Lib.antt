@@ -2,3 +2,4 @@ pub mod Arms
 pub mod Asking
 pub mod Gathering
 pub mod Owing
+pub mod Resting

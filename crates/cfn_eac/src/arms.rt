@@ -1,6 +1,6 @@
 //! The arms of a variable: for each other open variable the first function whose two open variables they are.
 
-ghost use Rattle.std.specs.Prelude.{◌≡◌, ◌<◌, length, IfOk, IfSome, MatchOption};
+ghost use Rattle.std.specs.Prelude.{[], ◌≡◌, ◌<◌, length, IfOk, IfSome, MatchOption};
 ghost use Rattle.cfn_incidence.specs.Places.{StandsAt};
 ghost use Rattle.cfn_model.specs.Network.{variable_at};
 ghost use Rattle.cfn_store.specs.Standing.{history};
@@ -83,6 +83,13 @@ impl<'n> Arms<'n> {
         if (x as usize) < self.good.len() {
             self.good[x as usize] = value;
         }
+    }
+
+    /// Has no arm.
+    pub(crate) fn clear(&mut self)
+        ensures { self.new ≡ record self.old { pairs = [] } }
+    {
+        self.pairs.clear();
     }
 
     /// Gathers the arms of a variable: none where it is not open.

@@ -3,6 +3,7 @@
 //!
 //! - `arms.rt`: the functions between a variable and each other open variable;
 //! - `asking.rt`: what a value asks of them;
+//! - `resting.rt`: whether a variable is existential already, by a quick look;
 //! - `raising.rt`: one variable made existential;
 //! - `choosing.rt`: the value that asks least.
 #![tactic(auto)]
@@ -11,6 +12,7 @@ mod arms;
 mod asking;
 mod choosing;
 mod raising;
+mod resting;
 
 pub use arms::Arms;
 pub use choosing::cheapest;

@@ -14,6 +14,7 @@ ghost use Rattle.cfn_eac.specs.Owing.{IsAsked};
 
 use crate::arms::Arms;
 use crate::asking::asked;
+use crate::resting::is_at_rest;
 use cfn_dac::{Pair, full_supports};
 use cfn_gain::{Halt, Limits, lacking, level};
 use cfn_incidence::Incidence;
@@ -42,6 +43,10 @@ pub fn existential(
     ensures same { length moves.new ≡ length moves.old }
 {
     store.network().limits();
+    if is_at_rest(store, incidence, x, arms.last_good(x)) {
+        arms.clear();
+        return Ok(());
+    }
     arms.gather(store, incidence, x);
     if let Some(value) = good_value(arms.pairs(), store, x, arms.last_good(x)) {
         arms.keep_good(x, value);

@@ -46,3 +46,6 @@ returns-clause-fills c =
     let trim = c.in_ok-trim.ensures in let net = subst IsNetwork c.network.ensures c.limits.ensures in
     let one = fills_trimmed s c.trim.new.store k pair moves b net c.exact.ensures c.requires.pair c.requires.held trim.trims trim.keeps trim.gains in
     fills_extend s c.trim.new.store c.extend.new.store k pair moves b c.share-share.result c.extend.result net c.requires.pair trim.does.adds.network one c.extend.ensures.made c.extend.ensures.stopped
+
+pub share-share-requires-clause-live : goal.share-share-requires-clause-live
+share-share-requires-clause-live c = λ a place some. (c.requires.within a place (omega arith) some).live

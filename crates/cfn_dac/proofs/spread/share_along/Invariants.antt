@@ -3,4 +3,4 @@ use Rattle.cfn_dac.proofs.Spreading.{IsShareTo}
 use Rattle.cfn_dac.proofs.spread.share_along.Given as goal
 
 abbrev pub invariant-loop-first : goal.invariant-loop-first
-invariant-loop-first l = IsShareTo l.store.network (history l.store) l.pair l.moves l.value l.first l.share
+invariant-loop-first l = IsShareTo l.store.network (history l.store) l.fn.pair l.moves l.value l.first l.share

@@ -1,6 +1,5 @@
 use Rattle.std.proofs.Common.{sym, ◌∙◌, subst}
-use Rattle.std.specs.Prelude.{List}
-use Rattle.cfn_model.specs.Network.{Network, IsNetwork}
+use Rattle.cfn_model.specs.Network.{IsNetwork}
 use Rattle.cfn_store.specs.Standing.{history}
 use Rattle.cfn_gain.proofs.CallerLemmas.{on_ok, gained_none}
 use Rattle.cfn_eac.specs.Arms.{AreArms}

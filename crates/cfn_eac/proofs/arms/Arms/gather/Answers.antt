@@ -1,5 +1,4 @@
-use Rattle.std.proofs.Common.{◌≡◌, ◌<◌, ◌∙◌, [], length, true, false, ap, sym, subst, arith}
-use Rattle.std.specs.Prelude.{IsTrue}
+use Rattle.std.proofs.Common.{◌≡◌, ◌∙◌, false, ap, sym, subst, arith}
 use Rattle.cfn_consistency.specs.Openness.{is_open}
 use Rattle.cfn_store.specs.Standing.{history}
 use Rattle.cfn_dac.proofs.CallerLemmas.{is_closed_by}

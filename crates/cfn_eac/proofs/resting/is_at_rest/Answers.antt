@@ -1,0 +1,50 @@
+use Rattle.std.proofs.Common.{◌≡◌, ℕ, ◌-◌, ◌<◌, ◌≤◌, inl, inr, refl, sym, ap, ◌∙◌, subst, length, arith}
+use Rattle.std.proofs.lemmas.Bool.{cases_eq}
+use Rattle.std.specs.Prelude.{List, pos, slice_index, IsTrue}
+use Rattle.cfn_model.specs.declared.step.Event.{Event}
+use Rattle.cfn_model.specs.Network.{Network, variable_at}
+use Rattle.cfn_consistency.specs.Openness.{HasOpenPair, is_open}
+use Rattle.cfn_consistency.specs.Consistency.{HasFullSupport}
+use Rattle.cfn_incidence.specs.declared.incidence.Place.{Place}
+use Rattle.cfn_incidence.specs.Places.{ArePlaces, place_at}
+use Rattle.cfn_store.specs.Standing.{history}
+use Rattle.cfn_eac.specs.Resting.{RestsOn}
+use Rattle.cfn_eac.proofs.resting.is_at_rest.Goals as goal
+
+-- a full support in each function at whose places a variable stands
+all_supports : (P : Network) (h : List Event) (x a : ℕ) (places : List Place) (n : ℕ) → ArePlaces P x places → length places ≤ n → ((k : ℕ) → k < n → RestsOn P h (place_at places k) a)
+    → (f i j : ℕ) → HasOpenPair P h f i j → variable_at P f i ≡ x → HasFullSupport P h f i j a
+all_supports P h x a places n are whole rests f i j pair at =
+    let there = are.all (record { function = f; place = i }) (record { function = pair.active.function; place = pair.one.0; is = at }) in
+    let l = there.1 in
+    let rest = subst (λ p. RestsOn P h p a) there.2 (rests there.0 (omega (arith, l, whole))) in
+    let two = rest.two in
+    let one = pair.one.0 in
+    let other = pair.other.0 in
+    let apart = pair.different in
+    let e : 1 - i ≡ j = omega (arith, two, one, other, apart) in
+    subst (λ k. HasFullSupport P h f i k a) e (rest.full (subst (λ k. IsTrue (is_open P h (variable_at P f k))) (sym e) pair.other.1))
+
+pub loop-place-preserved : goal.loop-place-preserved
+loop-place-preserved c = λ k l. (elim (cases_eq k c.loop-place.place-index) [
+  | inl e ↦ subst (λ n. RestsOn c.args.store.now.network (history c.args.store.now) (place_at c.places-place-items.result.now n) c.args.value) (sym e) (c.if-not-rests_on.ensures refl)
+  | inr e ↦ c.loop-place.invariant k (omega (arith, l, e))
+])
+
+pub returns : goal.returns
+returns c = λ yes.
+    (let s = c.args.store.now in
+    let live = sym c.is_live.ensures ∙ c.if-not-is_live.false in
+    let none : c.unary.result ≡ 0 = (let l = c.if-unary-gt0.false in omega (arith, l)) in
+    record {
+      value = c.args.value;
+      free = record {
+        value = record {
+          variable = c.requires.variable;
+          value = (let l = c.if-value-size.false in let d = c.size.ensures in let n = ap (λ (P : Network). slice_index P.sizes c.args.x) c.network-2.ensures in omega (arith, l, d, n));
+        };
+        live = live;
+        free = sym (c.unary.ensures live) ∙ ap pos none;
+      };
+      supports = λ f i j pair at first. all_supports s.network (history s) c.args.x c.args.value c.places-place-items.result.now c.loop-place.place-index (subst (λ N. ArePlaces N c.args.x c.places-place-items.result.now) c.requires.incidence c.places-place-items.ensures.places) c.loop-place-test.false c.loop-place.invariant f i j pair at;
+    })
