@@ -5,3 +5,4 @@ pub use Rattle.cfn_consistency.proofs.Grouping.{nodes_group, groups_join, open_g
 pub use Rattle.cfn_consistency.proofs.Opening.{part_after, pair_kept, open_kept}
 pub use Rattle.cfn_consistency.proofs.Families.{Within, without_within, part_within, tuple_within, closed_stays_closed}
 pub use Rattle.cfn_consistency.proofs.Deriving.{without_more, derivations_join, one_more}
+pub use Rattle.cfn_consistency.proofs.Sources.{sources_differ}

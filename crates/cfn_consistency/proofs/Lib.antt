@@ -4,6 +4,7 @@ pub mod Grouping
 pub mod Opening
 pub mod Deriving
 pub mod Families
+pub mod Sources
 pub mod Rows
 pub mod VirtualRows
 pub mod CallerLemmas

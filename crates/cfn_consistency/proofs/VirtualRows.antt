@@ -7,14 +7,14 @@ use Rattle.cfn_model.specs.declared.step.Step.{Step}
 use Rattle.cfn_model.specs.declared.step.Step.TheVariants.{Project, Extend, Lift, CutValue}
 use Rattle.cfn_model.specs.declared.step.Event.{Event}
 use Rattle.cfn_model.specs.declared.step.Event.TheVariants.{Did}
-use Rattle.cfn_model.specs.Network.{Network, Fits, arity, dims_at}
+use Rattle.cfn_model.specs.Network.{Network, Fits, arity, variable_at, dims_at}
 use Rattle.cfn_model.specs.Sums.{unary, residual, is_live, is_live_tuple}
 use Rattle.cfn_model.specs.Steps.{IsValue, IsPlace, CanProject, Run}
 use Rattle.cfn_consistency.specs.declared.deletion.Reason.TheVariants.{Own, By}
 use Rattle.cfn_consistency.specs.declared.deletion.Deletion.{Deletion}
 use Rattle.cfn_consistency.specs.declared.deletion.Source.{Source}
 use Rattle.cfn_consistency.specs.Openness.{TakesPart, open_count}
-use Rattle.cfn_consistency.specs.Virtual.{Bans, without, IsDeletion, IsDerivation, IsEmptied, HasCheapTuple, IsClosedFamily, asked, AreSources, IsPlan}
+use Rattle.cfn_consistency.specs.Virtual.{Bans, without, IsDeletion, IsDerivation, IsEmptied, HasCheapTuple, IsClosedFamily, asked, DeletesBefore, IsNeeded, AreSources, IsPlan}
 use Rattle.cfn_consistency.proofs.Rows.{row, all_pairs}
 
 -- value 1 of the first variable costs so much; its value 0 excludes the value 0 of the second and of the third by 1, and
@@ -168,6 +168,16 @@ gathered_3 cost tuple fits =
     tuple
     fits
 
+-- each source is needed: the other tuple with its value costs nothing
+needed : (cost f i a j b x y : ℕ) (earlier : List Deletion) → dims_at (vac cost) f ≡ 2 ∷ 2 ∷ [] → x < 2 → y < 2 → slice_index (x ∷ y ∷ []) i ≡ a → slice_index (x ∷ y ∷ []) j ≡ b → is_live_tuple (vac cost) (begun cost) f (x ∷ y ∷ []) ≡ true
+    → residual (vac cost) (begun cost) f (x ∷ y ∷ []) ≡ pos 0
+    → ((n : ℕ) → n < arity (vac cost) f → DeletesBefore earlier (variable_at (vac cost) f n) (slice_index (x ∷ y ∷ []) n) (variable_at (vac cost) f j) b → ⊥) → IsNeeded (vac cost) (begun cost) 1 f i a earlier (record { place = j; value = b })
+needed cost f i a j b x y earlier sizes low high at has live free first = record {
+  cheap = record { tuple = x ∷ y ∷ []; fits = subst (λ d. Fits d (x ∷ y ∷ [])) (sym sizes) (low, (high, tt)); at = at; live = live; cheap = stays_below 1 0 _ free (lit< tt) };
+  value = has;
+  first = first;
+}
+
 pub vac_plan : (cost : ℕ) → IsPlan (vac cost) (begun cost) 1 deletions 1 plan
 vac_plan cost = (
   _,
@@ -183,14 +193,56 @@ vac_plan cost = (
   ),
 )
   where
-    sources_3 : AreSources (vac cost) (begun cost) 1 3 0 1 (record { variable = 2; value = 0; reason = By 2 1 } ∷ record { variable = 1; value = 0; reason = By 1 1 } ∷ record { variable = 0; value = 1; reason = Own } ∷ []) (from 1 0)
-    sources_3 = record { are = (record { function = lit< tt; place = lit< tt; value = lit< tt }, λ e. absurd (omega (arith, e)), inl (refl, refl), tt, tt); enough = gathered_3 cost }
+    earlier_1 : List Deletion
+    earlier_1 = record { variable = 0; value = 1; reason = Own } ∷ []
 
-    sources_2 : AreSources (vac cost) (begun cost) 1 2 1 0 (record { variable = 1; value = 0; reason = By 1 1 } ∷ record { variable = 0; value = 1; reason = Own } ∷ []) (from 0 1)
-    sources_2 = record { are = (record { function = lit< tt; place = lit< tt; value = lit< tt }, λ e. absurd (omega (arith, e)), inr (inl (refl, refl)), tt, tt); enough = gathered_2 cost }
+    earlier_2 : List Deletion
+    earlier_2 = record { variable = 1; value = 0; reason = By 1 1 } ∷ earlier_1
 
-    sources_1 : AreSources (vac cost) (begun cost) 1 1 1 0 (record { variable = 0; value = 1; reason = Own } ∷ []) (from 0 1)
-    sources_1 = record { are = (record { function = lit< tt; place = lit< tt; value = lit< tt }, λ e. absurd (omega (arith, e)), inl (refl, refl), tt, tt); enough = gathered_1 cost }
+    earlier_3 : List Deletion
+    earlier_3 = record { variable = 2; value = 0; reason = By 2 1 } ∷ earlier_2
+
+    first_1 : (n : ℕ) → n < 2 → DeletesBefore earlier_1 (variable_at (vac cost) 1 n) (slice_index (1 ∷ 0 ∷ []) n) 0 1 → ⊥
+    first_1 n h is = grind (arith, h, is)
+
+    first_2 : (n : ℕ) → n < 2 → DeletesBefore earlier_2 (variable_at (vac cost) 2 n) (slice_index (1 ∷ 0 ∷ []) n) 0 1 → ⊥
+    first_2 n h is = grind (arith, h, is)
+
+    first_3 : (n : ℕ) → n < 2 → DeletesBefore earlier_3 (variable_at (vac cost) 3 n) (slice_index (1 ∷ 0 ∷ []) n) 2 0 → ⊥
+    first_3 n h is = grind (arith, h, is)
+
+    sources_3 : AreSources (vac cost) (begun cost) 1 3 0 1 earlier_3 (from 1 0)
+    sources_3 = record { are = (record { function = lit< tt; place = lit< tt; value = lit< tt }, λ e. absurd (omega (arith, e)), inl (refl, refl), needed cost 3 0 1 1 0 1 0 earlier_3 refl (lit< tt) (lit< tt) refl refl refl refl first_3, tt); enough = gathered_3 cost }
+
+    sources_2 : AreSources (vac cost) (begun cost) 1 2 1 0 earlier_2 (from 0 1)
+    sources_2 = record { are = (record { function = lit< tt; place = lit< tt; value = lit< tt }, λ e. absurd (omega (arith, e)), inr (inl (refl, refl)), needed cost 2 1 0 0 1 1 0 earlier_2 refl (lit< tt) (lit< tt) refl refl refl refl first_2, tt); enough = gathered_2 cost }
+
+    sources_1 : AreSources (vac cost) (begun cost) 1 1 1 0 earlier_1 (from 0 1)
+    sources_1 = record { are = (record { function = lit< tt; place = lit< tt; value = lit< tt }, λ e. absurd (omega (arith, e)), inl (refl, refl), needed cost 1 1 0 0 1 1 0 earlier_1 refl (lit< tt) (lit< tt) refl refl refl refl first_1, tt); enough = gathered_1 cost }
+
+-- a value whose tuple costs 1 is no source beside one that suffices, whatever was deleted before
+pub vac_needs_no_more : (cost : ℕ) (earlier : List Deletion) → AreSources (vac cost) (begun cost) 1 3 0 1 earlier (record { place = 1; value = 1 } ∷ from 1 0) → ⊥
+vac_needs_no_more cost earlier is =
+    let history = Did (CutValue 2 0) ∷ begun cost in
+    let has = is.are.3 in
+    let t = has.cheap in
+    all_pairs (λ tuple. slice_index tuple 0 ≡ 1 → slice_index tuple 1 ≡ 1 → residual (vac cost) history 3 tuple <ℤ pos 1 → ⊥)
+    (λ at value cheap. absurd (omega (arith, at)))
+    (λ at value cheap. absurd (omega (arith, at)))
+    (λ at value cheap. absurd (omega (arith, value)))
+    (λ at value cheap. not_below _ refl cheap)
+    t.tuple
+    t.fits
+    t.at
+    has.value
+    t.cheap
+  where
+    not_below : (z : ℤ) → z ≡ pos 1 → z <ℤ pos 1 → ⊥
+    not_below z e less = absurd (omega (arith, ints, e, less))
+
+-- nor is one before which another value of its tuple was deleted
+pub vac_takes_the_first : (cost : ℕ) → IsNeeded (vac cost) (begun cost) 1 3 0 1 (record { variable = 2; value = 0; reason = Own } ∷ record { variable = 1; value = 1; reason = Own } ∷ []) (record { place = 1; value = 0 }) → ⊥
+vac_takes_the_first cost is = is.first 0 (lit< tt) (inl (refl, refl, inl (refl, sym is.cheap.at)))
 
 pub vac_asks_2 : (cost : ℕ) → asked (vac cost) plan 0 1 ≡ 2
 vac_asks_2 cost = refl

@@ -1,15 +1,17 @@
 -- What holds of local consistencies.
-use Rattle.std.specs.Prelude.{ℕ, ◌<◌, ◌≤◌, List, ◌++◌, length, IsTrue}
+use Rattle.std.specs.Prelude.{◌≢◌, ℕ, ◌<◌, ◌≤◌, List, ◌++◌, length, IsTrue}
+use Rattle.std.specs.List.{AllPairs}
 use Rattle.cfn_model.specs.declared.step.Step.{Step}
 use Rattle.cfn_model.specs.declared.step.Event.{Event}
 use Rattle.cfn_model.specs.Network.{Network, IsNetwork}
 use Rattle.cfn_model.specs.Sums.{is_live}
 use Rattle.cfn_model.specs.Steps.{after, IsValue}
 use Rattle.cfn_consistency.specs.declared.deletion.Deletion.{Deletion}
+use Rattle.cfn_consistency.specs.declared.deletion.Source.{Source}
 use Rattle.cfn_consistency.specs.Openness.{TakesPart}
 use Rattle.cfn_consistency.specs.Consistency.{IsDead, IsNodeConsistent, IsArcConsistent, IsDirectional, IsExistential, AreArcConsistent, AreDirectional, AreExistential, AreFullyConsistent}
 use Rattle.cfn_consistency.specs.Groups.{AreGroups, AreOpenGroups, GainAtNodes}
-use Rattle.cfn_consistency.specs.Virtual.{Bans, without, IsDerivation, IsClosedFamily}
+use Rattle.cfn_consistency.specs.Virtual.{Bans, without, IsDerivation, IsClosedFamily, AreSourcesOf}
 use Rattle.cfn_consistency.specs.Agreement.{AgreeOnFunction, AgreeAround, AgreeNear, AgreeOnNodes}
 
 -- What holds at a threshold holds at every greater one.
@@ -77,3 +79,8 @@ OpenGroupsJoin = (P : Network) (history : List Event) (steps more : List Step) �
 abbrev pub ClosedStaysClosed : Type 0
 ClosedStaysClosed =
     (P : Network) (history : List Event) (q : ℕ) (bans : Bans) (closed others : List Deletion) → IsNetwork P → IsClosedFamily P (without closed history) q bans → IsDerivation P history q bans others → (x : ℕ) → x < length P.sizes → (a : ℕ) × IsValue P x a × IsTrue (is_live (without others history) x a)
+
+-- No source of a deletion stands twice.
+abbrev pub SourcesDiffer : Type 0
+SourcesDiffer =
+    (P : Network) (history : List Event) (q f i a : ℕ) (earlier : List Deletion) (sources : List Source) → AreSourcesOf P history q f i a earlier sources → AllPairs (λ (s : Source) (other : Source). s ≢ other) sources

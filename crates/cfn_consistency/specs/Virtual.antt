@@ -1,13 +1,12 @@
 -- Virtual arc consistency (Cooper et al. 2010): what propagation deletes in the network that forbids each value and each
 -- tuple whose cost is at least q, and the plan that gathers at one variable the costs of what was deleted.
 use Rattle.std.specs.Prelude.{◌≡◌, ℕ, ◌*◌, ◌<◌, ◌⊎◌, min, Bool, ◌&&◌, List, [], ◌∷◌, ◌++◌, length, map, reverse, slice_index, sum_by, pos, ◌<ℤ◌, IsTrue, IsFalse, if◌then◌else◌, ◌==◌}
-use Rattle.std.specs.List.{AllByRecursion}
 use Rattle.cfn_model.specs.declared.limits.TheConstants.{GREATEST}
 use Rattle.cfn_model.specs.declared.step.Step.{Step}
 use Rattle.cfn_model.specs.declared.step.Step.TheVariants.{Project, Extend, Lift, CutValue, CutTuple}
 use Rattle.cfn_model.specs.declared.step.Event.{Event}
 use Rattle.cfn_model.specs.declared.step.Event.TheVariants.{Did}
-use Rattle.cfn_model.specs.Network.{Network, Fits, variable_at, dims_at}
+use Rattle.cfn_model.specs.Network.{Network, Fits, arity, variable_at, dims_at}
 use Rattle.cfn_model.specs.Sums.{unary, residual, is_live, is_live_tuple}
 use Rattle.cfn_model.specs.Steps.{IsValue, IsPlace, CanProject, CanExtend}
 use Rattle.cfn_consistency.specs.declared.deletion.Reason.{Reason}
@@ -69,21 +68,33 @@ abbrev pub Deletes : List Deletion → ℕ → ℕ → Type 0
 Deletes [] y b = ⊥
 Deletes (d ∷ deletions) y b = ((d.variable ≡ y) × (d.value ≡ b)) ⊎ Deletes deletions y b
 
--- Each source is a value at another place of f, and among the values of a list; none is there twice.
-abbrev pub AreSourcesOf : Network → ℕ → ℕ → List Deletion → List Source → Type 0
-AreSourcesOf P f i earlier [] = Unit {0}
-AreSourcesOf P f i earlier (s ∷ sources) =
-    IsPlace P f s.place s.value × (s.place ≡ i → ⊥) × Deletes earlier (variable_at P f s.place) s.value
-    × AllByRecursion (λ (other : Source). s ≡ other → ⊥) sources × AreSourcesOf P f i earlier sources
-
--- The history behind which the sources of a function are cut.
+-- The history behind which the sources of a function are cut, the last of them first.
 abbrev pub without_sources : Network → ℕ → List Source → List Event → List Event
 without_sources P f [] history = history
-without_sources P f (s ∷ sources) history = without_sources P f sources (Did (CutValue (variable_at P f s.place) s.value) ∷ history)
+without_sources P f (s ∷ sources) history = Did (CutValue (variable_at P f s.place) s.value) ∷ without_sources P f sources history
+
+-- In a list of deletions, the last of them first, the value c of z was deleted before the value b of y.
+abbrev pub DeletesBefore : List Deletion → ℕ → ℕ → ℕ → ℕ → Type 0
+DeletesBefore [] z c y b = ⊥
+DeletesBefore (d ∷ deletions) z c y b = ((d.variable ≡ y) × (d.value ≡ b) × Deletes deletions z c) ⊎ DeletesBefore deletions z c y b
+
+-- A source is needed: a live tuple of f with the value a at place i has its value, and a residual cost below q; and it is the value
+-- of that tuple that was deleted first.
+pub record IsNeeded (P : Network) (history : List Event) (q f i a : ℕ) (earlier : List Deletion) (s : Source) : Type 0 where
+  pub cheap : HasCheapTuple P history f i a q
+  pub value : slice_index cheap.tuple s.place ≡ s.value
+  pub first : (j : ℕ) → j < arity P f → DeletesBefore earlier (variable_at P f j) (slice_index cheap.tuple j) (variable_at P f s.place) s.value → ⊥
+
+-- Each source is a value at another place of f that was deleted earlier, and needed behind the cuts of the sources that follow it.
+abbrev pub AreSourcesOf : Network → List Event → ℕ → ℕ → ℕ → ℕ → List Deletion → List Source → Type 0
+AreSourcesOf P history q f i a earlier [] = Unit {0}
+AreSourcesOf P history q f i a earlier (s ∷ sources) =
+    IsPlace P f s.place s.value × (s.place ≡ i → ⊥) × Deletes earlier (variable_at P f s.place) s.value
+    × IsNeeded P (without_sources P f sources history) q f i a earlier s × AreSourcesOf P history q f i a earlier sources
 
 -- Sources of the value a at place i of f: without them each live tuple with it has a residual cost of at least q.
 pub record AreSources (P : Network) (history : List Event) (q f i a : ℕ) (earlier : List Deletion) (sources : List Source) : Type 0 where
-  pub are : AreSourcesOf P f i earlier sources
+  pub are : AreSourcesOf P history q f i a earlier sources
   pub enough : CanProject P (without_sources P f sources history) f i a q
 
 -- What a step takes from the unary cost of the value b of y.

@@ -1,6 +1,6 @@
 //! What holds of local consistencies, each the contract of a function with nothing to do.
 
-ghost use Rattle.cfn_consistency.specs.Laws.{NodesRise, ArcsRise, DirectionalsRise, ExistentialsRise, FullsRise, DeadFalls, NeverBoth, PartIsLocal, ArcIsLocal, DirectionalIsLocal, ExistentialIsLocal, NodesAreLocal, NodesGroup, GroupsJoin, OpenGroupsJoin, ClosedStaysClosed};
+ghost use Rattle.cfn_consistency.specs.Laws.{NodesRise, ArcsRise, DirectionalsRise, ExistentialsRise, FullsRise, DeadFalls, NeverBoth, PartIsLocal, ArcIsLocal, DirectionalIsLocal, ExistentialIsLocal, NodesAreLocal, NodesGroup, GroupsJoin, OpenGroupsJoin, ClosedStaysClosed, SourcesDiffer};
 
 /// What is consistent at a threshold is so at every greater one, and what is dead is so at every smaller one. Nothing is
 /// node consistent and dead at once.
@@ -34,4 +34,9 @@ pub fn groups()
 /// Where propagation ended in a closed family, none under the same bans empties a variable.
 pub fn families()
     ensures closed { ClosedStaysClosed }
+{}
+
+/// A source that is needed behind the cuts of others is none of them.
+pub fn sources()
+    ensures { SourcesDiffer }
 {}

@@ -8,7 +8,7 @@ use Rattle.cfn_model.specs.declared.step.Event.{Event}
 use Rattle.cfn_model.specs.declared.step.Event.TheVariants.{Did}
 use Rattle.cfn_model.specs.Network.{Network, arity, variable_at}
 use Rattle.cfn_model.specs.Steps.{after}
-use Rattle.std.proofs.lemmas.Bool.{cases_eq}
+use Rattle.std.proofs.lemmas.Bool.{cases_eq, or_right}
 use Rattle.cfn_model.proofs.CallerLemmas.{eqb_other}
 use Rattle.cfn_queue.specs.Waiting.{Waiting, is_in, with_item}
 use Rattle.cfn_queue.proofs.CallerLemmas.{in_behind}
@@ -76,16 +76,11 @@ or_one : (a b : Bool) → a ≡ true → (a || b) ≡ true
 or_one true b h = refl
 or_one false b h = absurd cc
 
-or_other : (a b : Bool) → b ≡ true → (a || b) ≡ true
-or_other true b h = refl
-or_other false true h = refl
-or_other false false h = absurd cc
-
 pub with_stays : (queue : Waiting) (x y : ℕ) → is_in y queue.items ≡ true → is_in y (with_item queue x).items ≡ true
 with_stays queue x y h = in_with queue x y ∙ or_one (is_in y queue.items) (y == x) h
 
 pub with_has : (queue : Waiting) (x : ℕ) → is_in x (with_item queue x).items ≡ true
-with_has queue x = in_with queue x x ∙ or_other (is_in x queue.items) (x == x) (eq-eqb x x refl)
+with_has queue x = in_with queue x x ∙ or_right (is_in x queue.items) (x == x) (eq-eqb x x refl)
 
 pub with_only : (queue : Waiting) (x y : ℕ) → (y ≡ x → ⊥) → is_in y (with_item queue x).items ≡ true → is_in y queue.items ≡ true
 with_only queue x y other h = or_first (is_in y queue.items) (y == x) (eqb_other y x other) (sym (in_with queue x y) ∙ h)

@@ -6,7 +6,7 @@ use Rattle.std.specs.Prelude.{slice_index, slice_set}
 use Rattle.cfn_rows.specs.Jagged.{row_at}
 use Rattle.cfn_model.specs.Network.{Network}
 use Rattle.cfn_model.specs.Steps.{IsValue}
-use Rattle.cfn_vac.specs.Tables.{HasShape, item, IsFilled, AreFilled}
+use Rattle.cfn_vac.specs.Tables.{HasShape, item, IsFilled}
 
 abbrev pub written : List (List ℕ) → ℕ → ℕ → ℕ → List (List ℕ)
 written rows x a number = slice_set rows x (slice_set (row_at rows x) a number)
@@ -69,23 +69,3 @@ filled P x number n old now f all = record {
   here = λ a v. (let l = v.value in f.here a (omega (arith, l, all)) v);
   others = λ y a v apart. f.others y a v (λ same. absurd (apart same));
 }
-
--- the first n variables are filled
-pub record AreFilledTo (P : Network) (number n : ℕ) (rows : List (List ℕ)) : Type 0 where
-  pub shape : HasShape P rows
-  pub all : (x a : ℕ) → x < n → IsValue P x a → item rows x a ≡ number
-
-pub none_filled : (P : Network) (number : ℕ) (rows : List (List ℕ)) → HasShape P rows → AreFilledTo P number 0 rows
-none_filled P number rows shape = record { shape = shape; all = λ x a l. absurd (omega (arith, l)) }
-
-pub next_filled : (P : Network) (number n : ℕ) (old new : List (List ℕ)) → AreFilledTo P number n old → IsFilled P n number old new → AreFilledTo P number (n + 1) new
-next_filled P number n old new are is = record {
-  shape = is.shape;
-  all = λ x a l v. elim (cases_eq x n) [
-    | inl e ↦ subst (λ y. item new y a ≡ number) (sym e) (is.here a (subst (λ y. IsValue P y a) e v))
-    | inr e ↦ is.others x a v e ∙ are.all x a (omega (arith, l, e)) v
-  ];
-}
-
-pub all_filled : (P : Network) (number n : ℕ) (rows : List (List ℕ)) → AreFilledTo P number n rows → length P.sizes ≤ n → AreFilled P number rows
-all_filled P number n rows are h = record { shape = are.shape; all = λ x a v. (let l = v.variable in are.all x a (omega (arith, l, h)) v) }

@@ -78,11 +78,11 @@ pub shifts_more : (P : Network) (steps : List Step) (step : Step) → AreShifts 
 shifts_more P [] step all is = (is, tt)
 shifts_more P (first ∷ steps) step all is = (all.0, shifts_more P steps step all.1 is)
 
-shifts_front : (P : Network) (steps : List Step) (step : Step) → AreShifts P (steps ++ step ∷ []) → AreShifts P steps
+pub shifts_front : (P : Network) (steps : List Step) (step : Step) → AreShifts P (steps ++ step ∷ []) → AreShifts P steps
 shifts_front P [] step all = tt
 shifts_front P (first ∷ steps) step all = (all.0, shifts_front P steps step all.1)
 
-shifts_last : (P : Network) (steps : List Step) (step : Step) → AreShifts P (steps ++ step ∷ []) → IsShift P step
+pub shifts_last : (P : Network) (steps : List Step) (step : Step) → AreShifts P (steps ++ step ∷ []) → IsShift P step
 shifts_last P [] step all = all.0
 shifts_last P (first ∷ steps) step all = shifts_last P steps step all.1
 

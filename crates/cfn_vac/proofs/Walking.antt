@@ -1,5 +1,5 @@
 -- The deletions of a derivation put steps before a plan, the last of them first.
-use Rattle.std.proofs.Common.{◌≡◌, ℕ, ◌≤◌, inl, inr, List, [], ◌∷◌, ◌++◌, length, length-append, take, reverse, append_assoc, refl, sym, ap, ◌∙◌, subst, arith}
+use Rattle.std.proofs.Common.{◌≡◌, ℕ, ◌≤◌, List, [], ◌∷◌, ◌++◌, length, length-append, take, reverse, append_assoc, refl, sym, ap, ◌∙◌, subst, arith}
 use Rattle.std.proofs.lemmas.List.{reverse-append, append-nil}
 use Rattle.std.proofs.Math.Seq.{take-append_seam}
 use Rattle.cfn_model.specs.declared.step.Step.{Step}
@@ -7,31 +7,16 @@ use Rattle.cfn_model.specs.declared.step.Step.TheVariants.{Project}
 use Rattle.cfn_model.specs.declared.step.Event.{Event}
 use Rattle.cfn_model.specs.Network.{Network}
 use Rattle.cfn_consistency.specs.declared.deletion.Deletion.{Deletion}
-use Rattle.cfn_consistency.specs.declared.deletion.Reason.{Reason}
-use Rattle.cfn_consistency.specs.declared.deletion.Reason.TheVariants.{Own, By}
-use Rattle.cfn_consistency.specs.declared.deletion.Source.{Source}
-use Rattle.cfn_consistency.specs.Virtual.{Bans, without, AreSourcesOf, IsDeletion, IsDerivation, Puts, ArePut}
+use Rattle.cfn_consistency.specs.Virtual.{Bans, without, IsDeletion, IsDerivation, Puts, ArePut}
 use Rattle.cfn_vac.specs.declared.sources.Target.{Target}
 use Rattle.cfn_vac.specs.Tables.{AreBefore, ArePositions}
 use Rattle.cfn_vac.specs.Plans.{Gathers, Feeds, extends}
-use Rattle.cfn_vac.proofs.Derived.{deletes_turned, derivation_from}
+use Rattle.cfn_vac.proofs.Derived.{derivation_from}
 
 -- what gathers for a target, with its project
 pub feeds : (P : Network) (history : List Event) (q : ℕ) (t : Target) (earlier : List Deletion) (old mid new : List Step) → mid ≡ Project t.function t.place t.value t.amount ∷ old
     → Gathers P history q t.function t.place t.value t.amount earlier mid new → Feeds P history q t earlier old new
 feeds P history q t earlier old mid new mid_is g = (g.sources, g.are, g.put ∙ ap (λ l. extends t.function t.amount g.sources ++ l) mid_is ∙ sym (append_assoc (extends t.function t.amount g.sources) (Project t.function t.place t.value t.amount ∷ []) old))
-
--- sources among deletions are among them in any order
-sources_turned : (P : Network) (f i : ℕ) (earlier : List Deletion) (sources : List Source) → AreSourcesOf P f i earlier sources → AreSourcesOf P f i (reverse earlier) sources
-sources_turned P f i earlier [] are = tt
-sources_turned P f i earlier (s ∷ sources) are = (are.0, are.1, deletes_turned earlier _ _ are.2, are.3, sources_turned P f i earlier sources are.4)
-
-puts_turned : (P : Network) (history : List Event) (q : ℕ) (d : Deletion) (reason : Reason) (earlier : List Deletion) (later steps : List Step) → Puts P history q d reason earlier later steps → Puts P history q d reason (reverse earlier) later steps
-puts_turned P history q d Own earlier later steps is = is
-puts_turned P history q d (By f i) earlier later steps (inl is) = inl is
-puts_turned P history q d (By f i) earlier later steps (inr is) =
-    let s = is.1 in
-    inr (is.0, (s.0, record { are = sources_turned P f i earlier s.0 s.1.are; enough = s.1.enough }, s.2))
 
 -- where the walk is: what those that are left put completes it
 pub record IsWalking (P : Network) (history : List Event) (q : ℕ) (deletions left : List Deletion) (old now : List Step) : Type 0 where
@@ -43,11 +28,11 @@ pub walking_start : (P : Network) (history : List Event) (q : ℕ) (deletions : 
 walking_start P history q deletions old = record { done = []; all = sym (append-nil deletions); rest = λ steps are. are }
 
 pub walking_more : (P : Network) (history : List Event) (q : ℕ) (deletions left earlier : List Deletion) (old now next : List Step) (d : Deletion) → IsWalking P history q deletions left old now → left ≡ earlier ++ d ∷ []
-    → Puts P history q d d.reason earlier now next → IsWalking P history q deletions earlier old next
+    → Puts P history q d d.reason (reverse earlier) now next → IsWalking P history q deletions earlier old next
 walking_more P history q deletions left earlier old now next d w left_is puts = record {
   done = d ∷ w.done;
   all = w.all ∙ ap (λ l. l ++ w.done) left_is ∙ append_assoc earlier (d ∷ []) w.done;
-  rest = λ steps are. w.rest steps (subst (λ l. ArePut P history q l now steps) (sym (ap reverse left_is ∙ reverse-append earlier (d ∷ []))) (next, puts_turned P history q d d.reason earlier now next puts, are));
+  rest = λ steps are. w.rest steps (subst (λ l. ArePut P history q l now steps) (sym (ap reverse left_is ∙ reverse-append earlier (d ∷ []))) (next, puts, are));
 }
 
 pub all_put : (P : Network) (history : List Event) (q : ℕ) (deletions left : List Deletion) (old now : List Step) → IsWalking P history q deletions left old now → left ≡ [] → ArePut P history q (reverse deletions) old now

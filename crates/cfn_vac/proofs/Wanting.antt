@@ -1,5 +1,5 @@
 -- What a plan asks rises by what an extend takes.
-use Rattle.std.proofs.Common.{◌≡◌, ℕ, ◌+◌, ◌<◌, ◌≤◌, min, List, [], ◌∷◌, ◌++◌, true, false, refl, sym, ap, ◌∙◌, subst, inl, inr, arith, reverse}
+use Rattle.std.proofs.Common.{◌≡◌, ℕ, ◌+◌, ◌<◌, ◌≤◌, min, List, [], ◌∷◌, ◌++◌, length, true, false, refl, sym, ap, ◌∙◌, subst, inl, inr, arith, reverse}
 use Rattle.std.proofs.lemmas.List.{reverse-append}
 use Rattle.std.proofs.lemmas.Bool.{cases_eq}
 use Rattle.std.specs.Prelude.{sum_by, ◌⊎◌, Bool, ◌&&◌, ◌==◌, if◌then◌else◌}
@@ -11,7 +11,7 @@ use Rattle.cfn_model.specs.Network.{Network, IsNetwork, variable_at}
 use Rattle.cfn_model.specs.Steps.{IsPlace, IsValue}
 use Rattle.cfn_model.proofs.CallerLemmas.{eqb_same, eqb_other}
 use Rattle.cfn_consistency.specs.Virtual.{takes, asked}
-use Rattle.cfn_vac.specs.Tables.{item, AreWants}
+use Rattle.cfn_vac.specs.Tables.{item, AreFilled, AreWants, AreOfSteps}
 use Rattle.cfn_vac.specs.Plans.{IsPlanned}
 use Rattle.cfn_vac.proofs.Numbers.{written, written_here, written_there, written_shape, within}
 use Rattle.cfn_vac.proofs.Running.{shifts_more}
@@ -70,3 +70,19 @@ planned_extend P steps rows new f j b m x wanted net is place some most x_is wan
       (sym (new_is ∙ ap (λ w. written rows x b (min GREATEST (m + w))) wanted_is ∙ ap (λ y. written rows y b (min GREATEST (m + item rows y b))) x_is))
       (wants_more P (reverse steps) rows f j b m is.wants (value_of P f j b net place)));
 }
+
+-- what steps ask is taken back, the last of them first
+pub forgetting_start : (P : Network) (steps : List Step) (rows : List (List ℕ)) → AreWants P steps rows → AreOfSteps P steps rows
+forgetting_start P steps rows are = record { shape = are.shape; none = λ y c v nothing. are.is y c v ∙ nothing }
+
+pub forgetting_more : (P : Network) (left earlier : List Step) (step : Step) (rows : List (List ℕ)) → left ≡ earlier ++ step ∷ [] → AreOfSteps P (reverse left) rows → AreOfSteps P (step ∷ reverse earlier) rows
+forgetting_more P left earlier step rows is are = subst (λ l. AreOfSteps P l rows) (ap reverse is ∙ reverse-append earlier (step ∷ [])) are
+
+no_step : (left : List Step) → length left ≡ 0 → left ≡ []
+no_step [] h = refl
+no_step (step ∷ left) h = absurd (omega (arith, h))
+
+pub all_forgotten : (P : Network) (left : List Step) (rows : List (List ℕ)) → length left ≡ 0 → AreOfSteps P (reverse left) rows → AreFilled P 0 rows
+all_forgotten P left rows none are =
+    let last : AreOfSteps P [] rows = subst (λ l. AreOfSteps P (reverse l) rows) (no_step left none) are in
+    record { shape = last.shape; all = λ y c v. last.none y c v refl }

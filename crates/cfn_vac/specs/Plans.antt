@@ -1,9 +1,8 @@
 -- Plans while they are built, and the sources of what one lacks.
-use Rattle.std.specs.Prelude.{◌≡◌, ◌≢◌, ℕ, ◌<◌, ◌≤◌, List, [], ◌∷◌, ◌++◌, map, reverse, slice_index, pos, ◌<ℤ◌}
+use Rattle.std.specs.Prelude.{◌≡◌, ◌≢◌, ℕ, ◌<◌, ◌≤◌, List, ◌++◌, map, reverse, slice_index, pos, ◌<ℤ◌}
 use Rattle.cfn_model.specs.declared.step.Step.{Step}
-use Rattle.cfn_model.specs.declared.step.Step.TheVariants.{Extend, CutValue}
+use Rattle.cfn_model.specs.declared.step.Step.TheVariants.{Extend}
 use Rattle.cfn_model.specs.declared.step.Event.{Event}
-use Rattle.cfn_model.specs.declared.step.Event.TheVariants.{Did}
 use Rattle.cfn_model.specs.Network.{Network, cell, arity, variable_at, dims_at}
 use Rattle.cfn_model.specs.Sums.{residual}
 use Rattle.cfn_model.specs.Steps.{IsPlace}
@@ -11,7 +10,7 @@ use Rattle.cfn_store.specs.Extremes.{IsPicked}
 use Rattle.cfn_store.specs.Standing.{Standing, history}
 use Rattle.cfn_consistency.specs.declared.deletion.Deletion.{Deletion}
 use Rattle.cfn_consistency.specs.declared.deletion.Source.{Source}
-use Rattle.cfn_consistency.specs.Virtual.{AreSourcesOf, AreSources, gathering}
+use Rattle.cfn_consistency.specs.Virtual.{without_sources, AreSourcesOf, AreSources, gathering}
 use Rattle.cfn_vac.specs.declared.sources.Target.{Target}
 use Rattle.cfn_vac.specs.Running.{AreShifts}
 use Rattle.cfn_vac.specs.Tables.{item, AreWants}
@@ -33,7 +32,8 @@ pub record IsCheap (P : Network) (history : List Event) (f i a q number : ℕ) :
   pub cell_is : cell (dims_at P f) tuple ≡ number
   pub cheap : residual P history f tuple <ℤ pos q
 
--- Each value of a tuple at another place than i has a number of at least an end; and one has a number below it.
+-- Each value of a tuple at another place than i has a number of at least an end; and one has a number below it, of which there
+-- is no lower one.
 abbrev pub NoneBefore : Network → List (List ℕ) → ℕ → ℕ → ℕ → List ℕ → Type 0
 NoneBefore P rows f i end tuple = (j : ℕ) → j < arity P f → j ≢ i → end ≤ item rows (variable_at P f j) (slice_index tuple j)
 
@@ -42,21 +42,17 @@ pub record IsBefore (P : Network) (rows : List (List ℕ)) (f i end : ℕ) (tupl
   pub other : source.place ≢ i
   pub value : source.value ≡ slice_index tuple source.place
   pub before : item rows (variable_at P f source.place) source.value < end
+  pub least : (j : ℕ) → j < arity P f → j ≢ i → item rows (variable_at P f source.place) source.value ≤ item rows (variable_at P f j) (slice_index tuple j)
 
 -- What a function gathers from sources, an extend for each of them.
 abbrev pub extends : ℕ → ℕ → List Source → List Step
 extends f amount sources = map (λ (s : Source). Extend f s.place s.value amount) sources
 
--- The history in which sources are cut, the first of them last.
-abbrev pub cut_from : Network → ℕ → List Source → List Event → List Event
-cut_from P f [] history = history
-cut_from P f (s ∷ sources) history = Did (CutValue (variable_at P f s.place) s.value) ∷ cut_from P f sources history
-
 -- Sources were cut in a store, and their extends put before a plan.
-pub record IsGathered (P : Network) (before now : Standing) (f i amount : ℕ) (earlier : List Deletion) (old new : List Step) : Type 0 where
+pub record IsGathered (P : Network) (before now : Standing) (q f i a amount : ℕ) (earlier : List Deletion) (old new : List Step) : Type 0 where
   pub sources : List Source
-  pub are : AreSourcesOf P f i earlier sources
-  pub cut : history now ≡ cut_from P f sources (history before)
+  pub are : AreSourcesOf P (history before) q f i a earlier sources
+  pub cut : history now ≡ without_sources P f sources (history before)
   pub put : new ≡ extends f amount sources ++ old
 
 -- The extends of sources of the value a at place i of f were put before a plan.

@@ -9,7 +9,7 @@ ghost use Rattle.cfn_vac.specs.declared.lifter.Lifting.TheVariants.{Blocked};
 ghost use Rattle.cfn_vac.specs.Running.{AreShifts, amount_of};
 ghost use Rattle.cfn_vac.specs.Lifts.{Tells, LiftsBy, RisesBy};
 
-use crate::numbering::number;
+use crate::numbering::{NONE, number, take_back};
 use crate::plan::Plan;
 use crate::run::{Refusal, amount, run};
 use crate::walk::walk;
@@ -36,7 +36,7 @@ pub enum Lifting {
     Spent,
 }
 
-/// Room for a plan, and for where values stand among deletions. Contracts see the network.
+/// Room for a plan, and for where values stand among deletions: between lifts no value has a number. Contracts see the network.
 #[derive(Drop)]
 pub(crate) struct Lifter<'n> {
     network: &'n Network,
@@ -47,13 +47,14 @@ pub(crate) struct Lifter<'n> {
 impl<'n> Model for Lifter<'n> {
     ghost use Rattle.std.specs.Prelude.{◌≡◌};
     ghost use Rattle.cfn_model.specs.Network.{Network as CostNetwork};
-    ghost use Rattle.cfn_vac.specs.Tables.{HasShape};
+    ghost use Rattle.cfn_vac.specs.Tables.{AreFilled};
+    ghost use Rattle.cfn_vac.specs.declared.numbering.TheConstants.{NONE};
 
     ghost Value = { CostNetwork };
 
     ghost view = { λ s. s.network.now };
 
-    ghost invariant = { λ s. (s.plan.network ≡ s.network.now) × HasShape s.network.now s.positions };
+    ghost invariant = { λ s. (s.plan.network ≡ s.network.now) × AreFilled s.network.now NONE s.positions };
 }
 
 impl<'n> Lifter<'n> {
@@ -64,11 +65,12 @@ impl<'n> Lifter<'n> {
         Ok(Lifter {
             network,
             plan: Plan::make(alloc, network)?,
-            positions: Rows::filled(alloc, network.sizes(), 0)?,
+            positions: Rows::filled(alloc, network.sizes(), NONE)?,
         })
     }
 
-    /// Lifts by the plan of a derivation that empties `x`. After an `Err`, want of memory, the store is as it was.
+    /// Lifts by the plan of a derivation that empties `x`. It costs what the derivation and its plan cost, and the plan of the lift
+    /// before. After an `Err`, want of memory, the store is as it was.
     pub(crate) fn lift(
         &mut self,
         store: &mut Store<'_>,
@@ -90,7 +92,9 @@ impl<'n> Lifter<'n> {
     {
         self.plan.begin(x)?;
         number(self.network, &mut self.positions, deletions);
-        walk(&mut self.plan, store, &self.positions, q, deletions)?;
+        let walked = walk(&mut self.plan, store, &self.positions, q, deletions);
+        take_back(self.network, &mut self.positions, deletions);
+        walked?;
         Ok(make(store, limits, q, self.plan.steps()))
     }
 }

@@ -2,15 +2,17 @@
 //!
 //! Invariant: each step is a shift, and the number of a value is what the steps so far ask of it.
 
-ghost use Rattle.std.specs.Prelude.{◌≡◌, ◌<◌, ◌≤◌, [], ◌∷◌, length, reverse, IfOk, OnOk, OnErr};
+ghost use Rattle.std.specs.Prelude.{◌≡◌, ◌<◌, ◌≤◌, List, [], ◌∷◌, length, reverse, IfOk, OnOk, OnErr};
 ghost use Rattle.cfn_model.specs.declared.limits.TheConstants.{GREATEST};
+ghost use Rattle.cfn_model.specs.declared.step.Step.{Step};
 ghost use Rattle.cfn_model.specs.declared.step.Step.TheVariants.{Project, Extend, Lift};
 ghost use Rattle.cfn_model.specs.Network.{variable_at};
 ghost use Rattle.cfn_model.specs.Steps.{IsValue, IsPlace};
 ghost use Rattle.cfn_consistency.specs.Virtual.{asked};
-ghost use Rattle.cfn_vac.specs.Running.{AreShifts};
+ghost use Rattle.cfn_vac.specs.Running.{IsShift, AreShifts};
+ghost use Rattle.cfn_vac.specs.Tables.{HasShape, AreFilled, AreWants, AreOfSteps};
 
-use crate::tables::{fill, fill_all};
+use crate::tables::fill;
 use cfn_model::{GREATEST, Step};
 use cfn_net::Network;
 use cfn_rows::Rows;
@@ -65,13 +67,13 @@ impl<'n> Plan<'n> {
         Ok(())
     }
 
-    /// Takes all steps away.
+    /// Takes all steps away. It costs what they cost.
     fn clear(&mut self)
         ensures network { self.new.network ≡ self.old.network }
         ensures none { self.new.steps ≡ [] }
     {
+        forget(self.network, &mut self.wants, &self.steps);
         self.steps.clear();
-        fill_all(self.network, &mut self.wants, 0);
     }
 
     /// What the steps ask of a value, at most `GREATEST`.
@@ -141,5 +143,40 @@ impl<'n> Plan<'n> {
         ensures shifts { AreShifts self.now.network result.now }
     {
         &self.steps
+    }
+}
+
+/// Takes back what steps ask, the last of which stands first: nothing is asked of any value.
+fn forget(network: &Network, wants: &mut Rows<u64>, steps: &[Step])
+    requires shifts { AreShifts network.now steps.now }
+    requires wants { AreWants network.now (reverse steps.now) wants.old }
+    ensures { AreFilled network.now 0 wants.new }
+{
+    let mut left = steps;
+    while let Some((step, earlier)) = left.split_last() {
+        forget_one(network, wants, *step);
+        left = earlier;
+    }
+}
+
+/// Takes back what one step asks.
+fn forget_one(network: &Network, wants: &mut Rows<u64>, step: Step)
+    requires shift { IsShift network.now step }
+    requires shape { HasShape network.now wants.old }
+    ensures { (later : List Step) → AreOfSteps network.now (step ∷ later) wants.old → AreOfSteps network.now later wants.new }
+{
+    network.limits();
+    match step {
+        Step::Extend {
+            function,
+            place,
+            value,
+            ..
+        } => {
+            let x = network.scope(function)[place as usize];
+            wants.set(x as usize, value as usize, 0);
+        }
+        Step::Lift { variable, .. } => fill(network, wants, variable, 0),
+        _ => {}
     }
 }

@@ -6,7 +6,7 @@
 //!
 //! Invariant: the cuts are those of the sources so far, and each source's extend stands before the plan.
 
-ghost use Rattle.std.specs.Prelude.{◌≡◌, ℕ, ◌<◌, ◌≤◌, List, ◌∷◌, length, OnOk, OnErr, MatchOption, IsTrue};
+ghost use Rattle.std.specs.Prelude.{◌≡◌, ℕ, ◌<◌, ◌≤◌, List, ◌∷◌, length, reverse, OnOk, OnErr, MatchOption, IsTrue};
 ghost use Rattle.cfn_model.specs.declared.limits.TheConstants.{GREATEST};
 ghost use Rattle.cfn_model.specs.Network.{Fits, cell, cells, dims_at, variable_at};
 ghost use Rattle.cfn_model.specs.declared.step.Step.TheVariants.{Extend, CutValue};
@@ -52,7 +52,7 @@ pub(crate) fn gather(
     requires enough { CanProject plan.old.network (without earlier.now (history store.old)) target.function target.place target.value q }
     requires room { length earlier.now ≤ store.old.spare }
     ensures network { plan.new.network ≡ plan.old.network }
-    ensures gathers { OnOk result (Gathers plan.old.network (history store.old) q target.function target.place target.value target.amount earlier.now plan.old.steps plan.new.steps) }
+    ensures gathers { OnOk result (Gathers plan.old.network (history store.old) q target.function target.place target.value target.amount (reverse earlier.now) plan.old.steps plan.new.steps) }
     ensures same { store.new ≡ store.old }
 {
     let mark = store.mark();
@@ -78,7 +78,7 @@ fn gather_all(
     requires enough { CanProject plan.old.network (without earlier.now (history store.old)) target.function target.place target.value q }
     requires room { length earlier.now ≤ store.old.spare }
     ensures network { plan.new.network ≡ plan.old.network }
-    ensures gathered { OnOk result (IsGathered plan.old.network store.old store.new target.function target.place target.amount earlier.now plan.old.steps plan.new.steps) }
+    ensures gathered { OnOk result (IsGathered plan.old.network store.old store.new q target.function target.place target.value target.amount (reverse earlier.now) plan.old.steps plan.new.steps) }
     ensures enough { OnOk result (CanProject plan.old.network (history store.new) target.function target.place target.value q) }
     ensures grown { HasGrown store.old store.new }
 {

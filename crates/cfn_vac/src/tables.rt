@@ -1,20 +1,10 @@
 //! Numbers for the values of a network's variables, in rows.
 
 ghost use Rattle.std.specs.Prelude.{◌<◌, length};
-ghost use Rattle.cfn_vac.specs.Tables.{HasShape, IsFilled, AreFilled};
+ghost use Rattle.cfn_vac.specs.Tables.{HasShape, IsFilled};
 
 use cfn_net::Network;
 use cfn_rows::Rows;
-
-/// Gives all values of all variables a number.
-pub(crate) fn fill_all(network: &Network, rows: &mut Rows<u64>, number: u64)
-    requires shape { HasShape network.now rows.old }
-    ensures { AreFilled network.now number rows.new }
-{
-    for x in 0..network.variables() {
-        fill(network, rows, x, number);
-    }
-}
 
 /// Gives all values of a variable a number.
 pub(crate) fn fill(network: &Network, rows: &mut Rows<u64>, x: u32, number: u64)

@@ -57,7 +57,7 @@ fn put(
     requires positions { AreBefore plan.old.network earlier.now positions.now }
     requires room { length earlier.now ≤ store.old.spare }
     ensures network { plan.new.network ≡ plan.old.network }
-    ensures puts { OnOk result (Puts plan.old.network (history store.old) q deletion deletion.reason earlier.now plan.old.steps plan.new.steps) }
+    ensures puts { OnOk result (Puts plan.old.network (history store.old) q deletion deletion.reason (reverse earlier.now) plan.old.steps plan.new.steps) }
     ensures same { store.new ≡ store.old }
 {
     let amount = plan.asked(deletion.variable, deletion.value);
@@ -92,7 +92,7 @@ fn feed(
     requires enough { CanProject plan.old.network (without earlier.now (history store.old)) target.function target.place target.value q }
     requires room { length earlier.now ≤ store.old.spare }
     ensures network { plan.new.network ≡ plan.old.network }
-    ensures feeds { OnOk result (Feeds plan.old.network (history store.old) q target earlier.now plan.old.steps plan.new.steps) }
+    ensures feeds { OnOk result (Feeds plan.old.network (history store.old) q target (reverse earlier.now) plan.old.steps plan.new.steps) }
     ensures same { store.new ≡ store.old }
 {
     plan.project(target.function, target.place, target.value, target.amount)?;

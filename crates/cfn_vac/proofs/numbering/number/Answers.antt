@@ -15,5 +15,7 @@ loop-deletion-preserved c =
     subst (IsNumbering P c.args.deletions.now c.in-Some.later.now) (sym c.set.ensures)
     (numbering_more P d.0 d.1 d.2 c.args.deletions.now c.loop-deletion.left.now c.in-Some.later.now (c.count-count.result - length c.loop-deletion.left.now) c.loop-deletion.positions c.in-Some.deletion.now d.3 n c.in-Some.ensures.cases.0 (let all = ap length n.all ∙ length-append n.seen c.loop-deletion.left.now in let count = c.count-count.ensures in omega (arith, all, count)) (let fits = c.count-count.type_inv in let count = c.count-count.ensures in omega (arith, fits, count)))
 
-pub returns-clause-positions : goal.returns-clause-positions
-returns-clause-positions c = (all_numbered c.args.network.now c.args.deletions.now c.loop-deletion.left.now c.loop-deletion.positions c.loop-deletion.invariant c.in_default.ensures.cases).1
+pub returns : goal.returns
+returns c =
+    let all = all_numbered c.args.network.now c.args.deletions.now c.loop-deletion.left.now c.loop-deletion.positions c.loop-deletion.invariant c.in_default.ensures.cases in
+    record { positions = all.0; none = all.1 }

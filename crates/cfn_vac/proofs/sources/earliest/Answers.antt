@@ -6,7 +6,7 @@ use Rattle.cfn_rows.specs.Jagged.{row_at}
 use Rattle.cfn_gain.proofs.CallerLemmas.{few_places}
 use Rattle.cfn_vac.specs.Tables.{item}
 use Rattle.cfn_vac.proofs.Numbers.{within}
-use Rattle.cfn_vac.proofs.Gathering.{IsEarliest, value_of, item_is, earliest_found, earliest_kept}
+use Rattle.cfn_vac.proofs.Gathering.{IsEarliest, value_of, item_is, earliest_found, earliest_kept, earliest_end}
 use Rattle.cfn_vac.proofs.sources.earliest.Goals.{then-place-target+then-position-first, else-place-target, else-place-target-via-then-place-target+else-position-first, else-place-target-via-else-place-target}
 use Rattle.cfn_vac.proofs.sources.earliest.Goals as goal
 
@@ -43,3 +43,9 @@ loop-place-preserved c = λ tuple fits cell.
             | else-place-target-via-else-place-target u ↦ absurd (d u.if-place-target.false)
           ])))
     ]
+
+pub returns : goal.returns
+returns c = λ tuple fits cell.
+    let t = c.args.target in
+    earliest_end c.args.network.now c.args.positions.now t.function t.place c.args.end c.loop-place.place c.loop-place.first tuple c.loop-place.found (c.loop-place.invariant tuple fits cell)
+    (let t = c.loop-place-test.false in let e = ap length c.scope-scope.ensures in omega (arith, t, e))

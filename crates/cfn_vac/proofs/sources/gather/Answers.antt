@@ -1,4 +1,4 @@
-use Rattle.std.proofs.Common.{sym, ap, ◌∙◌, subst}
+use Rattle.std.proofs.Common.{reverse, sym, ap, ◌∙◌, subst}
 use Rattle.std.specs.Prelude.{Result, Ok, Err, OnOk}
 use Rattle.cfn_store.specs.Marking.{IsBehind, back_at}
 use Rattle.cfn_vac.proofs.Running.{grown_behind, grown_back}
@@ -19,4 +19,4 @@ on_both (Err e) f a b = tt
 pub returns-clause-gathers : goal.returns-clause-gathers
 returns-clause-gathers c =
     let t = c.args.target in
-    on_both c.gather_all-result.result (λ is enough. gathers c.args.plan.now.network c.args.store.now c.gather_all-result.new.store c.args.q t.function t.place t.value t.amount c.args.earlier.now c.args.plan.now.steps c.gather_all-result.new.plan.steps is enough) c.gather_all-result.ensures.gathered c.gather_all-result.ensures.enough
+    on_both c.gather_all-result.result (λ is enough. gathers c.args.plan.now.network c.args.store.now c.gather_all-result.new.store c.args.q t.function t.place t.value t.amount (reverse c.args.earlier.now) c.args.plan.now.steps c.gather_all-result.new.plan.steps is enough) c.gather_all-result.ensures.gathered c.gather_all-result.ensures.enough

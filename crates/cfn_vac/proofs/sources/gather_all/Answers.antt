@@ -9,7 +9,7 @@ use Rattle.cfn_vac.proofs.sources.gather_all.Goals as goal
 pub loop-number-init : goal.loop-number-init
 loop-number-init c =
     let t = c.args.target in
-    record { network = refl; gathering = gathering_start c.args.plan.now.network c.args.store.now t.function t.place t.value t.amount c.args.earlier.now c.args.plan.now.steps c.requires.network c.requires.room }
+    record { network = refl; gathering = gathering_start c.args.plan.now.network c.args.store.now c.args.q t.function t.place t.value t.amount c.args.earlier.now c.args.plan.now.steps c.requires.network c.requires.room }
 
 pub earliest-requires-clause-number : goal.earliest-requires-clause-number
 earliest-requires-clause-number c =
@@ -22,26 +22,26 @@ cut-requires-clause-room c =
     let P = c.args.plan.now.network in let s = c.args.store.now in let now = c.loop-number.store in let t = c.args.target in let earlier = c.args.earlier.now in
     let net = subst IsNetwork (c.network.ensures ∙ c.requires.network) c.limits.ensures in
     let g = c.loop-number.invariant.gathering in
-    let found = found_at P c.network-in-Some.result.now s now t.function t.place t.value t.amount c.args.q c.in-Some.number earlier c.args.plan.now.steps c.loop-number.plan.steps c.args.positions.now c.in-Some-earliest.source c.network-in-Some.ensures net c.requires.positions g c.in-Some.ensures (λ tuple fits cell. c.in-Some-earliest.ensures tuple fits cell) in
-    found_room P s now t.function t.place t.value t.amount earlier c.args.plan.now.steps c.loop-number.plan.steps c.in-Some-earliest.source g found
+    let found = found_at P c.network-in-Some.result.now s now t.function t.place t.value t.amount c.args.q c.in-Some.number earlier c.args.plan.now.steps c.loop-number.plan.steps c.args.positions.now c.in-Some-earliest.source c.network-in-Some.ensures net c.requires.positions c.requires.live g c.in-Some.ensures (λ tuple fits cell. c.in-Some-earliest.ensures tuple fits cell) in
+    found_room P s now c.args.q t.function t.place t.value t.amount earlier c.args.plan.now.steps c.loop-number.plan.steps c.in-Some-earliest.source g found
 
 pub loop-number-smaller : goal.loop-number-smaller
 loop-number-smaller c =
     let P = c.args.plan.now.network in let s = c.args.store.now in let now = c.loop-number.store in let t = c.args.target in let earlier = c.args.earlier.now in
     let net = subst IsNetwork (c.network.ensures ∙ c.requires.network) c.limits.ensures in
     let g = c.loop-number.invariant.gathering in
-    let found = found_at P c.network-in-Some.result.now s now t.function t.place t.value t.amount c.args.q c.in-Some.number earlier c.args.plan.now.steps c.loop-number.plan.steps c.args.positions.now c.in-Some-earliest.source c.network-in-Some.ensures net c.requires.positions g c.in-Some.ensures (λ tuple fits cell. c.in-Some-earliest.ensures tuple fits cell) in
-    found_nearer P now c.cut.new.store t.function t.place earlier c.in-Some-earliest.source found (c.in_ok-cut-in-Some-earliest.ensures.cut ∙ ap (λ Q. with_step now (CutValue (variable_at Q t.function c.in-Some-earliest.source.place) c.in-Some-earliest.source.value)) c.loop-number.invariant.network)
+    let found = found_at P c.network-in-Some.result.now s now t.function t.place t.value t.amount c.args.q c.in-Some.number earlier c.args.plan.now.steps c.loop-number.plan.steps c.args.positions.now c.in-Some-earliest.source c.network-in-Some.ensures net c.requires.positions c.requires.live g c.in-Some.ensures (λ tuple fits cell. c.in-Some-earliest.ensures tuple fits cell) in
+    found_nearer P now c.cut.new.store c.args.q t.function t.place t.value earlier c.in-Some-earliest.source found (c.in_ok-cut-in-Some-earliest.ensures.cut ∙ ap (λ Q. with_step now (CutValue (variable_at Q t.function c.in-Some-earliest.source.place) c.in-Some-earliest.source.value)) c.loop-number.invariant.network)
 
 pub loop-number-preserved : goal.loop-number-preserved
 loop-number-preserved c =
     let P = c.args.plan.now.network in let s = c.args.store.now in let now = c.loop-number.store in let t = c.args.target in let earlier = c.args.earlier.now in
     let net = subst IsNetwork (c.network.ensures ∙ c.requires.network) c.limits.ensures in
     let g = c.loop-number.invariant.gathering in
-    let found = found_at P c.network-in-Some.result.now s now t.function t.place t.value t.amount c.args.q c.in-Some.number earlier c.args.plan.now.steps c.loop-number.plan.steps c.args.positions.now c.in-Some-earliest.source c.network-in-Some.ensures net c.requires.positions g c.in-Some.ensures (λ tuple fits cell. c.in-Some-earliest.ensures tuple fits cell) in
+    let found = found_at P c.network-in-Some.result.now s now t.function t.place t.value t.amount c.args.q c.in-Some.number earlier c.args.plan.now.steps c.loop-number.plan.steps c.args.positions.now c.in-Some-earliest.source c.network-in-Some.ensures net c.requires.positions c.requires.live g c.in-Some.ensures (λ tuple fits cell. c.in-Some-earliest.ensures tuple fits cell) in
     record {
       network = c.in_ok-cut-in-Some-earliest.ensures.network ∙ c.loop-number.invariant.network;
-      gathering = gathering_more P s now c.cut.new.store t.function t.place t.value t.amount earlier c.args.plan.now.steps c.loop-number.plan.steps c.cut.new.plan.steps c.in-Some-earliest.source g found (c.in_ok-cut-in-Some-earliest.ensures.cut ∙ ap (λ Q. with_step now (CutValue (variable_at Q t.function c.in-Some-earliest.source.place) c.in-Some-earliest.source.value)) c.loop-number.invariant.network) c.in_ok-cut-in-Some-earliest.ensures.put;
+      gathering = gathering_more P s now c.cut.new.store c.args.q t.function t.place t.value t.amount earlier c.args.plan.now.steps c.loop-number.plan.steps c.cut.new.plan.steps c.in-Some-earliest.source g found (c.in_ok-cut-in-Some-earliest.ensures.cut ∙ ap (λ Q. with_step now (CutValue (variable_at Q t.function c.in-Some-earliest.source.place) c.in-Some-earliest.source.value)) c.loop-number.invariant.network) c.in_ok-cut-in-Some-earliest.ensures.put;
     }
 
 pub unreachable-requires : goal.unreachable-requires

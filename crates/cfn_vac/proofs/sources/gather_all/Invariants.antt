@@ -7,7 +7,7 @@ use Rattle.cfn_vac.proofs.sources.gather_all.Given as goal
 abbrev pub invariant-loop-number : goal.invariant-loop-number
 invariant-loop-number l = record {
   network : l.plan.network ≡ l.initial.plan.network;
-  gathering : IsGathering l.initial.plan.network l.initial.store l.store l.target.function l.target.place l.target.value l.target.amount l.earlier l.initial.plan.steps l.plan.steps;
+  gathering : IsGathering l.initial.plan.network l.initial.store l.store l.q l.target.function l.target.place l.target.value l.target.amount l.earlier l.initial.plan.steps l.plan.steps;
 }
 
 abbrev pub decreases-loop-number : goal.decreases-loop-number

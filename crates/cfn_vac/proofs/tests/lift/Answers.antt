@@ -1,4 +1,4 @@
-use Rattle.std.proofs.Common.{◌≡◌, sym, ap, ◌∙◌, subst, arith}
+use Rattle.std.proofs.Common.{sym, ap, ◌∙◌, subst, arith}
 use Rattle.cfn_model.specs.Network.{Network}
 use Rattle.cfn_store.specs.Standing.{history}
 use Rattle.cfn_derivation.specs.Derived.{AllAlive, value_count}

@@ -1,4 +1,4 @@
-use Rattle.std.proofs.Common.{sym, ◌∙◌, subst}
+use Rattle.std.proofs.Common.{reverse, sym, ◌∙◌, subst}
 use Rattle.cfn_consistency.specs.Virtual.{IsDeletion, Puts, without}
 use Rattle.cfn_model.specs.Network.{Network}
 use Rattle.cfn_store.specs.Standing.{Standing, history}
@@ -28,6 +28,6 @@ loop-deletion-preserved c =
       network = c.in_ok-put.ensures.network ∙ v.network;
       same = c.in_ok-put.ensures.same ∙ v.same;
       walking = walking_more P (history c.args.store.now) c.args.q c.args.deletions.now c.loop-deletion.left.now earlier c.args.plan.now.steps c.loop-deletion.plan.steps c.put.new.plan.steps d v.walking c.in-Some.ensures.cases.0
-          (subst (λ (N : Network). Puts N (history c.args.store.now) c.args.q d d.reason earlier c.loop-deletion.plan.steps c.put.new.plan.steps) v.network
-          (subst (λ (s : Standing). Puts c.loop-deletion.plan.network (history s) c.args.q d d.reason earlier c.loop-deletion.plan.steps c.put.new.plan.steps) v.same c.in_ok-put.ensures.puts));
+          (subst (λ (N : Network). Puts N (history c.args.store.now) c.args.q d d.reason (reverse earlier) c.loop-deletion.plan.steps c.put.new.plan.steps) v.network
+          (subst (λ (s : Standing). Puts c.loop-deletion.plan.network (history s) c.args.q d d.reason (reverse earlier) c.loop-deletion.plan.steps c.put.new.plan.steps) v.same c.in_ok-put.ensures.puts));
     }

@@ -7,10 +7,10 @@ use Rattle.cfn_vac.specs.Lifts.{RisesBy}
 use Rattle.cfn_vac.proofs.Lifts.{plan_rises}
 use Rattle.cfn_vac.proofs.lifter.Lifter.lift.Goals as goal
 
-pub walk-requires-clause-positions : goal.walk-requires-clause-positions
-walk-requires-clause-positions c =
+pub walk-walked-requires-clause-positions : goal.walk-walked-requires-clause-positions
+walk-walked-requires-clause-positions c =
     subst (λ (N : Network). ArePositions N c.args.deletions.now c.number.new.positions) (sym (c.in_ok-begin.ensures.network ∙ c.self.invariant.0)) c.number.ensures.positions
 
 pub make-requires-clause-rises : goal.make-requires-clause-rises
 make-requires-clause-rises c =
-    subst RisesBy (sym c.steps.ensures.steps) (plan_rises c.begin.new.self.network (history c.args.store.now) c.args.q c.args.deletions.now c.args.x c.walk.new.plan.steps (subst (λ l. ArePut c.begin.new.self.network (history c.args.store.now) c.args.q (reverse c.args.deletions.now) l c.walk.new.plan.steps) c.in_ok-begin.ensures.ok c.in_ok-walk.ensures.put))
+    subst RisesBy (sym c.steps.ensures.steps) (plan_rises c.begin.new.self.network (history c.args.store.now) c.args.q c.args.deletions.now c.args.x c.walk-walked.new.plan.steps (subst (λ l. ArePut c.begin.new.self.network (history c.args.store.now) c.args.q (reverse c.args.deletions.now) l c.walk-walked.new.plan.steps) c.in_ok-begin.ensures.ok c.in_ok-walked.ensures.put))
