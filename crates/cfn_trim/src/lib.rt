@@ -1,0 +1,24 @@
+//! Trims the blocks of closed leaves: of the steps that propagation made at a dead leaf, those that its closing needs.
+//!
+//! A closed leaf's block may be any that runs and closes, so the choice of steps is free. It is made backwards, from the newest
+//! step on: a cut is needed where the variable that was emptied lost its values, a project where a cut or a lift asks for its
+//! value's unary cost, and so on. Then the block is made again by the chosen steps alone, each tested by the store's own tests;
+//! where one cannot be made, or the end does not close, the whole block stands.
+//!
+//! - `trimmer.rt`: what a caller has;
+//! - `needs.rt`: which steps are needed, from the newest back; `flags.rt`, its sets of numbers;
+//! - `run.rt`: makes the chosen steps again; `testing.rt`, whether a step can be made;
+//! - `end.rt`: what closes a leaf.
+#![tactic(auto)]
+
+mod end;
+mod flags;
+mod needs;
+mod run;
+mod testing;
+mod trimmer;
+
+pub use trimmer::Trimmer;
+
+#[cfg(test)]
+mod tests;
