@@ -17,7 +17,7 @@ fn optimum_of_one_variable(rt: HostRuntime) -> Result<(), Fail> {
     let (status, desk) = run_of(&rt, &["wcspsolve", "solve", "in", "out"])?;
     assert_eq!(rt; status, Status::Done);
     let report =
-        b"variables 1\nfunctions 1\nworkers 1\nrow 0 none\nrow 1 1\nlower 1\nupper 1\nvalues 1\nnodes 2\nresult optimum\n";
+        b"variables 1\nfunctions 1\nworkers 1\nrow 0 none\nrow 1 1\nlower 1\nupper 1\nvalues 1\nnodes 3\nresult optimum\n";
     assert_eq!(rt; desk.said_bytes(), report.as_slice());
     let certificate =
         b"wcspcert 2\nnetwork 1 1 10\nlower 1\nbest 1\nvalues 1\ntree\np 0 0 0 3\np 0 0 1 1\nu 0 1\nsplit 0 1\nclosed\nclosed\nend\n";

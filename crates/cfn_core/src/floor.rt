@@ -12,36 +12,12 @@ use cfn_proof::{Event, Path, Step};
 pub(crate) fn floor(network: &Network, path: &Path) -> u128
     ensures { result ≡ floor network.now path.now }
 {
-    let mut sum = constants(network);
+    let mut sum = network.constants();
     let events = path.events();
     for event in events {
         sum += lifted(*event) as u128;
     }
     sum
-}
-
-/// The constants of all functions of arity 0.
-fn constants(network: &Network) -> u128
-    ensures value { result ≡ floor network.now [] }
-    ensures small { result < 2 ^ 96 }
-{
-    let mut sum = 0;
-    for f in 0..network.functions() {
-        sum += constant(network, f) as u128;
-    }
-    sum
-}
-
-/// The constant that a function is where it has no variables, and else 0.
-fn constant(network: &Network, f: u32) -> u64
-    requires { f < length network.now.functions }
-    ensures { result ≡ constant (function_at network.now f) }
-{
-    if network.scope(f).is_empty() {
-        network.entry(f, 0)
-    } else {
-        0
-    }
 }
 
 /// What an event adds to the floor.

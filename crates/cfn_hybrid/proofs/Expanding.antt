@@ -1,20 +1,15 @@
 -- Propagation at the leaf that is expanded.
 use Rattle.std.proofs.Math.Nat.{le_refl}
-use Rattle.std.proofs.Common.{◌≡◌, ℕ, ◌+◌, ◌≤◌, inl, inr, ◌++◌, length, refl, sym, ap, ◌∙◌, subst, arith}
-use Rattle.std.proofs.lemmas.List.{length-append}
-use Rattle.std.specs.Prelude.{Some, IfSome, Result, Ok, Err, OnErr}
+use Rattle.std.proofs.Common.{◌≡◌, ℕ, refl, sym, ◌∙◌, subst, arith}
+use Rattle.std.specs.Prelude.{Some, Result, Ok, Err, OnErr}
 use Rattle.cfn_model.specs.Network.{Network}
-use Rattle.cfn_model.specs.Steps.{Run, after}
-use Rattle.cfn_gain.specs.declared.limits.Limits.{Limits}
-use Rattle.cfn_gain.specs.Calls.{Adds}
 use Rattle.cfn_proof.specs.declared.tree.NodeId.{NodeId}
-use Rattle.cfn_store.specs.Standing.{Standing, history}
-use Rattle.cfn_edac.specs.Settling.{IsBehindSettled}
+use Rattle.cfn_store.specs.Standing.{Standing}
 use Rattle.cfn_hybrid.specs.declared.search.State.{State}
 use Rattle.cfn_hybrid.specs.Enforcing.{GoesOn}
 use Rattle.cfn_hybrid.specs.Sound.{price_of}
 use Rattle.cfn_hybrid.specs.Searching.{IsSearching, IsExpanding, IsStopped}
-use Rattle.cfn_hybrid.proofs.States.{goes_on, begins, behind_goes, stop_here, current_at, since_moved}
+use Rattle.cfn_hybrid.proofs.States.{goes_on, begins, behind_goes, stop_here}
 
 module _ (P : Network) (leaf : NodeId) (old : State) (new : Standing) (enforcer : Network) (k : ℕ) (searching : IsSearching P old.nodes old) (current : old.current ≡ Some leaf) (on : GoesOn old.store new k) (is_k : k ≡ price_of old.best) (same : enforcer ≡ old.enforcer) where
   pub goes : GoesOn old.store new (price_of old.best)

@@ -1,27 +1,27 @@
 -- Going back to the newest leaf that waits.
-use Rattle.std.proofs.Common.{◌≡◌, ℕ, ◌+◌, ◌<◌, ◌≤◌, inl, List, [], ◌∷◌, ◌++◌, length, sym, ap, ◌∙◌, subst, append_assoc, arith}
+use Rattle.std.proofs.Common.{◌≡◌, ℕ, ◌+◌, ◌<◌, ◌≤◌, List, [], ◌∷◌, ◌++◌, length, Option, Some, Vec, Global, refl, sym, ap, ◌∙◌, subst, append_assoc, arith}
 use Rattle.std.proofs.lemmas.List.{append-nil, length-append}
-use Rattle.cfn_model.specs.declared.step.Step.{Step}
+use Rattle.std.specs.Prelude.{IfSome}
 use Rattle.cfn_model.specs.declared.step.Event.{Event}
 use Rattle.cfn_model.specs.declared.step.Event.TheVariants.{Took, Refused}
 use Rattle.cfn_model.specs.Network.{Network}
 use Rattle.cfn_model.specs.Sums.{floor}
-use Rattle.cfn_model.specs.Steps.{Run, after}
-use Rattle.cfn_model.specs.Tree.{CanClose}
-use Rattle.cfn_proof.specs.Nodes.{node_at, IsTree, Before, close_at}
+use Rattle.cfn_model.specs.Steps.{after}
 use Rattle.cfn_store.specs.Standing.{Standing, history, with_side}
 use Rattle.cfn_store.specs.Marking.{IsBehind, back_at}
 use Rattle.cfn_hybrid.specs.declared.search.Waiting.{Waiting}
 use Rattle.cfn_hybrid.specs.declared.search.State.{State}
-use Rattle.cfn_hybrid.specs.Sound.{Sound, AreOpen, price_of}
+use Rattle.cfn_edac.specs.Settling.{IsBehindSettled}
+use Rattle.cfn_hybrid.specs.Enforcing.{since_of}
+use Rattle.cfn_hybrid.specs.Sound.{Sound, AreOpen, StandsBehind}
 use Rattle.cfn_hybrid.specs.Waiting.{IsWaiting, AreWaiting, Along}
 use Rattle.cfn_hybrid.specs.Others.{AreListed, idle}
 use Rattle.cfn_hybrid.specs.Rows.{AreAbove}
 use Rattle.cfn_hybrid.proofs.Bounds.{above_pop}
-use Rattle.cfn_hybrid.proofs.Others.{idle_push, listed_kept}
-use Rattle.cfn_hybrid.specs.Searching.{IsOnPath}
-use Rattle.cfn_hybrid.proofs.Growing.{closed, open_closed, behind_closed, last_there, last_free}
-use Rattle.cfn_hybrid.proofs.Waits.{along_later, along_pop, waiting_pop, waiting_kept}
+use Rattle.cfn_hybrid.proofs.Others.{idle_push}
+use Rattle.cfn_hybrid.specs.Searching.{IsOnPath, IsSearching}
+use Rattle.cfn_hybrid.proofs.States.{since_split, settled_moved}
+use Rattle.cfn_hybrid.proofs.Waits.{along_later, along_pop, waiting_pop}
 
 -- the newest leaf that waits was taken from the list
 pub record Popped (P : Network) (spent : ℕ) (s : State) (ws : List Waiting) (w : Waiting) : Type 0 where
@@ -66,9 +66,6 @@ module _ (P : Network) (spent : ℕ) (s : State) (ws : List Waiting) (w : Waitin
   pub same_network : (back : Standing) → back ≡ back_at w.mark s.store → back.network ≡ P
   same_network back is = ap (λ (b : Standing). b.network) is ∙ network
 
-  pub along_back : (back : Standing) → back ≡ back_at w.mark s.store → Along ws (history back)
-  along_back back is = subst (λ b. Along ws (history b)) (sym is) was.along
-
   pub stands : (back now : Standing) → back ≡ back_at w.mark s.store → now ≡ with_side back (Refused w.decision) → (now.network ≡ P) × (now.block ≡ []) × (now.base ≡ Refused w.decision ∷ history w.mark)
   stands back now is turn = (ap (λ (b : Standing). b.network) turn ∙ same_network back is, ap (λ (b : Standing). b.block) turn, ap (λ (b : Standing). b.base) turn ∙ ap (λ b. Refused w.decision ∷ history b) is)
 
@@ -84,21 +81,33 @@ module _ (P : Network) (spent : ℕ) (s : State) (ws : List Waiting) (w : Waitin
       zero_more : (n : ℕ) → n ≡ 0 + n
       zero_more n = omega arith
 
-  pub closes : price_of s.best ≤ w.floor → (path : List Event) → Before s.tree w.leaf.number path → Run P path (node_at s.tree w.leaf.number).block (price_of s.best) × CanClose P (after (node_at s.tree w.leaf.number).block path) (price_of s.best)
-  closes reached path before =
-      let there = last_there s.tree (idle s.others.leaves ws) w.leaf was.leaves.names in
-      let free = last_free s.tree (idle s.others.leaves ws) w.leaf was.leaves.names in
-      let none = was.sound.empty w.leaf.number there free in
-      let f : floor P (Refused w.decision ∷ history w.mark) ≡ w.floor = (let g = was.is.floor in omega (arith, g)) in
-      let e : floor P path ≡ w.floor = ap (floor P) (was.is.behind.only path before) ∙ f in
-      (subst (λ b. Run P path b (price_of s.best)) (sym none) tt, subst (λ b. CanClose P (after b path) (price_of s.best)) (sym none) (inl (omega (arith, e, reached))))
-
-  pub swept : (block : List Step) → block ≡ (node_at s.tree w.leaf.number).block → IsTree s.tree → price_of s.best ≤ w.floor → Sound P (close_at s.tree w.leaf.number block) s.best spent × AreOpen (close_at s.tree w.leaf.number block) (idle s.others.leaves ws) × AreWaiting P (close_at s.tree w.leaf.number block) ws × AreListed P (close_at s.tree w.leaf.number block) s.others.leaves
-  swept block own tree reached =
-      let there = last_there s.tree (idle s.others.leaves ws) w.leaf was.leaves.names in
-      let free = last_free s.tree (idle s.others.leaves ws) w.leaf was.leaves.names in (
-        closed s.tree w.leaf.number block there free P s.best spent spent tree was.sound (subst (λ b. (path : List Event) → Before s.tree w.leaf.number path → Run P path b (price_of s.best) × CanClose P (after b path) (price_of s.best)) (sym own) (closes reached)) (omega arith) (omega arith),
-        open_closed s.tree (idle s.others.leaves ws) w.leaf block was.leaves,
-        waiting_kept P s.tree (close_at s.tree w.leaf.number block) ws (λ j path is. behind_closed s.tree w.leaf.number block there free j path tree.linked is) was.waiting,
-        listed_kept P s.tree (close_at s.tree w.leaf.number block) s.others.leaves (λ j path is. behind_closed s.tree w.leaf.number block there free j path tree.linked is) was.others,
-      )
+-- the state that stands at the newest leaf that waited, on its second side
+pub gone_back : (P : Network) (spent : ℕ) (s : State) (left_over : Vec Waiting Global) (w : Waiting) (back now : Standing) (since : Option Event) (left : ℕ) → IsOnPath P [] spent s → s.waiting.items ≡ left_over.items ++ w ∷ []
+    → back ≡ back_at w.mark s.store → now ≡ with_side back (Refused w.decision) → since ≡ since_of w.settled (Refused w.decision)
+    → IsSearching P spent (record s { store = now; current = Some w.leaf; floor = w.floor; since = since; waiting = left_over; left = left })
+gone_back P spent s left_over w back now since left path items undone turned since_is =
+    let was = popped P spent s left_over.items w path items in
+    let at = stands P spent s left_over.items w was path.network back now undone turned in
+    record {
+      path = record {
+        sound = was.sound;
+        leaves = was.leaves;
+        others = was.others;
+        network = at.0;
+        enforcer = path.enforcer;
+        branching = path.branching;
+        waiting = was.waiting;
+        along = along_now P spent s left_over.items w was path.network now at.1 at.2;
+        values = path.values;
+        rows = path.rows;
+        room = path.room;
+        above = was.above;
+      };
+      at = record {
+        block = at.1;
+        behind = subst (λ h. StandsBehind s.tree w.leaf.number h) (sym at.2) was.is.behind;
+        floor = floor_now P spent s left_over.items w was path.network now at.2;
+        above = was.low;
+        since = subst (λ o. IfSome o (IsBehindSettled now)) (sym since_is) (since_split w.settled (Refused w.decision) now (history w.mark) (ap (λ b. after b now.base) at.1 ∙ at.2) (λ yes. settled_moved P now.network (history w.mark) (history w.mark) (sym at.0) refl (was.is.settled yes)));
+      };
+    }

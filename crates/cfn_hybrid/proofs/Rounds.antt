@@ -1,5 +1,5 @@
 -- Steps behind steps.
-use Rattle.std.proofs.Common.{◌≡◌, ℕ, [], ◌++◌, refl, sym, ap, ◌∙◌, subst}
+use Rattle.std.proofs.Common.{◌≡◌, ℕ, [], ◌++◌, sym, ap, ◌∙◌, subst}
 use Rattle.std.proofs.lemmas.List.{append-nil, append_assoc}
 use Rattle.cfn_model.specs.Steps.{Run, after}
 use Rattle.cfn_gain.specs.declared.limits.Limits.{Limits}

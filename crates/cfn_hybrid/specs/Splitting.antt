@@ -1,5 +1,5 @@
 -- On which value a split is made, and behind which place its children stand.
-use Rattle.std.specs.Prelude.{◌≡◌, ℕ, List, ◌∷◌, ◌++◌, slice_index, Option, Some, None, IsTrue, IsFalse}
+use Rattle.std.specs.Prelude.{◌≡◌, ℕ, List, [], ◌∷◌, ◌++◌, slice_index, Option, Some, None, IsTrue, IsFalse}
 use Rattle.cfn_model.specs.declared.step.Event.{Event}
 use Rattle.cfn_model.specs.declared.step.Event.TheVariants.{Refused}
 use Rattle.cfn_proof.specs.declared.tree.NodeId.{NodeId}
@@ -20,12 +20,11 @@ abbrev pub IsFirstValue : Standing → Option Solution → ℕ → ℕ → Type 
 IsFirstValue s None x a = IsCheapest s.network (history s) x a
 IsFirstValue s (Some best) x a = IsKeptOrCheapest s best.values x a
 
--- A leaf is that of one that waited, and where the network was fully consistent at its split, the other side leads on from
--- there.
+-- A leaf is that of the newest one that waited, and where the network was fully consistent at its split, the other side leads
+-- on from there.
 pub record IsTakenUp (waiting : List Waiting) (leaf : NodeId) (since : Option Event) : Type 0 where
   pub taken : Waiting
   pub older : List Waiting
-  pub newer : List Waiting
-  pub was : waiting ≡ older ++ taken ∷ newer
+  pub was : waiting ≡ older ++ taken ∷ []
   pub leaf_is : taken.leaf ≡ leaf
   pub since_is : since ≡ since_of taken.settled (Refused taken.decision)

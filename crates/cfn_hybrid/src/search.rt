@@ -5,11 +5,11 @@
 //! live values to weighted degree. The first child is expanded next; the second waits with a mark of where the store stood
 //! at the split.
 //!
-//! The search goes in dives, each of them depth first: after a closing the store goes back to the newest mark whose leaf has
-//! a floor below the price, and refuses the decision there. A dive ends after so many of these backtracks, or where no leaf
-//! waits. Then the leaves that wait are put aside to the others, and the next dive begins at the one of least floor of all of
-//! them: the store goes there along its path. So the least floor, which is the lower bound, rises while assignments are
-//! found early.
+//! The search goes in dives, each of them depth first: after a closing the store goes back to the newest mark, and refuses the
+//! decision there. A leaf whose floor reaches the price is closed at once; to go to another one is a backtrack. A dive ends
+//! after so many of these, or where no leaf waits. Then the leaves that wait are put aside to the others, and the next dive
+//! begins at the one of least floor of all of them: the store goes there along its path. So the least floor, which is the
+//! lower bound, rises while assignments are found early.
 //!
 //! Invariant: the open leaves of the tree are the current one, those that wait and the others, each once, and the store's
 //! path goes through each mark, in the order of the list.
@@ -39,7 +39,7 @@ ghost use Rattle.cfn_model.specs.declared.step.Decision.TheVariants.{Is};
 ghost use Rattle.cfn_hybrid.specs.Sound.{Sound, StandsBehind, price_of};
 ghost use Rattle.cfn_hybrid.specs.Judging.{AreJudged};
 ghost use Rattle.cfn_hybrid.specs.Rows.{HasRows, AllListed, known};
-ghost use Rattle.cfn_hybrid.specs.Diving.{Begins, EndsWith, IsLeastFloor, limit_after as next_limit};
+ghost use Rattle.cfn_hybrid.specs.Diving.{Begins, EndsWith, IsLeastFloor, backtracks_left, limit_after as next_limit};
 
 use crate::limit::{MOST_STEPS, step_limit};
 use crate::propagation::{Asked, since};
@@ -209,7 +209,8 @@ impl<'n> State<'n> {
         Ok(())
     }
 
-    /// Propagates at a leaf, and then closes it where it is dead or one assignment is left, and else splits it.
+    /// Closes a leaf whose floor reaches the price. At another one it propagates, and then closes it where it is dead or one
+    /// assignment is left, and else splits it.
     fn expand_leaf(
         &mut self,
         alloc: Global,
@@ -222,10 +223,14 @@ impl<'n> State<'n> {
         ensures err { OnErr result (IsStopped network.now self.old self.new) }
         ensures nodes { self.new.nodes ≡ self.old.nodes }
     {
+        let threshold = self.best.price();
+        if self.floor >= u128::from(threshold) {
+            return self.close(alloc, leaf);
+        }
         network.limits();
         let closing = network.variables() as usize + 2 * network.functions() as usize + 1;
         let asked = Asked {
-            threshold: self.best.price(),
+            threshold,
             steps: self.steps.min(MOST_STEPS),
             since: self.since,
         };
@@ -371,34 +376,31 @@ impl<'n> State<'n> {
         Ok(())
     }
 
-    /// Goes back to the newest leaf that waits and has a floor below the price, and stands there, unless the dive has made
-    /// all its backtracks. Leaves that are passed are closed behind their empty blocks; they are not counted. It takes no
-    /// memory.
+    /// Goes back to the newest leaf that waits, and stands there, unless the dive has made all its backtracks. Where the
+    /// leaf's floor is below the price, this is one of them. It takes no memory.
     fn go_back(&mut self)
         requires path { IsOnPath self.old.store.network [] (self.old.nodes + 1) self.old }
         ensures sound { IsSearching self.old.store.network (self.old.nodes + 1) self.new }
         ensures nodes { self.new.nodes ≡ self.old.nodes }
         ensures ends { self.old.left ≡ 0 → self.new.current ≡ None }
-        ensures counts { IfSome self.new.current (λ leaf. self.new.left + 1 ≡ self.old.left) }
+        ensures counts { IfSome self.new.current (λ leaf. self.new.left ≡ backtracks_left self.new.floor (price_of self.old.best) self.old.left) }
         ensures since { IfSome self.new.current (λ leaf. IsTakenUp self.old.waiting.items leaf self.new.since) }
+        ensures none { self.new.current ≡ None → (self.old.left ≡ 0) ⊎ (self.old.waiting.items ≡ []) }
     {
-        let price = self.best.price();
         self.current = None;
         if self.left == 0 {
             return;
         }
-        while let Some(waiting) = self.waiting.pop() {
-            self.store.undo(&waiting.mark);
-            if waiting.floor < u128::from(price) {
-                self.store.refuse(waiting.decision);
-                self.current = Some(waiting.leaf);
-                self.floor = waiting.floor;
-                self.since = since(waiting.settled, Event::Refused(waiting.decision));
-                self.left -= 1;
-                return;
-            }
-            self.tree.linked();
-            self.tree.shut(waiting.leaf);
+        let Some(waiting) = self.waiting.pop() else {
+            return;
+        };
+        self.store.undo(&waiting.mark);
+        self.store.refuse(waiting.decision);
+        self.current = Some(waiting.leaf);
+        self.floor = waiting.floor;
+        self.since = since(waiting.settled, Event::Refused(waiting.decision));
+        if waiting.floor < u128::from(self.best.price()) {
+            self.left -= 1;
         }
     }
 

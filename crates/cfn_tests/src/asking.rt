@@ -103,14 +103,16 @@ fn closed_root_needs_no_budget(rt: HostRuntime) -> Result<(), Fail> {
     Ok(())
 }
 
-/// On one variable with two values the search takes two nodes, the root and a leaf, so each smaller budget is spent whole.
+/// On one variable with two values the search takes three nodes, the root and two leaves, so each smaller budget is spent
+/// whole; with two the second leaf is closed when the search stops, since its floor is the price.
 #[test]
 fn budget_is_spent_to_its_end(rt: HostRuntime) -> Result<(), Fail> {
-    let rows: [(&str, u8, &[u8]); 4] = [
+    let rows: [(&str, u8, &[u8]); 5] = [
         ("0", 2, b"nodes 0"),
         ("1", 2, b"nodes 1"),
         ("2", 0, b"nodes 2"),
-        ("3", 0, b"nodes 2"),
+        ("3", 0, b"nodes 3"),
+        ("4", 0, b"nodes 3"),
     ];
     for (budget, status, nodes) in rows {
         let words = ["wcspsolve", "solve", "in", "out", "--budget", budget];
@@ -118,6 +120,18 @@ fn budget_is_spent_to_its_end(rt: HostRuntime) -> Result<(), Fail> {
         assert_eq!(rt; run.status, status, "with {budget}");
         assert!(rt; run.says(nodes), "with {budget}");
     }
+    Ok(())
+}
+
+/// Of three variables of which each two cost 1 where they agree the root is split, then its first child twice, and each of
+/// the four leaves is closed.
+#[test]
+fn budget_of_all_nodes_ends_with_the_optimum(rt: HostRuntime) -> Result<(), Fail> {
+    let words = ["wcspsolve", "solve", "in", "out", "--budget", "7"];
+    let run = Run::of(&rt, &words, TRI, &[])?;
+    assert_eq!(rt; run.status, 0);
+    assert!(rt; run.says(b"lower 1\nupper 1\n"));
+    assert!(rt; run.says(b"\nnodes 7\nresult optimum\n"));
     Ok(())
 }
 
@@ -164,7 +178,7 @@ fn options_stand_anywhere(rt: HostRuntime) -> Result<(), Fail> {
     for words in rows {
         let run = Run::of(&rt, words, TINY, &[])?;
         assert_eq!(rt; run.status, 0);
-        assert!(rt; run.says(b"workers 64\nlower 1\nupper 1\nvalues 1\nnodes 2\nresult optimum"));
+        assert!(rt; run.says(b"workers 64\nlower 1\nupper 1\nvalues 1\nnodes 3\nresult optimum"));
         assert!(rt; run.certifies(b"network 1 1 10\nlower 1\nbest 1\nvalues 1\n"));
     }
     Ok(())

@@ -1,8 +1,7 @@
-use Rattle.std.proofs.Common.{◌≡◌, ℕ, ◌+◌, ◌≤◌, length, refl, sym, ap, ◌∙◌, subst, arith}
+use Rattle.std.proofs.Common.{◌≡◌, sym, ap, ◌∙◌, subst, arith}
 use Rattle.cfn_model.specs.Steps.{after}
-use Rattle.cfn_store.specs.Standing.{Standing, history}
+use Rattle.cfn_store.specs.Standing.{history}
 use Rattle.cfn_derivation.specs.Derived.{AllAlive, value_count}
-use Rattle.cfn_vac.specs.Roots.{IsReady}
 use Rattle.cfn_hybrid.proofs.Rounds.{goes_still, goes_by, goes_along}
 use Rattle.cfn_hybrid.proofs.root.round.Goals as goal
 
