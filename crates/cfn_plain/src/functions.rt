@@ -4,7 +4,6 @@
 ghost use Rattle.std.specs.Prelude.{◌≡◌, ◌<◌, ◌+◌, ◌≤◌, length};
 ghost use Rattle.cfn_model.specs.declared.limits.TheConstants.{GREATEST};
 ghost use Rattle.cfn_model.specs.Network.{Fits, scope_at, variable_at, dims_at, entry_at, function_at, cell};
-ghost use Rattle.cfn_model.specs.Sums.{constant};
 
 use cfn_net::Network;
 
@@ -20,10 +19,10 @@ pub(crate) fn scope(network: &Network, f: u32) -> &[u32]
 }
 
 /// The variable of a function at a place, or 0 where there is none.
-pub(crate) fn variable(network: &Network, f: u32, place: u32) -> u32
+pub(crate) fn variable(network: &Network, f: u32, place: usize) -> u32
     ensures { result ≡ variable_at network.now f place }
 {
-    match scope(network, f).get(place as usize) {
+    match scope(network, f).get(place) {
         Some(x) => *x,
         None => 0,
     }
@@ -50,18 +49,6 @@ pub(crate) fn entry(network: &Network, f: u32, tuple: &[u32]) -> u64
     network.limits();
     if f < network.functions() {
         network.entry(f, network.cell(f, tuple))
-    } else {
-        0
-    }
-}
-
-/// The constant that a function is where it has no variables, and else 0.
-pub(crate) fn constant(network: &Network, f: u32) -> u64
-    requires { f < length network.now.functions }
-    ensures { result ≡ constant (function_at network.now f) }
-{
-    if network.scope(f).is_empty() {
-        network.entry(f, 0)
     } else {
         0
     }

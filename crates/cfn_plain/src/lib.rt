@@ -13,7 +13,8 @@
 //! - `trees`: whether a tree is valid or strict, and its bound; `closing` has when a leaf may be closed.
 //! - `certificates`: whether a certificate is good.
 //! - `openness`: which variables are open, and which functions take part in making a network consistent; `supports`:
-//!   which values have supports, by a search through all tuples.
+//!   which values have supports, by a search through all tuples; `groups`: whether the steps of an enforcing call fall into
+//!   groups.
 //! - `functions`: what a network says of a function that may not be there.
 #![tactic(auto)]
 
@@ -22,6 +23,7 @@ mod closing;
 mod costs;
 mod decisions;
 mod functions;
+mod groups;
 mod live;
 mod openness;
 mod steps;
@@ -34,6 +36,7 @@ pub use certificates::good;
 pub use closing::can_close;
 pub use costs::{cost, least, total};
 pub use decisions::keeps;
+pub use groups::{are_groups, are_open_groups};
 pub use live::{is_live, is_live_tuple};
 pub use openness::{has_open_pair, is_open, live_count, open_count, takes_part};
 pub use steps::{allowed, runs};

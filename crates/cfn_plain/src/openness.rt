@@ -68,7 +68,7 @@ pub fn takes_part(network: &Network, history: &[Event], f: u32) -> bool
 }
 
 /// Whether `f` has two open variables, and they stand at the places `i` and `j`.
-pub fn has_open_pair(network: &Network, history: &[Event], f: u32, i: u32, j: u32) -> bool
+pub fn has_open_pair(network: &Network, history: &[Event], f: u32, i: usize, j: usize) -> bool
     requires { f < length network.now.functions }
     ensures { IsTrue result ↔ HasOpenPair network.now history.now f i j }
 {
@@ -79,12 +79,12 @@ pub fn has_open_pair(network: &Network, history: &[Event], f: u32, i: u32, j: u3
 }
 
 /// Whether `i` is a place of `f` with an open variable.
-fn is_open_at(network: &Network, history: &[Event], f: u32, i: u32) -> bool
+fn is_open_at(network: &Network, history: &[Event], f: u32, i: usize) -> bool
     requires { f < length network.now.functions }
     ensures { IsTrue result ↔ IsOpenAt network.now history.now f i }
 {
     network.limits();
-    match network.scope(f).get(i as usize) {
+    match network.scope(f).get(i) {
         Some(x) => is_open(network, history, *x),
         None => false,
     }

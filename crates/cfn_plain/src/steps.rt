@@ -1,6 +1,6 @@
 //! Which steps are allowed after a history, and whether a list of steps runs.
 
-ghost use Rattle.std.specs.Prelude.{◌≡◌, ◌↔◌, ◌<◌, length, IsTrue, IfOk};
+ghost use Rattle.std.specs.Prelude.{◌≡◌, ◌↔◌, ◌<◌, ◌∷◌, length, IsTrue, IfOk};
 ghost use Rattle.cfn_model.specs.Steps.{IsValue, IsDecision, IsPlace, InRange, CanExtend, CanLift, Allowed, Run, after};
 
 use crate::decisions::{value_of, variable_of};
@@ -37,7 +37,7 @@ pub fn allowed(
             value,
             amount,
         } => {
-            let x = variable(network, function, place);
+            let x = variable(network, function, place as usize);
             Ok(amount > 0 && can_extend(network, history, x, value, amount))
         }
         Step::Lift { variable, amount } => {
@@ -102,6 +102,19 @@ pub(crate) fn after(
     for step in block.cursor() {
         events.insert(0, Event::Did(step))?;
     }
+    Ok(events)
+}
+
+/// The history with one more event, which is the newest.
+pub(crate) fn extended(
+    alloc: Global,
+    event: Event,
+    history: &[Event],
+) -> Result<Vec<Event>, AllocError>
+    ensures { IfOk result (λ events. events.items ≡ event ∷ history.now) }
+{
+    let mut events = Vec::from_slice(alloc, history)?;
+    events.insert(0, event)?;
     Ok(events)
 }
 

@@ -5,7 +5,7 @@ ghost use Rattle.cfn_model.specs.declared.limits.TheConstants.{GREATEST};
 ghost use Rattle.cfn_model.specs.Network.{Fits, dims_at, variable_at};
 ghost use Rattle.cfn_model.specs.Sums.{when, lifted, floor, unary_by, unary, residual_by, residual};
 
-use crate::functions::{constant, entry, scope, variable};
+use crate::functions::{entry, scope, variable};
 use cfn_model::{Event, Step};
 use cfn_net::Network;
 
@@ -18,7 +18,7 @@ pub fn floor(network: &Network, history: &[Event]) -> u128
     for event in history {
         sum += lifted(*event) as u128;
     }
-    sum + constants(network)
+    sum + network.constants()
 }
 
 /// The unary cost of a value of `x` after a history, the newest event first: what was projected to it, less what
@@ -44,18 +44,6 @@ pub fn residual(network: &Network, history: &[Event], f: u32, tuple: &[u32]) -> 
         sum += residual_by(*event, f, tuple);
     }
     sum + original(network, f, tuple)
-}
-
-/// The constants of all functions of arity 0.
-fn constants(network: &Network) -> u128
-    ensures value { result ≡ floor network.now [] }
-    ensures small { result < 2 ^ 96 }
-{
-    let mut sum = 0;
-    for f in 0..network.functions() {
-        sum += constant(network, f) as u128;
-    }
-    sum
 }
 
 /// What an event adds to the floor.
@@ -102,7 +90,7 @@ fn unary_by(network: &Network, event: Event, x: u32, b: u32) -> i128
 fn is_at(network: &Network, f: u32, place: u32, value: u32, x: u32, b: u32) -> bool
     ensures { result ≡ ((variable_at network.now f place == x) && (value == b)) }
 {
-    variable(network, f, place) == x && value == b
+    variable(network, f, place as usize) == x && value == b
 }
 
 /// What an event adds to the residual cost of a tuple of `f`.
@@ -121,7 +109,7 @@ fn residual_by(event: Event, f: u32, tuple: &[u32]) -> i128
             value,
             amount,
         } => when(
-            function == f && at(tuple, place) == value,
+            function == f && at(tuple, place as usize) == value,
             -(amount as i128),
         ),
         Step::Extend {
@@ -129,7 +117,10 @@ fn residual_by(event: Event, f: u32, tuple: &[u32]) -> i128
             place,
             value,
             amount,
-        } => when(function == f && at(tuple, place) == value, amount as i128),
+        } => when(
+            function == f && at(tuple, place as usize) == value,
+            amount as i128,
+        ),
         _ => 0,
     }
 }
@@ -156,10 +147,10 @@ fn when(test: bool, amount: i128) -> i128
 }
 
 /// The value at a place of a tuple, or 0 where there is none.
-pub(crate) fn at(tuple: &[u32], place: u32) -> u32
+pub(crate) fn at(tuple: &[u32], place: usize) -> u32
     ensures { result ≡ slice_index tuple.now place }
 {
-    match tuple.get(place as usize) {
+    match tuple.get(place) {
         Some(value) => *value,
         None => 0,
     }

@@ -1,33 +1,40 @@
-//! Supports of values, looked for among all tuples (Larrosa and Schiex 2004; Cooper et al. 2010), and costs of tuples that do
-//! not fit 64 bits.
+//! Supports of values, looked for among all tuples (Larrosa and Schiex 2004; Cooper et al. 2010), tuples of costs that do not
+//! fit 64 bits, and tuples by their numbers.
 
-ghost use Rattle.std.specs.Prelude.{◌≡◌, ◌↔◌, ℕ, ◌<◌, ◌≤◌, false, List, length, take, IsTrue, IfOk};
+ghost use Rattle.std.specs.Prelude.{◌≡◌, ◌↔◌, ℕ, ◌≤◌, false, List, take, IsTrue, IfOk};
 ghost use Rattle.cfn_model.specs.Network.{Fits, dims_at, arity};
 ghost use Rattle.cfn_consistency.specs.Consistency.{HasSupport, HasFullSupport};
+ghost use Rattle.cfn_consistency.specs.Groups.{IsLiveCell};
 ghost use Rattle.cfn_plain.specs.Supports.{IsSought, HasTuple, Meets};
 
-use crate::functions::{scope, variable};
+use crate::functions::{number, scope, variable};
 use crate::live::is_live_tuple;
 use crate::sums::{at, residual, unary};
 use cfn_model::Event;
 use cfn_net::Network;
 use std::alloc::{AllocError, Global};
 
-/// What the cost of a tuple is to be: nothing, alone or with the unary cost of its value at another place; or below 0 or at
-/// least 2^64.
+/// What a tuple is to be: a support of a value at a place; a full one, with regard to the variable at another place; of a cost
+/// below 0 or at least 2^64; or the one with a number.
 #[derive(Clone, Copy)]
 pub enum Ask {
-    Free,
-    FreeWith(u32),
+    Support {
+        place: usize,
+        value: u32,
+    },
+    FullSupport {
+        place: usize,
+        other: usize,
+        value: u32,
+    },
     Outside,
+    Number(u32),
 }
 
-/// What is looked for: a live tuple of a function with a value at a place, and of such a cost.
+/// What is looked for: a live tuple of a function that is what is asked.
 #[derive(Clone, Copy)]
 pub struct Sought {
     pub function: u32,
-    pub place: u32,
-    pub value: u32,
     pub ask: Ask,
 }
 
@@ -37,19 +44,13 @@ pub fn has_support(
     network: &Network,
     history: &[Event],
     f: u32,
-    place: u32,
+    place: usize,
     value: u32,
 ) -> Result<bool, AllocError>
-    requires { f < length network.now.functions }
     ensures { IfOk result (λ answer. IsTrue answer ↔ HasSupport network.now history.now f place value) }
 {
-    let sought = Sought {
-        function: f,
-        place,
-        value,
-        ask: Ask::Free,
-    };
-    has_tuple(alloc, network, history, sought)
+    let ask = Ask::Support { place, value };
+    has_tuple(alloc, network, history, Sought { function: f, ask })
 }
 
 /// Whether it has a full support with regard to the variable at another place. An `Err` is want of memory.
@@ -58,20 +59,32 @@ pub fn has_full_support(
     network: &Network,
     history: &[Event],
     f: u32,
-    place: u32,
-    other: u32,
+    place: usize,
+    other: usize,
     value: u32,
 ) -> Result<bool, AllocError>
-    requires { f < length network.now.functions }
     ensures { IfOk result (λ answer. IsTrue answer ↔ HasFullSupport network.now history.now f place other value) }
 {
-    let sought = Sought {
-        function: f,
+    let ask = Ask::FullSupport {
         place,
+        other,
         value,
-        ask: Ask::FreeWith(other),
     };
-    has_tuple(alloc, network, history, sought)
+    has_tuple(alloc, network, history, Sought { function: f, ask })
+}
+
+/// Whether the tuple of `f` with a number is live. An `Err` is want of memory.
+pub(crate) fn is_live_cell(
+    alloc: Global,
+    network: &Network,
+    history: &[Event],
+    f: u32,
+    number: u32,
+) -> Result<bool, AllocError>
+    ensures { IfOk result (λ answer. IsTrue answer ↔ IsLiveCell network.now history.now f number) }
+{
+    let ask = Ask::Number(number);
+    has_tuple(alloc, network, history, Sought { function: f, ask })
 }
 
 /// Whether there is such a tuple. An `Err` is want of memory.
@@ -81,7 +94,6 @@ pub fn has_tuple(
     history: &[Event],
     sought: Sought,
 ) -> Result<bool, AllocError>
-    requires { sought.function < length network.now.functions }
     ensures { IfOk result (λ answer. IsTrue answer ↔ HasTuple network.now history.now sought) }
 {
     let places = scope(network, sought.function).len();
@@ -98,7 +110,6 @@ fn has_tuple_from(
     tuple: &mut [u32],
     place: usize,
 ) -> bool
-    requires function { sought.function < length network.now.functions }
     requires place { place ≤ arity network.now sought.function }
     requires fits { Fits (dims_at network.now sought.function) tuple.old }
     ensures fits { Fits (dims_at network.now sought.function) tuple.new }
@@ -126,24 +137,35 @@ fn is_sought(network: &Network, history: &[Event], sought: Sought, tuple: &[u32]
     requires { Fits (dims_at network.now sought.function) tuple.now }
     ensures { IsTrue result ↔ IsSought network.now history.now sought tuple.now }
 {
-    at(tuple, sought.place) == sought.value
-        && is_live_tuple(network, history, sought.function, tuple)
-        && meets(network, history, sought, tuple)
+    let f = sought.function;
+    meets(network, history, f, sought.ask, tuple) && is_live_tuple(network, history, f, tuple)
 }
 
-/// Whether the cost of a tuple is what is asked.
-fn meets(network: &Network, history: &[Event], sought: Sought, tuple: &[u32]) -> bool
-    requires { Fits (dims_at network.now sought.function) tuple.now }
-    ensures { IsTrue result ↔ Meets network.now history.now sought.function sought.ask tuple.now }
+/// Whether a tuple of `f` is what is asked, be it live or not.
+fn meets(network: &Network, history: &[Event], f: u32, ask: Ask, tuple: &[u32]) -> bool
+    requires { Fits (dims_at network.now f) tuple.now }
+    ensures { IsTrue result ↔ Meets network.now history.now f ask tuple.now }
 {
-    let residual = residual(network, history, sought.function, tuple);
-    match sought.ask {
-        Ask::Free => residual == 0,
-        Ask::FreeWith(other) => {
-            let x = variable(network, sought.function, other);
-            let unary = unary(network, history, x, at(tuple, other));
-            residual.checked_add(unary) == Some(0)
+    match ask {
+        Ask::Support { place, value } => {
+            at(tuple, place) == value && residual(network, history, f, tuple) == 0
         }
-        Ask::Outside => residual < 0 || residual > u64::MAX as i128,
+        Ask::FullSupport {
+            place,
+            other,
+            value,
+        } => {
+            if at(tuple, place) != value {
+                return false;
+            }
+            let x = variable(network, f, other);
+            let unary = unary(network, history, x, at(tuple, other));
+            residual(network, history, f, tuple).checked_add(unary) == Some(0)
+        }
+        Ask::Outside => {
+            let cost = residual(network, history, f, tuple);
+            cost < 0 || cost > u64::MAX as i128
+        }
+        Ask::Number(cell) => number(network, f, tuple) == cell,
     }
 }

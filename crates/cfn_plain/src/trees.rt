@@ -6,7 +6,7 @@ ghost use Rattle.cfn_model.specs.Tree.{Valid, Strict, bound};
 ghost use Rattle.cfn_proof.specs.Nodes.{tree_at, tree_of};
 
 use crate::closing::{can_close, is_strict_split};
-use crate::steps::{after, block_runs, is_decision};
+use crate::steps::{after, block_runs, extended, is_decision};
 use crate::sums::floor;
 use cfn_model::{Decision, Event};
 use cfn_net::Network;
@@ -151,13 +151,4 @@ fn sides(
     let took = extended(alloc, Event::Took(decision), history)?;
     let refused = extended(alloc, Event::Refused(decision), history)?;
     Ok((took, refused))
-}
-
-/// The history with one more event, which is the newest.
-fn extended(alloc: Global, event: Event, history: &[Event]) -> Result<Vec<Event>, AllocError>
-    ensures { IfOk result (λ events. events.items ≡ event ∷ history.now) }
-{
-    let mut events = Vec::from_slice(alloc, history)?;
-    events.insert(0, event)?;
-    Ok(events)
 }

@@ -72,7 +72,7 @@ fn tuple_allows(network: &Network, history: &[Event], step: Step, k: u64, tuple:
             value,
             amount,
         } => {
-            at(tuple, place) != value
+            at(tuple, place as usize) != value
                 || !is_live_tuple(network, history, f, tuple)
                 || amount as i128 <= residual(network, history, f, tuple)
         }

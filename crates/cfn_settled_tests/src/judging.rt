@@ -25,6 +25,8 @@ pub(crate) enum Fault {
     Cost,
     /// There are more steps than there may be.
     Limit,
+    /// They are no groups, or, where it is spent, no groups of which the last may be unfinished.
+    Groups,
     /// It is said to be settled, and is not.
     Node,
     Arc,
@@ -32,7 +34,7 @@ pub(crate) enum Fault {
     Existential,
     /// It is said to be dead, and is not.
     Dead,
-    /// It is said to be spent, and has fewer steps than it may have.
+    /// It is said to be spent, and has fewer steps than it may have, or no step is due.
     Spent,
 }
 
@@ -59,12 +61,32 @@ pub(crate) fn fault_of(
     if steps.len() > most {
         return Ok(Some(Fault::Limit));
     }
+    if !are_grouped(alloc, network, before, steps, answer)? {
+        return Ok(Some(Fault::Groups));
+    }
     let history = history.as_slice();
     match answer {
         Answer::Settled => inconsistency_of(alloc, network, history, k),
         Answer::Dead if !cfn_plain::can_close(network, history, k) => Ok(Some(Fault::Dead)),
         Answer::Spent if steps.len() < most => Ok(Some(Fault::Spent)),
+        Answer::Spent if inconsistency_of(alloc, network, history, k)?.is_none() => {
+            Ok(Some(Fault::Spent))
+        }
         _ => Ok(None),
+    }
+}
+
+/// Whether the steps of a call are groups, the last of which may be unfinished where it is spent.
+fn are_grouped(
+    alloc: Global,
+    network: &Network,
+    before: &[Event],
+    steps: &[Step],
+    answer: Answer,
+) -> Result<bool, AllocError> {
+    match answer {
+        Answer::Settled | Answer::Dead => cfn_plain::are_groups(alloc, network, before, steps),
+        Answer::Spent => cfn_plain::are_open_groups(alloc, network, before, steps),
     }
 }
 
@@ -79,37 +101,15 @@ fn costs_fit(alloc: Global, network: &Network, history: &[Event]) -> Result<bool
         }
     }
     for f in 0..network.functions() {
-        if has_costs_outside(alloc, network, history, f)? {
+        let sought = Sought {
+            function: f,
+            ask: Ask::Outside,
+        };
+        if cfn_plain::has_tuple(alloc, network, history, sought)? {
             return Ok(false);
         }
     }
     Ok(true)
-}
-
-/// Whether a live tuple of a function costs less than 0, or 2^64 or more.
-fn has_costs_outside(
-    alloc: Global,
-    network: &Network,
-    history: &[Event],
-    f: u32,
-) -> Result<bool, AllocError>
-    requires { f < length network.now.functions }
-{
-    let Some(x) = network.scope(f).first() else {
-        return Ok(false);
-    };
-    for value in 0..size(network, *x) {
-        let sought = Sought {
-            function: f,
-            place: 0,
-            value,
-            ask: Ask::Outside,
-        };
-        if cfn_plain::has_tuple(alloc, network, history, sought)? {
-            return Ok(true);
-        }
-    }
-    Ok(false)
 }
 
 /// The first local consistency that a state lacks at the threshold `k`.
@@ -176,7 +176,7 @@ fn is_arc_consistent(
 ) -> Result<bool, AllocError>
     requires { f < length network.now.functions }
 {
-    for place in 0..arity(network, f) {
+    for place in 0..network.scope(f).len() {
         let x = variable(network, f, place);
         for value in 0..size(network, x) {
             if cfn_plain::is_live(history, x, value)
@@ -198,8 +198,8 @@ fn is_directional(
 ) -> Result<bool, AllocError>
     requires { f < length network.now.functions }
 {
-    for i in 0..arity(network, f) {
-        for j in 0..arity(network, f) {
+    for i in 0..network.scope(f).len() {
+        for j in 0..network.scope(f).len() {
             if variable(network, f, i) < variable(network, f, j)
                 && cfn_plain::has_open_pair(network, history, f, i, j)
                 && !is_full(alloc, network, history, f, i, j)?
@@ -217,8 +217,8 @@ fn is_full(
     network: &Network,
     history: &[Event],
     f: u32,
-    i: u32,
-    j: u32,
+    i: usize,
+    j: usize,
 ) -> Result<bool, AllocError>
     requires { f < length network.now.functions }
 {
@@ -260,8 +260,8 @@ fn has_all_supports(
     value: u32,
 ) -> Result<bool, AllocError> {
     for f in 0..network.functions() {
-        for i in 0..arity(network, f) {
-            for j in 0..arity(network, f) {
+        for i in 0..network.scope(f).len() {
+            for j in 0..network.scope(f).len() {
                 if variable(network, f, i) == x
                     && cfn_plain::has_open_pair(network, history, f, i, j)
                     && is_first(network, history, f, i, j)
@@ -276,12 +276,12 @@ fn has_all_supports(
 }
 
 /// Whether no function of a lower number has the same two open variables.
-fn is_first(network: &Network, history: &[Event], f: u32, i: u32, j: u32) -> bool
+fn is_first(network: &Network, history: &[Event], f: u32, i: usize, j: usize) -> bool
     requires { f < length network.now.functions }
 {
     for g in 0..f {
-        for p in 0..arity(network, g) {
-            for q in 0..arity(network, g) {
+        for p in 0..network.scope(g).len() {
+            for q in 0..network.scope(g).len() {
                 if variable(network, g, p) == variable(network, f, i)
                     && variable(network, g, q) == variable(network, f, j)
                     && cfn_plain::has_open_pair(network, history, g, p, q)
@@ -303,16 +303,9 @@ pub(crate) fn size(network: &Network, x: u32) -> u32 {
     }
 }
 
-/// How many variables a function has.
-fn arity(network: &Network, f: u32) -> u32
-    requires { f < length network.now.functions }
-{
-    u32::try_from(network.scope(f).len()).unwrap_or(u32::MAX)
-}
-
 /// The variable at a place of a function, or 0 where there is none.
-fn variable(network: &Network, f: u32, place: u32) -> u32
+fn variable(network: &Network, f: u32, place: usize) -> u32
     requires { f < length network.now.functions }
 {
-    network.scope(f).get(place as usize).copied().unwrap_or(0)
+    network.scope(f).get(place).copied().unwrap_or(0)
 }

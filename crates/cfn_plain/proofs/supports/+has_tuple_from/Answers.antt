@@ -1,4 +1,4 @@
-use Rattle.std.proofs.Common.{ℕ, List, length, get_or, inl, inr, refl, ap, sym, subst, ◌∙◌, arith}
+use Rattle.std.proofs.Common.{ℕ, List, length, get_or, inl, inr, ap, sym, subst, ◌∙◌, arith}
 use Rattle.std.proofs.lemmas.Bool.{cases_eq, false≢true}
 use Rattle.std.proofs.lemmas.List.{take-set}
 use Rattle.cfn_model.specs.Network.{dims_at, scope_at}
@@ -34,7 +34,7 @@ has_tuple_from-requires t c =
     let variables = ap length is in
     let size = get_or-dims P.sizes (scope_at P f) c.args.place (omega arith) in
     let read = ap (λ (xs : List ℕ). get_or P.sizes (get_or xs c.args.place 0) 0) is in
-    (omega arith, (c.requires.function, (omega arith, Fits-set (dims_at P f) c.loop-value.tuple c.args.place c.loop-value.value c.loop-value.invariant.fits (omega arith))))
+    (omega arith, (omega arith, Fits-set (dims_at P f) c.loop-value.tuple c.args.place c.loop-value.value c.loop-value.invariant.fits (omega arith)))
 
 pub loop-value-preserved : goal.loop-value-preserved
 loop-value-preserved t c =
