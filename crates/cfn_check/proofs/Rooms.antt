@@ -1,13 +1,14 @@
 -- Sums over a trail stay far within 128 bits.
-use Rattle.std.proofs.Common.{ℕ, suc, ◌+◌, ◌*◌, ◌<◌, ◌≤◌, ◌^◌, List, [], ◌∷◌, length, get_or, arith}
+use Rattle.std.proofs.Common.{ℕ, suc, ◌+◌, ◌*◌, ◌<◌, ◌≤◌, ◌^◌, List, [], ◌∷◌, length, arith}
 use Rattle.std.proofs.lemmas.Int.{ints}
-use Rattle.std.proofs.lemmas.List.Sums.{sum_by-cons}
-use Rattle.std.specs.Prelude.{Bool, true, false, if◌then◌else◌, ℤ, pos, neg_ℤ, ◌≤ℤ◌, sum_by, slice_index}
+use Rattle.std.proofs.Math.Nat.{mul-le-mul}
+use Rattle.std.specs.Prelude.{Bool, true, false, if◌then◌else◌, ℤ, pos, neg_ℤ, ◌≤ℤ◌}
 use Rattle.cfn_model.specs.declared.step.Step.TheVariants.{Project, Extend, Lift, CutValue, CutTuple}
 use Rattle.cfn_model.specs.declared.step.Event.{Event}
 use Rattle.cfn_model.specs.declared.step.Event.TheVariants.{Did, Took, Refused}
-use Rattle.cfn_model.specs.Network.{Function, Network, IsNetwork, function_at, no_function}
-use Rattle.cfn_model.specs.Sums.{when, lifted, constant, constant_of, floor, unary_by, unary, removes}
+use Rattle.cfn_model.specs.Network.{Network, IsNetwork}
+use Rattle.cfn_model.specs.Sums.{when, lifted, floor, unary_by, unary, removes}
+use Rattle.cfn_net.proofs.CallerLemmas.{floor_at_root}
 use Rattle.cfn_check.specs.declared.entry.Entry.{Entry}
 use Rattle.cfn_check.specs.Slots.{shifted_by, shifted}
 use Rattle.cfn_check.specs.Tables.{Tables, HasRoom, IsSlight, takers}
@@ -101,21 +102,11 @@ takers_within (entry ∷ entries) x a = more (removes entry.event x a) _ _ (take
     more true n m h = omega arith
     more false n m h = omega arith
 
-constant_small : (scope entries : List ℕ) (m : ℕ) → slice_index entries 0 ≤ m → constant_of scope entries ≤ m
-constant_small [] entries m h = h
-constant_small (x ∷ scope) entries m h = omega arith
-
-constants_small : (fs : List Function) (m : ℕ) → ((i : ℕ) → i < length fs → constant (get_or fs i no_function) ≤ m) → sum_by constant fs ≤ m * length fs
-constants_small [] m h = omega arith
-constants_small (f ∷ fs) m h =
-    let rest = constants_small fs m (λ i l. h (suc i) (omega arith)) in
-    omega (arith, sum_by-cons constant f fs, h 0 (omega arith), rest)
-
 pub room : (P : Network) (t : Tables) (entries : List Entry) → IsNetwork P → IsLedger P t entries → HasRoom P t
 room P t entries network ledger =
     let says = ledger.says in
     record {
-      floor = let f = floor_within P entries ledger.trail in let k = constants_small P.functions (2 ^ 63) (λ i l. constant_small (function_at P i).scope (function_at P i).entries (2 ^ 63) (let c = (network.functions i l).capped 0 in omega (arith, c, network.upper))) in omega (arith, f, k, says.floor, network.few_functions, ledger.short);
+      floor = let f = floor_within P entries ledger.trail in let k = floor_at_root P network in let m = mul-le-mul network.few_functions network.upper in omega (arith, f, k, m, says.floor, ledger.short);
       unary = λ x a l m. (let e = says.unary x a l m in let w = unary_within P entries x a ledger.trail in record { low = omega (arith, ints, e, w.low, ledger.short); high = omega (arith, ints, e, w.high, ledger.short) });
       takers = λ x a l m. (let e = says.takers x a l m in let w = takers_within entries x a in omega (arith, e, w, ledger.short));
       shifts = λ f n l m. (let e = says.shifts f n l m in let w = slight P t entries f n ledger in record { low = omega (arith, ints, e, w.low); high = omega (arith, ints, e, w.high) });

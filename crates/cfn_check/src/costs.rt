@@ -50,7 +50,7 @@ impl Costs {
     {
         network.limits();
         Ok(Costs {
-            floor: constants(network),
+            floor: network.constants(),
             domains: domains_of(alloc, network)?,
             functions: functions_of(alloc, network)?,
             wiped: 0,
@@ -363,28 +363,4 @@ fn functions_of(alloc: Global, network: &Network) -> Result<Vec<Shifts>, AllocEr
         functions.push(Shifts::of(alloc, network, f)?)?;
     }
     Ok(functions)
-}
-
-/// The constants of all functions of arity 0.
-fn constants(network: &Network) -> u128
-    ensures { result ≡ sum_by constant network.now.functions }
-{
-    let mut sum = 0;
-    for f in 0..network.functions() {
-        sum += constant(network, f) as u128;
-    }
-    sum
-}
-
-/// The constant that a function of arity 0 is, or 0.
-fn constant(network: &Network, f: u32) -> u64
-    requires { f < length network.now.functions }
-    ensures { result ≡ constant (function_at network.now f) }
-{
-    network.limits();
-    if network.scope(f).is_empty() {
-        network.entry(f, 0)
-    } else {
-        0
-    }
 }

@@ -1,5 +1,6 @@
 -- The values of a list of texts, read one after the other.
 use Rattle.std.proofs.Common.{◌≡◌, ◌+◌, ◌≤◌, ◌<◌, ◌^◌, ◌&&◌, ◌++◌, ◌∷◌, ℕ, Bool, List, [], Some, None, true, false, zero, suc, refl, sym, ap, arith, length, map, take}
+use Rattle.std.proofs.lemmas.Bool.{and_right}
 use Rattle.std.proofs.lemmas.List.Elements.{All-nil, All-push}
 use Rattle.std.specs.Borrow.{Bor}
 use Rattle.std.specs.List.{All, list_all, slice_index_or}
@@ -49,15 +50,11 @@ values_read (word ∷ words) i values some past reads =
     let all : Reads (word ∷ words) values = rw (take_all i (word ∷ words) past) at reads in
     rw all.pass (ap (λ (vs : List ℕ). Some vs) (sym all.same))
 
-and_false : (a b : Bool) → b ≡ false → (a && b) ≡ false
-and_false true b e = e
-and_false false b e = refl
-
 fails_at : (words : List (Bor Text)) (i : ℕ) (d : Bor Text) → i < length words → is_value (slice_index_or words i d).now ≡ false
     → list_all is_value (texts words) ≡ false
 fails_at [] i d lt fails = absurd (omega arith)
 fails_at (x ∷ xs) zero d lt fails = rw fails refl
-fails_at (x ∷ xs) (suc i) d lt fails = and_false _ _ (fails_at xs i d (omega arith) fails)
+fails_at (x ∷ xs) (suc i) d lt fails = and_right _ _ (fails_at xs i d (omega arith) fails)
 
 pub values_refused : (words : List (Bor Text)) (i : ℕ) (d : Bor Text) → i < length words
     → None ≡ number_in 0 4294967295 (slice_index_or words i d).now → values_of (texts words) ≡ None
