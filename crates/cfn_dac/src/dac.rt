@@ -47,7 +47,7 @@ pub fn directional(
 }
 
 /// The places of the two open variables of `f`, where there are two, that of the lower variable first.
-fn open_pair(store: &Store<'_>, f: u32) -> Option<Pair>
+pub fn open_pair(store: &Store<'_>, f: u32) -> Option<Pair>
     requires { f < length store.now.network.functions }
     ensures { MatchOption result (NoOpenPair store.now.network (history store.now) f) (IsLowerPair store.now.network (history store.now) f) }
 {

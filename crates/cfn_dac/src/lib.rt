@@ -20,7 +20,7 @@ mod plan;
 mod spread;
 mod trim;
 
-pub use dac::directional;
+pub use dac::{directional, open_pair};
 pub use open::{Opens, open_places, takes_part};
 pub use pair::{Pair, full_supports};
 pub use plan::least_total;

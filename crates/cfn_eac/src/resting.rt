@@ -16,8 +16,8 @@ use cfn_dac::{Pair, least_total};
 use cfn_incidence::{Incidence, Place};
 use cfn_store::Store;
 
-/// Whether a value is live, has the unary cost 0, and has a full support in each function of its variable and another open
-/// one, where all functions of the variable have two: then the variable is existential.
+/// Whether a value is live, has the unary cost 0, and, where its variable is open, has a full support in each function of the
+/// variable and another open one, all of which have two: then the variable is existential.
 pub(crate) fn is_at_rest(store: &Store<'_>, incidence: &Incidence, x: u32, value: u32) -> bool
     requires incidence { incidence.now ≡ store.now.network }
     requires variable { x < length store.now.network.sizes }
@@ -27,6 +27,9 @@ pub(crate) fn is_at_rest(store: &Store<'_>, incidence: &Incidence, x: u32, value
     store.exact();
     if value >= store.network().size(x) || !store.is_live(x, value) || store.unary(x, value) > 0 {
         return false;
+    }
+    if store.count(x) < 2 {
+        return true;
     }
     for place in incidence.places(x) {
         if !rests_on(store, *place, value) {

@@ -1,7 +1,6 @@
 -- The current leaf of a search, and what an expansion that lacks memory leaves.
 use Rattle.std.proofs.Common.{◌≡◌, ℕ, ◌+◌, ◌≤◌, List, [], ◌∷◌, ◌++◌, length, refl, sym, ap, ◌∙◌, subst, arith}
 use Rattle.std.specs.Prelude.{Bool, true, false, Option, None, Some, IfSome}
-use Rattle.std.proofs.lemmas.List.{length-set}
 use Rattle.cfn_model.specs.declared.step.Event.{Event}
 use Rattle.cfn_model.specs.declared.step.Event.TheVariants.{Refused}
 use Rattle.cfn_model.specs.Network.{Network}
@@ -12,11 +11,10 @@ use Rattle.cfn_proof.specs.declared.tree.NodeId.{NodeId}
 use Rattle.cfn_proof.specs.declared.tree.Node.{Node}
 use Rattle.cfn_store.specs.Standing.{Standing, history}
 use Rattle.cfn_store.specs.Marking.{IsBehind, back_at}
-use Rattle.cfn_branch.specs.Weighing.{blamed}
 use Rattle.cfn_hybrid.specs.declared.search.Waiting.{Waiting}
 use Rattle.cfn_hybrid.specs.declared.search.State.{State}
 use Rattle.cfn_hybrid.specs.Sound.{StandsBehind, AreOpen, price_of}
-use Rattle.cfn_hybrid.specs.Waiting.{IsWaiting}
+use Rattle.cfn_hybrid.specs.Waiting.{IsWaiting, Along}
 use Rattle.cfn_hybrid.specs.Others.{AreListed, idle}
 use Rattle.cfn_hybrid.specs.Searching.{CanBranch, IsOnPath, IsAtLeaf, StandsAt, IsSearching, IsExpanding, IsStopped, leaf_list}
 use Rattle.std.specs.Prelude.{vec_capacity}
@@ -66,6 +64,7 @@ goes_on P leaf s new was goes tree waiting others rows room low nodes enforcer b
         above = kept_above s.lower new.lower s.waiting.items new.waiting.items s.others.leaves new.others.leaves low waiting others was.path.above;
       };
       above = (let a = was.above in let b = ap (floor P) goes.base in omega (arith, a, b, low));
+      begin = subst (λ l. Along l new.store.base) (sym waiting) (subst (λ h. Along s.waiting.items h) (sym goes.base) was.begin);
       behind = subst (λ m. StandsBehind m leaf.number new.store.base) (sym tree) (subst (λ h. StandsBehind s.tree leaf.number h) (sym goes.base) was.behind);
       runs = subst (λ h. Run P h new.store.block (price_of new.best)) (sym goes.base) (subst (λ b. Run P s.store.base b (price_of new.best)) (sym goes.block)
           (run_append P s.store.base s.store.block goes.steps (price_of new.best) (run_lower P s.store.base s.store.block (price_of s.best) (price_of new.best) better was.runs)
@@ -80,6 +79,7 @@ begins P s leaf searching is =
       path = current_path P s.nodes s leaf searching is;
       behind = at.behind;
       above = (let a = at.above in let b = at.floor in omega (arith, a, b));
+      begin = subst (λ b. Along s.waiting.items (after b s.store.base)) at.block (current_path P s.nodes s leaf searching is).along;
       runs = subst (λ b. Run P s.store.base b (price_of s.best)) (sym at.block) tt;
     }
 
@@ -198,53 +198,4 @@ stop_trans P old s new first second = record {
   solution = second.solution;
   better = let a = first.better in let b = second.better in omega (arith, a, b);
   behind = behind_trans old.store s.store new.store first.behind second.behind;
-}
-
--- an expansion in which a function was blamed
-weights_kept : (P : Network) (weights : List ℕ) (incidence : Network) (f : ℕ) → CanBranch P weights incidence → CanBranch P (blamed weights f) incidence
-weights_kept P weights incidence f can = record {
-  weights_are = length-set weights f _ ∙ can.weights_are;
-  incidence_is = can.incidence_is;
-}
-
-pub expanding_blamed : (P : Network) (leaf : NodeId) (s : State) (f : ℕ) → IsExpanding P leaf s → IsExpanding P leaf (record s { weights = blamed s.weights f })
-expanding_blamed P leaf s f was = record {
-  path = record {
-    sound = was.path.sound;
-    leaves = was.path.leaves;
-    others = was.path.others;
-    network = was.path.network;
-    enforcer = was.path.enforcer;
-    branching = weights_kept P s.weights s.incidence f was.path.branching;
-    waiting = was.path.waiting;
-    along = was.path.along;
-    values = was.path.values;
-    rows = was.path.rows;
-    room = was.path.room;
-    above = was.path.above;
-  };
-  behind = was.behind;
-  above = was.above;
-  runs = was.runs;
-}
-
-pub stopped_blamed : (P : Network) (old s : State) (f : ℕ) → IsStopped P old s → IsStopped P old (record s { weights = blamed s.weights f })
-stopped_blamed P old s f was = record {
-  tree = was.tree;
-  waiting = was.waiting;
-  others = was.others;
-  current = was.current;
-  enforcer = was.enforcer;
-  branching = weights_kept P s.weights s.incidence f was.branching;
-  floor = was.floor;
-  since = was.since;
-  nodes = was.nodes;
-  rows = was.rows;
-  room = was.room;
-  lower = was.lower;
-  values = was.values;
-  network = was.network;
-  solution = was.solution;
-  better = was.better;
-  behind = was.behind;
 }

@@ -3,7 +3,9 @@ use Rattle.std.specs.Prelude.{◌≡◌, ℕ, ◌≤◌, vec_capacity, List, [],
 use Rattle.cfn_model.specs.Network.{Network}
 use Rattle.cfn_model.specs.Certificate.{IsBest}
 use Rattle.cfn_model.specs.Sums.{floor}
-use Rattle.cfn_model.specs.Steps.{Run}
+use Rattle.cfn_model.specs.declared.step.Step.{Step}
+use Rattle.cfn_model.specs.Steps.{Run, after}
+use Rattle.cfn_model.specs.Tree.{CanClose}
 use Rattle.cfn_proof.specs.declared.tree.NodeId.{NodeId}
 use Rattle.cfn_store.specs.Standing.{history}
 use Rattle.cfn_store.specs.Marking.{IsBehind}
@@ -57,12 +59,20 @@ pub record IsSearching (P : Network) (spent : ℕ) (s : State) : Type 0 where
   pub path : IsOnPath P (leaf_list s.current) spent s
   pub at : StandsAt P s s.current
 
--- In an expansion: the store's block runs behind the leaf that is expanded.
+-- In an expansion: the store's block runs behind the leaf that is expanded, and the path that the block began with goes through
+-- all marks.
 pub record IsExpanding (P : Network) (leaf : NodeId) (s : State) : Type 0 where
   pub path : IsOnPath P (leaf ∷ []) s.nodes s
   pub behind : StandsBehind s.tree leaf.number s.store.base
   pub runs : Run P s.store.base s.store.block (price_of s.best)
   pub above : s.lower ≤ floor P s.store.base
+  pub begin : Along s.waiting.items s.store.base
+
+-- A leaf may be closed behind a block: the store's path began there, and the block runs and closes at the price.
+pub record IsClosing (P : Network) (leaf : NodeId) (s : State) (block : List Step) : Type 0 where
+  pub behind : StandsBehind s.tree leaf.number s.store.base
+  pub runs : Run P s.store.base block (price_of s.best)
+  pub closes : CanClose P (after block s.store.base) (price_of s.best)
 
 -- What an expansion that lacks memory leaves: all but the store, the best and the weights is as it was, the store stands no
 -- less far on its path, and what is held is no worse.

@@ -55,8 +55,9 @@ use cfn_model::{Decision, Event};
 use cfn_nc::Settling;
 use cfn_net::{Network, Scored};
 use cfn_open::{OpenLeaf, OpenList};
-use cfn_proof::{Certificate, NodeId, Outcome, Row, Stop, Tree};
+use cfn_proof::{Block, Certificate, NodeId, Outcome, Row, Stop, Tree};
 use cfn_store::{Mark, Store};
+use cfn_trim::Trimmer;
 use std::alloc::{AllocError, Global};
 
 /// How many backtracks a dive may make at first and at least, and at most.
@@ -113,7 +114,8 @@ pub struct State<'n> {
 }
 
 impl<'n> State<'n> {
-    ghost use Rattle.cfn_hybrid.specs.Searching.{IsOnPath, IsSearching, IsExpanding, IsStopped, leaf_list};
+    ghost use Rattle.cfn_hybrid.specs.Searching.{IsOnPath, IsSearching, IsExpanding, IsClosing, IsStopped, leaf_list};
+    ghost use Rattle.cfn_trim.specs.Trimming.{IsBegin};
     ghost use Rattle.cfn_hybrid.specs.Waiting.{AreWaiting};
     ghost use Rattle.cfn_hybrid.specs.Others.{AreListed, numbers_of, idle};
 
@@ -155,7 +157,14 @@ impl<'n> State<'n> {
     }
 
     /// Expands leaves until none is open, the budget is spent, or memory is refused.
-    fn expand_all(&mut self, alloc: Global, network: &Network, budget: u64)
+    fn expand_all(
+        &mut self,
+        alloc: Global,
+        network: &Network,
+        trimmer: &mut Trimmer<'n>,
+        budget: u64,
+    )
+        requires trimmer { trimmer.old ≡ network.now }
         requires sound { IsSearching network.now self.old.nodes self.old }
         requires allowed { self.old.nodes ≤ budget }
         requires budget { budget ≤ GREATEST }
@@ -166,22 +175,29 @@ impl<'n> State<'n> {
             return;
         }
         while self.nodes < budget && self.current.is_some() {
-            if self.advance(alloc, network).is_err() {
+            if self.advance(alloc, network, trimmer).is_err() {
                 return;
             }
         }
     }
 
     /// Expands the current leaf, and begins the next dive where this one has ended. An `Err` is want of memory.
-    fn advance(&mut self, alloc: Global, network: &Network) -> Result<(), AllocError>
+    fn advance(
+        &mut self,
+        alloc: Global,
+        network: &Network,
+        trimmer: &mut Trimmer<'n>,
+    ) -> Result<(), AllocError>
+        requires trimmer { trimmer.old ≡ network.now }
         requires sound { IsSearching network.now self.old.nodes self.old }
         requires some { IsTrue (is_some self.old.current) }
         requires room { self.old.nodes ≤ GREATEST }
         ensures sound { IsSearching network.now self.new.nodes self.new }
         ensures ok { OnOk result (self.new.nodes ≡ self.old.nodes + 1) }
         ensures most { self.new.nodes ≤ self.old.nodes + 1 }
+        ensures trims { trimmer.new ≡ trimmer.old }
     {
-        self.expand(alloc, network)?;
+        self.expand(alloc, network, trimmer)?;
         if self.current.is_none() {
             self.begin_dive(alloc)?;
         }
@@ -189,19 +205,26 @@ impl<'n> State<'n> {
     }
 
     /// Expands the current leaf: it is split or closed, and counted. An `Err`, want of memory, leaves it open.
-    fn expand(&mut self, alloc: Global, network: &Network) -> Result<(), AllocError>
+    fn expand(
+        &mut self,
+        alloc: Global,
+        network: &Network,
+        trimmer: &mut Trimmer<'n>,
+    ) -> Result<(), AllocError>
+        requires trimmer { trimmer.old ≡ network.now }
         requires sound { IsSearching network.now self.old.nodes self.old }
         requires some { IsTrue (is_some self.old.current) }
         requires room { self.old.nodes ≤ GREATEST }
         ensures sound { IsSearching network.now self.new.nodes self.new }
         ensures ok { OnOk result (self.new.nodes ≡ self.old.nodes + 1) }
         ensures err { OnErr result (self.new.nodes ≡ self.old.nodes) }
+        ensures trims { trimmer.new ≡ trimmer.old }
     {
         let Some(leaf) = self.current else {
             return Ok(());
         };
         let mark = self.store.mark();
-        if let Err(error) = self.expand_leaf(alloc, network, leaf) {
+        if let Err(error) = self.expand_leaf(alloc, network, leaf, &mark, trimmer) {
             self.store.undo(&mark);
             return Err(error);
         }
@@ -216,12 +239,17 @@ impl<'n> State<'n> {
         alloc: Global,
         network: &Network,
         leaf: NodeId,
+        mark: &Mark<'n>,
+        trimmer: &mut Trimmer<'n>,
     ) -> Result<(), AllocError>
+        requires trimmer { trimmer.old ≡ network.now }
+        requires mark { mark.now ≡ self.old.store }
         requires sound { IsSearching network.now self.old.nodes self.old }
         requires current { self.old.current ≡ Some leaf }
         ensures ok { OnOk result (IsSearching network.now (self.old.nodes + 1) self.new) }
         ensures err { OnErr result (IsStopped network.now self.old self.new) }
         ensures nodes { self.new.nodes ≡ self.old.nodes }
+        ensures trims { trimmer.new ≡ trimmer.old }
     {
         let threshold = self.best.price();
         if self.floor >= u128::from(threshold) {
@@ -246,24 +274,34 @@ impl<'n> State<'n> {
             asked,
             around,
         )? {
-            Settling::Dead => self.close_dead(alloc, leaf),
+            Settling::Dead => self.close_dead(alloc, leaf, mark, trimmer),
             Settling::Settled => self.branch(alloc, network, leaf, true),
             Settling::Spent => self.branch(alloc, network, leaf, false),
         }
     }
 
-    /// Blames the function by which a leaf was found dead, where there is one, and closes the leaf.
-    fn close_dead(&mut self, alloc: Global, leaf: NodeId) -> Result<(), AllocError>
+    /// Blames the function by which a leaf was found dead, where there is one, and closes the leaf by those steps of the store's
+    /// block that its closing needs. An `Err`, want of memory, leaves the store where the block began.
+    fn close_dead(
+        &mut self,
+        alloc: Global,
+        leaf: NodeId,
+        mark: &Mark<'n>,
+        trimmer: &mut Trimmer<'n>,
+    ) -> Result<(), AllocError>
+        requires trimmer { trimmer.old ≡ self.old.store.network }
+        requires begins { IsBegin mark.now self.old.store }
         requires expanding { IsExpanding self.old.store.network leaf self.old }
         requires closes { CanClose self.old.store.network (history self.old.store) (price_of self.old.best) }
         ensures ok { OnOk result (IsSearching self.old.store.network (self.old.nodes + 1) self.new) }
-        ensures err { OnErr result (IsStopped self.old.store.network self.old self.new) }
+        ensures err { OnErr result (IsStopped self.old.store.network (record self.old { store = mark.now }) self.new) }
         ensures nodes { self.new.nodes ≡ self.old.nodes }
+        ensures trims { trimmer.new ≡ trimmer.old }
     {
-        if let Some(f) = self.enforcer.blamed() {
-            self.blame(f);
-        }
-        self.close(alloc, leaf)
+        self.blame_last();
+        let block = trimmer.closing_block(alloc, &mut self.store, mark, self.best.price())?;
+        self.close_behind(leaf, block);
+        Ok(())
     }
 
     /// Splits a leaf that is not dead, or closes it where one assignment is left. `settled` says that the store is fully
@@ -290,12 +328,16 @@ impl<'n> State<'n> {
         }
     }
 
-    /// Raises the weight of the function by which a leaf was found dead. All else is as it was.
-    pub fn blame(&mut self, f: u32)
-        requires { f < length self.old.weights }
-        ensures { self.new ≡ record self.old { weights = blamed self.old.weights f } }
+    /// Raises the weight of the function by which a leaf was found dead, where there is one. All else is as it was.
+    fn blame_last(&mut self)
+        requires { length self.old.weights ≡ length self.old.enforcer.functions }
+        ensures same { self.new ≡ record self.old { weights = self.new.weights } }
+        ensures weights { length self.new.weights ≡ length self.old.weights }
+        ensures one { (self.new.weights ≡ self.old.weights) ⊎ ((f : ℕ) × (f < length self.old.weights) × (self.new.weights ≡ blamed self.old.weights f)) }
     {
-        self.weights.blame(f);
+        if let Some(f) = self.enforcer.blamed() {
+            self.weights.blame(f);
+        }
     }
 
     /// Splits a leaf behind the store's block, on a live value of a variable that has another one. The first child is the
@@ -370,10 +412,20 @@ impl<'n> State<'n> {
         ensures nodes { self.new.nodes ≡ self.old.nodes }
     {
         let block = self.store.block(alloc)?;
+        self.close_behind(leaf, block);
+        Ok(())
+    }
+
+    /// Closes a leaf behind a block, and goes back. It takes no memory.
+    fn close_behind(&mut self, leaf: NodeId, block: Block)
+        requires path { IsOnPath self.old.store.network (leaf ∷ []) self.old.nodes self.old }
+        requires closing { IsClosing self.old.store.network leaf self.old block }
+        ensures sound { IsSearching self.old.store.network (self.old.nodes + 1) self.new }
+        ensures nodes { self.new.nodes ≡ self.old.nodes }
+    {
         self.tree.linked();
         self.tree.close(leaf, block);
         self.go_back();
-        Ok(())
     }
 
     /// Goes back to the newest leaf that waits, and stands there, unless the dive has made all its backtracks. Where the
@@ -673,7 +725,8 @@ pub fn solve(alloc: Global, network: &Network, budget: u64) -> Result<Outcome, A
     ensures { IfOk result (IsOutcome network.now budget) }
 {
     let mut state = State::new(alloc, network)?;
-    state.expand_all(alloc, network, budget);
+    let mut trimmer = Trimmer::make(alloc, network)?;
+    state.expand_all(alloc, network, &mut trimmer, budget);
     let lower = state.sweep();
     Ok(state.finish(network, lower, budget))
 }

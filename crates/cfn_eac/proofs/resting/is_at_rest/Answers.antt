@@ -1,13 +1,17 @@
-use Rattle.std.proofs.Common.{◌≡◌, ℕ, ◌-◌, ◌<◌, ◌≤◌, inl, inr, refl, sym, ap, ◌∙◌, subst, length, arith}
+use Rattle.std.proofs.Common.{◌≡◌, ℕ, ◌-◌, ◌<◌, ◌≤◌, Bool, true, true≢false, inl, inr, refl, sym, ap, ◌∙◌, subst, length, arith}
 use Rattle.std.proofs.lemmas.Bool.{cases_eq}
 use Rattle.std.specs.Prelude.{List, pos, slice_index, IsTrue}
 use Rattle.cfn_model.specs.declared.step.Event.{Event}
 use Rattle.cfn_model.specs.Network.{Network, variable_at}
 use Rattle.cfn_consistency.specs.Openness.{HasOpenPair, is_open}
-use Rattle.cfn_consistency.specs.Consistency.{HasFullSupport}
+use Rattle.cfn_consistency.specs.Consistency.{HasFullSupport, IsFree, IsExistential}
+use Rattle.cfn_model.specs.Sums.{unary, is_live}
+use Rattle.cfn_live.specs.Sets.{live_count}
+use Rattle.cfn_store.specs.Rooms.{sets_of}
+use Rattle.cfn_dac.proofs.CallerLemmas.{is_closed_by}
 use Rattle.cfn_incidence.specs.declared.incidence.Place.{Place}
 use Rattle.cfn_incidence.specs.Places.{ArePlaces, place_at}
-use Rattle.cfn_store.specs.Standing.{history}
+use Rattle.cfn_store.specs.Standing.{Standing, history}
 use Rattle.cfn_eac.specs.Resting.{RestsOn}
 use Rattle.cfn_eac.proofs.resting.is_at_rest.Goals as goal
 
@@ -31,20 +35,38 @@ loop-place-preserved c = λ k l. (elim (cases_eq k c.loop-place.place-index) [
   | inr e ↦ c.loop-place.invariant k (omega (arith, l, e))
 ])
 
+-- a live value without cost of a variable that is not open
+closed_rests : (s : Standing) (x a count : ℕ) → IsFree s.network (history s) x a → count ≡ live_count (sets_of s) x → count < 2 → IsExistential s.network (history s) x
+closed_rests s x a count free is few = record {
+  value = a;
+  free = free;
+  supports = λ f i j pair at first. absurd (true≢false (sym (subst (λ z. IsTrue (is_open s.network (history s) z)) at pair.one.1) ∙ is_closed_by s x count is few));
+}
+
+-- the value that is looked at
+free_value : (s : Standing) (x a size cost : ℕ) (live : Bool) → x < length s.network.sizes → size ≡ slice_index s.network.sizes x → a < size → live ≡ true → live ≡ is_live (history s) x a → cost ≤ 0 → (IsTrue (is_live (history s) x a) → pos cost ≡ unary s.network (history s) x a) → IsFree s.network (history s) x a
+free_value s x a size cost live variable is below lives lives_is nothing cost_is =
+    let now : IsTrue (is_live (history s) x a) = sym lives_is ∙ lives in
+    let none : cost ≡ 0 = omega (arith, nothing) in
+    record {
+      value = record { variable = variable; value = omega (arith, is, below) };
+      live = now;
+      free = sym (cost_is now) ∙ ap pos none;
+    }
+
+pub returns-then-count-lt2 : goal.returns-then-count-lt2
+returns-then-count-lt2 c = λ yes.
+    (let s = c.args.store.now in
+    closed_rests s c.args.x c.args.value c.count.result
+    (free_value s c.args.x c.args.value c.size.result c.unary.result c.is_live.result c.requires.variable (c.size.ensures ∙ ap (λ (P : Network). slice_index P.sizes c.args.x) c.network-2.ensures) c.if-value-size.false c.if-not-is_live.false c.is_live.ensures c.if-unary-gt0.false c.unary.ensures)
+    c.count.ensures c.if-count-lt2.true)
+
 pub returns : goal.returns
 returns c = λ yes.
     (let s = c.args.store.now in
-    let live = sym c.is_live.ensures ∙ c.if-not-is_live.false in
-    let none : c.unary.result ≡ 0 = (let l = c.if-unary-gt0.false in omega (arith, l)) in
+    let free = free_value s c.args.x c.args.value c.size.result c.unary.result c.is_live.result c.requires.variable (c.size.ensures ∙ ap (λ (P : Network). slice_index P.sizes c.args.x) c.network-2.ensures) c.if-value-size.false c.if-not-is_live.false c.is_live.ensures c.if-unary-gt0.false c.unary.ensures in
     record {
       value = c.args.value;
-      free = record {
-        value = record {
-          variable = c.requires.variable;
-          value = (let l = c.if-value-size.false in let d = c.size.ensures in let n = ap (λ (P : Network). slice_index P.sizes c.args.x) c.network-2.ensures in omega (arith, l, d, n));
-        };
-        live = live;
-        free = sym (c.unary.ensures live) ∙ ap pos none;
-      };
+      free = free;
       supports = λ f i j pair at first. all_supports s.network (history s) c.args.x c.args.value c.places-place-items.result.now c.loop-place.place-index (subst (λ N. ArePlaces N c.args.x c.places-place-items.result.now) c.requires.incidence c.places-place-items.ensures.places) c.loop-place-test.false c.loop-place.invariant f i j pair at;
     })
