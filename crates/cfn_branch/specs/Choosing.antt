@@ -9,24 +9,16 @@ use Rattle.cfn_live.specs.Sets.{live_count}
 use Rattle.cfn_store.specs.Standing.{Standing, history}
 use Rattle.cfn_store.specs.Rooms.{sets_of}
 use Rattle.cfn_branch.specs.declared.choosing.Score.{Score}
+pub use Rattle.cfn_enforce.specs.Splits.{AllDecided, IsChoice}
 
 -- How many values of x are live.
 abbrev pub choices : Standing → ℕ → ℕ
 choices s x = live_count (sets_of s) x
 
--- Each variable has at most one live value.
-abbrev pub AllDecided : Standing → Type 0
-AllDecided s = (x : ℕ) → x < length s.network.sizes → choices s x ≤ 1
-
 -- x is open: it has two live values or more.
 pub record IsOpen (s : Standing) (x : ℕ) : Type 0 where
   pub there : x < length s.network.sizes
   pub undecided : 2 ≤ choices s x
-
--- A live value of x.
-pub record IsChoice (s : Standing) (x a : ℕ) : Type 0 where
-  pub value : IsValue s.network x a
-  pub live : IsTrue (is_live (history s) x a)
 
 -- The weight of the function of a place where it has two open variables or more, and else nothing.
 abbrev pub weight_where_open : Standing → List ℕ → Place → ℕ

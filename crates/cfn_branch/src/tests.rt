@@ -1,5 +1,7 @@
 use super::*;
+use cfn_enforce::Brancher;
 use cfn_incidence::Incidence;
+use cfn_model::Decision;
 use cfn_net::{Builder, Network};
 use cfn_store::Store;
 use std::alloc::{AllocError, Global};
@@ -34,5 +36,28 @@ fn variable_in_the_middle_is_chosen(rt: HostRuntime) -> Result<(), Fail> {
     let incidence = Incidence::build(rt.alloc(), &network)?;
     let store = Store::build(rt.alloc(), &network)?;
     assert_eq!(rt; choose(&weights, &incidence, &store), Some(1));
+    Ok(())
+}
+
+/// The decision that a brancher names at a network's root.
+fn decision_at_root<'n, B: Brancher<'n>>(
+    alloc: Global,
+    network: &'n Network,
+) -> Result<Option<Decision>, AllocError> {
+    let incidence = Incidence::build(alloc, network)?;
+    let store = Store::build(alloc, network)?;
+    let brancher = B::make(alloc, network)?;
+    Ok(brancher.choose(&store, &incidence))
+}
+
+#[test]
+fn search_names_a_decision(rt: HostRuntime) -> Result<(), Fail> {
+    let network = row(rt.alloc())?;
+    let decision = decision_at_root::<Degrees<'_>>(rt.alloc(), &network)?;
+    let middle = Decision::Is {
+        variable: 1,
+        value: 0,
+    };
+    assert_eq!(rt; decision, Some(middle));
     Ok(())
 }

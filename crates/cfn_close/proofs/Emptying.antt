@@ -1,5 +1,5 @@
 -- What a lift, and a project with a lift, make of the state between the shifts that close a leaf.
-use Rattle.std.proofs.Common.{◌≡◌, ℕ, zero, suc, ◌+◌, ◌*◌, ◌<◌, ◌≤◌, inl, inr, List, [], ◌∷◌, length, Bool, true, false, refl, sym, ap, ◌∙◌, subst, arith}
+use Rattle.std.proofs.Common.{◌≡◌, ℕ, suc, ◌+◌, ◌*◌, ◌<◌, ◌≤◌, inl, inr, List, [], ◌∷◌, length, Bool, true, refl, sym, ap, ◌∙◌, subst, arith}
 use Rattle.std.proofs.lemmas.Bool.{cases_eq, and_parts}
 use Rattle.std.proofs.lemmas.Int.{ints}
 use Rattle.std.specs.Prelude.{ℤ, pos, ◌+ℤ◌, neg_ℤ, ◌==◌, ◌&&◌, not, nat_lt, slice_index, IsTrue}
@@ -8,13 +8,13 @@ use Rattle.cfn_model.specs.declared.step.Step.TheVariants.{Project, Extend, Lift
 use Rattle.cfn_model.specs.declared.step.Event.{Event}
 use Rattle.cfn_model.specs.declared.step.Event.TheVariants.{Did, Took, Refused}
 use Rattle.cfn_model.specs.Network.{Network, IsNetwork, Fits, restrict, scope_at, arity, variable_at, dims, dims_at, entry_at, cell, cost}
-use Rattle.cfn_model.specs.Sums.{when, floor, unary, residual, residual_by, is_live, is_cut, all_live}
+use Rattle.cfn_model.specs.Sums.{when, floor, unary, residual, is_live, is_cut, all_live}
 use Rattle.cfn_model.specs.Steps.{IsPlace, IsValue, AllInRange}
 use Rattle.cfn_model.proofs.CallerLemmas.{eqb_same, eqb_other, fits_at}
 use Rattle.cfn_store.specs.Standing.{Standing, history}
 use Rattle.cfn_store.specs.Extremes.{IsPicked}
 use Rattle.cfn_close.specs.Leaves.{IsLeaf}
-use Rattle.cfn_close.specs.Shifting.{IsShutting, IsLifted, IsAmount, IsProjected, IsMade, Shifts}
+use Rattle.cfn_close.specs.Shifting.{IsShutting, IsLifted, IsProjected, IsMade}
 use Rattle.cfn_live.specs.Sets.{AreLive}
 use Rattle.cfn_store.specs.Rooms.{sets_of}
 use Rattle.cfn_net.proofs.CallerLemmas.{get_or-dims}

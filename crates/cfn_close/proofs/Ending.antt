@@ -1,16 +1,15 @@
 -- Where no cost of the assignment is left beside the floor, the floor is its total.
-use Rattle.std.proofs.Common.{◌≡◌, ◌⊎◌, ℕ, zero, suc, ◌+◌, ◌-◌, ◌<◌, ◌≤◌, min, inl, inr, List, [], ◌∷◌, length, Bool, true, false, refl, sym, ap, ◌∙◌, subst, arith}
+use Rattle.std.proofs.Common.{◌≡◌, ℕ, zero, suc, ◌<◌, ◌≤◌, min, List, [], ◌∷◌, length, refl, arith}
 use Rattle.std.proofs.lemmas.Int.{ints}
 use Rattle.std.specs.Prelude.{ℤ, pos, ◌+ℤ◌, slice_index}
 use Rattle.cfn_model.specs.declared.step.Event.{Event}
 use Rattle.cfn_model.specs.declared.step.Event.TheVariants.{Did, Took, Refused}
-use Rattle.cfn_model.specs.Network.{Network, IsNetwork, Fits, restrict, scope_at, total, cost}
+use Rattle.cfn_model.specs.Network.{Network, IsNetwork, restrict, scope_at, total}
 use Rattle.cfn_model.specs.Sums.{floor, unary, residual}
 use Rattle.cfn_model.specs.Steps.{AllInRange}
 use Rattle.cfn_model.specs.Laws.{Equivalence, sum_below}
 use Rattle.cfn_store.specs.Exact.{AllInPlace, IsExact, IsExactAlong}
 use Rattle.cfn_store.specs.Standing.{Standing, history}
-use Rattle.cfn_close.specs.Leaves.{IsLeaf}
 use Rattle.cfn_close.specs.Shifting.{IsShutting}
 
 sum_none : (f : ℕ → ℤ) (n : ℕ) → ((i : ℕ) → i < n → f i ≡ pos 0) → sum_below f n ≡ pos 0

@@ -1,3 +1,4 @@
 pub mod Steps
 pub mod Ending
 pub mod Emptying
+mod Single

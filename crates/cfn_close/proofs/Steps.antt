@@ -1,5 +1,5 @@
 -- What a step does to a store's sums and to the steps that were added.
-use Rattle.std.proofs.Common.{◌≡◌, ◌⊎◌, ℕ, zero, suc, ◌+◌, ◌-◌, ◌<◌, ◌≤◌, inl, inr, List, [], ◌∷◌, ◌++◌, length, length-append, append_assoc, Bool, true, false, refl, sym, ap, ◌∙◌, subst, arith}
+use Rattle.std.proofs.Common.{◌≡◌, ℕ, ◌<◌, inl, inr, List, [], ◌∷◌, ◌++◌, length-append, append_assoc, Bool, true, false, refl, sym, ap, ◌∙◌, subst, arith}
 use Rattle.std.proofs.lemmas.Int.{ints}
 use Rattle.std.specs.Prelude.{ℤ, pos, ◌+ℤ◌, neg_ℤ, ◌==◌, ◌&&◌, slice_index}
 use Rattle.cfn_model.specs.declared.step.Step.{Step}
@@ -7,7 +7,7 @@ use Rattle.cfn_model.specs.declared.step.Step.TheVariants.{Project, Extend, Lift
 use Rattle.cfn_model.specs.declared.step.Event.{Event}
 use Rattle.cfn_model.specs.declared.step.Event.TheVariants.{Did}
 use Rattle.cfn_model.specs.Network.{Network, variable_at}
-use Rattle.cfn_model.specs.Sums.{when, lifted, floor, unary_by, unary, residual_by, residual, is_live}
+use Rattle.cfn_model.specs.Sums.{when, floor, unary, residual, is_live}
 use Rattle.cfn_model.specs.Steps.{Allowed, Run, after}
 use Rattle.cfn_store.specs.Standing.{Standing, history, with_step}
 use Rattle.cfn_close.specs.Leaves.{IsPlain, ArePlain, AddsShifts}

@@ -4,7 +4,7 @@ use Rattle.cfn_model.specs.declared.step.Step.{Step}
 use Rattle.cfn_model.specs.declared.step.Step.TheVariants.{Project, Lift}
 use Rattle.cfn_model.specs.declared.step.Event.{Event}
 use Rattle.cfn_model.specs.declared.step.Event.TheVariants.{Did}
-use Rattle.cfn_model.specs.Network.{Network, restrict, scope_at, variable_at}
+use Rattle.cfn_model.specs.Network.{Network, restrict, scope_at}
 use Rattle.cfn_model.specs.Sums.{lifted, floor, unary_by, unary, residual_by, residual, is_live}
 use Rattle.cfn_model.specs.Steps.{CanProject, CanLift}
 use Rattle.cfn_store.specs.Standing.{Standing, history, with_step}

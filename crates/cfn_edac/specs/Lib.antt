@@ -1,2 +1,3 @@
 pub mod Revising
 pub mod Settling
+pub mod Rising

@@ -8,7 +8,7 @@ ghost use Rattle.cfn_gain.specs.Calls.{GoesOn, Does, Shows};
 ghost use Rattle.cfn_gain.specs.Gains.{Gains};
 ghost use Rattle.cfn_dac.specs.Full.{AreAllBelow};
 
-use cfn_dac::{directional, takes_part};
+use cfn_dac::{directional, open_pair, takes_part};
 use cfn_gain::{Halt, Limits, level, support_all};
 use cfn_store::Store;
 
@@ -46,7 +46,7 @@ pub(crate) fn arc(store: &mut Store<'_>, limits: Limits, f: u32) -> Result<(), H
     levels_of(store, limits, f)
 }
 
-/// Makes the variables of a function level, and then the function directional.
+/// Where two variables of a function are open, makes its variables level, and then the function directional.
 pub(crate) fn direct(
     store: &mut Store<'_>,
     limits: Limits,
@@ -61,6 +61,9 @@ pub(crate) fn direct(
     ensures directed { Shows store.old store.new result (IsDirectional store.old.network (history store.old) f) }
     ensures same { length moves.new ≡ length moves.old }
 {
+    let Some(_) = open_pair(store, f) else {
+        return Ok(());
+    };
     levels_of(store, limits, f)?;
     directional(store, limits, f, moves)
 }

@@ -1,4 +1,7 @@
+ghost use Rattle.std.specs.Prelude.{◌≤◌};
+
 use super::*;
+use cfn_enforce::Propagate;
 use cfn_gain::Limits;
 use cfn_incidence::Incidence;
 use cfn_nc::Settling;
@@ -27,6 +30,36 @@ fn what_all_tuples_cost_is_lifted(rt: HostRuntime) -> Result<(), Fail> {
     };
     if network.ub() == 10 {
         let answer = enforcer.settle(&mut store, &incidence, limits, None);
+        assert!(rt; answer == Settling::Settled);
+    }
+    Ok(())
+}
+
+/// What a propagator answers of a network's root.
+fn answer_at_root<'n, P: Propagate<'n>>(
+    alloc: Global,
+    network: &'n Network,
+    limits: Limits,
+) -> Result<Settling, AllocError>
+    requires threshold { limits.threshold ≤ network.now.upper }
+    requires steps { limits.steps ≤ 100 }
+{
+    let incidence = Incidence::build(alloc, network)?;
+    let mut store = Store::build(alloc, network)?;
+    store.reserve(100)?;
+    let mut propagator = P::make(alloc, network)?;
+    Ok(propagator.settle(&mut store, &incidence, limits, None))
+}
+
+#[test]
+fn search_settles_a_root(rt: HostRuntime) -> Result<(), Fail> {
+    let network = arc(rt.alloc())?;
+    let limits = Limits {
+        threshold: 10,
+        steps: 100,
+    };
+    if network.ub() == 10 {
+        let answer = answer_at_root::<Enforcer<'_>>(rt.alloc(), &network, limits)?;
         assert!(rt; answer == Settling::Settled);
     }
     Ok(())

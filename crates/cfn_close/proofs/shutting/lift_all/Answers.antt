@@ -1,8 +1,5 @@
-use Rattle.std.proofs.Common.{◌≡◌, ◌<◌, ◌≤◌, ◌+◌, ◌*◌, ℕ, List, length, refl, sym, ap, subst, ◌∙◌, arith}
-use Rattle.std.specs.Prelude.{slice_index}
-use Rattle.cfn_model.specs.Network.{Network, IsNetwork}
-use Rattle.cfn_store.specs.Standing.{Standing, history}
-use Rattle.cfn_close.specs.Shifting.{IsShutting}
+use Rattle.std.proofs.Common.{◌<◌, length, ap, ◌∙◌, arith}
+use Rattle.cfn_model.specs.Network.{Network}
 use Rattle.cfn_close.proofs.Emptying.{lift_more, made_network}
 use Rattle.cfn_model.specs.declared.step.Step.TheVariants.{Lift}
 use Rattle.cfn_close.proofs.shutting.lift_all.Goals as goal

@@ -1,5 +1,4 @@
-use Rattle.std.proofs.Common.{◌≡◌, ℕ, List, length}
-use Rattle.cfn_store.specs.Standing.{Standing}
+use Rattle.std.proofs.Common.{◌≡◌, ℕ, List}
 use Rattle.cfn_close.specs.Shifting.{IsShutting}
 use Rattle.cfn_close.proofs.shutting.lift_all.Given as goal
 

@@ -1,7 +1,6 @@
-use Rattle.std.proofs.Common.{◌≡◌, ◌<◌, ◌≤◌, ◌+◌, ◌*◌, ℕ, List, length, refl, sym, ap, subst, ◌∙◌, arith}
-use Rattle.std.specs.Prelude.{slice_index}
-use Rattle.cfn_model.specs.Network.{Network, IsNetwork}
-use Rattle.cfn_store.specs.Standing.{Standing, history}
+use Rattle.std.proofs.Common.{◌≡◌, ◌+◌, ℕ, List, length, sym, ap, subst, ◌∙◌, arith}
+use Rattle.cfn_model.specs.Network.{Network}
+use Rattle.cfn_store.specs.Standing.{Standing}
 use Rattle.cfn_close.specs.Shifting.{IsShutting}
 use Rattle.cfn_close.proofs.shutting.shift_all.Goals as goal
 

@@ -1,11 +1,10 @@
-use Rattle.std.proofs.Common.{◌≡◌, ◌<◌, ◌≤◌, ◌+◌, ◌-◌, ◌*◌, ℕ, List, length, refl, sym, ap, subst, ◌∙◌, arith}
-use Rattle.std.specs.Prelude.{slice_index, IsTrue}
-use Rattle.cfn_model.specs.Network.{Network, IsNetwork, arity, scope_at, variable_at}
-use Rattle.cfn_store.specs.Standing.{Standing, history}
-use Rattle.cfn_close.specs.Shifting.{IsShutting}
+use Rattle.std.proofs.Common.{◌≡◌, ◌<◌, length, sym, ap, subst, ◌∙◌, arith}
+use Rattle.std.specs.Prelude.{slice_index}
+use Rattle.cfn_model.specs.Network.{IsNetwork, arity, scope_at, variable_at}
+use Rattle.cfn_store.specs.Standing.{history}
 use Rattle.cfn_model.specs.declared.step.Step.TheVariants.{Project}
-use Rattle.cfn_model.specs.Sums.{floor, is_live}
-use Rattle.cfn_model.specs.Steps.{IsPlace, IsValue}
+use Rattle.cfn_model.specs.Sums.{floor}
+use Rattle.cfn_model.specs.Steps.{IsValue}
 use Rattle.cfn_close.proofs.Emptying.{shift_more, shift_none, shift_empty, place_of, live_kept, made_network}
 use Rattle.cfn_close.proofs.Ending.{range_of}
 use Rattle.cfn_close.proofs.shutting.shift_at.Goals.{then-is_empty-via-then-is_empty, then-is_empty-via-else-is_empty+then-lacks-eq0}

@@ -1,10 +1,8 @@
-use Rattle.std.proofs.Common.{◌≡◌, ◌<◌, ◌≤◌, ◌+◌, ◌-◌, ◌*◌, ℕ, List, length, refl, sym, ap, subst, ◌∙◌, arith}
-use Rattle.std.specs.Prelude.{slice_index, IsTrue}
-use Rattle.cfn_model.specs.Network.{Network, IsNetwork, arity, scope_at, variable_at}
-use Rattle.cfn_store.specs.Standing.{Standing, history}
+use Rattle.std.proofs.Common.{◌≤◌, length, sym, subst, ◌∙◌}
+use Rattle.cfn_model.specs.Network.{Network, IsNetwork}
+use Rattle.cfn_store.specs.Standing.{history}
 use Rattle.cfn_close.specs.Shifting.{IsShutting}
 use Rattle.cfn_model.specs.Sums.{floor}
-use Rattle.cfn_store.specs.Exact.{IsExactAlong}
 use Rattle.cfn_close.proofs.Emptying.{none_yet}
 use Rattle.cfn_close.proofs.Ending.{all_shut, reached}
 use Rattle.cfn_close.proofs.shutting.shut.Goals as goal

@@ -1,4 +1,3 @@
-use Rattle.std.proofs.Common.{◌≡◌, ◌<◌, length, arith}
 use Rattle.cfn_close.proofs.Emptying.{some_live, first_is, first_value, first_live}
 use Rattle.cfn_close.proofs.shutting.value_of.Goals as goal
 
