@@ -2,7 +2,7 @@
 use Rattle.std.proofs.Common.{◌≡◌, ℕ, List, [], ◌∷◌, map, refl, ap, Bool, true, false, not, if◌then◌else◌, ◌==◌}
 use Rattle.std.specs.Prelude.{filter}
 use Rattle.cfn_machine.specs.Pool.{Task}
-use Rattle.cfn_core.specs.declared.task.Task.{Task as HeldTask}
+use Rattle.cfn_task.specs.declared.task.Task.{Task as HeldTask}
 use Rattle.cfn_core.specs.Actions.{without}
 
 -- whether a task stays where the tasks of a leaf go

@@ -5,5 +5,4 @@ pub mod Examples
 pub mod Nodes
 pub mod Walk
 pub mod Finding
-pub mod Values
 pub mod Machine

@@ -18,7 +18,7 @@ use Rattle.cfn_core.specs.World.{World}
 use Rattle.cfn_core.specs.Actions as actions
 use Rattle.cfn_core.specs.Laws.{IsWorld, IsHanded}
 use Rattle.cfn_core.specs.Nodes.{pool_tree, IsListed}
-use Rattle.cfn_core.specs.Values.{piece_of}
+use Rattle.cfn_task.specs.Values.{piece_of}
 
 -- The network, the nodes of the pool's tree and what else the pool keeps, the word, the views of it, the notes and the
 -- tasks in hand.

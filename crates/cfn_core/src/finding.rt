@@ -6,8 +6,8 @@ ghost use Rattle.cfn_core.specs.Finding.{IsFirstIfAny, IsOutPlace, IsPlace, gran
 
 use crate::hands::out_end;
 use crate::node::{End, Node};
-use crate::task::Task;
 use cfn_proof::Path;
+use cfn_task::Task;
 
 /// A free leaf that is first among some: its place, its number and its floor.
 #[derive(Clone, Copy)]

@@ -5,15 +5,15 @@ ghost use Rattle.cfn_core.specs.World.{note_at};
 ghost use Rattle.cfn_core.specs.Actions.{Acts, CanGive, Give};
 ghost use Rattle.cfn_core.specs.Finding.{IsOutAt};
 ghost use Rattle.cfn_core.specs.Machine.{IsReplyOf, reply_of, world_of};
-ghost use Rattle.cfn_core.specs.Values.{piece_of};
+ghost use Rattle.cfn_task.specs.Values.{piece_of};
 
 use crate::action::Reply;
 use crate::editing::{lead, put};
 use crate::finding::{open_count, place_out};
 use crate::hands::let_go;
-use crate::piece::Piece;
 use crate::walk::piece_nodes;
 use crate::world::World;
+use cfn_task::Piece;
 use std::alloc::AllocError;
 
 impl World<'_> {

@@ -5,7 +5,7 @@ ghost use Rattle.cfn_core.specs.declared.node.End.TheVariants.{OutLeaf};
 ghost use Rattle.cfn_core.specs.Actions.{without};
 
 use crate::node::End;
-use crate::task::Task;
+use cfn_task::Task;
 
 /// The end of a leaf that is out to a task's worker with its grant.
 pub(crate) fn out_end(task: &Task) -> End

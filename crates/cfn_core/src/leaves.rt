@@ -5,15 +5,15 @@ ghost use Rattle.std.specs.Prelude.{◌≡◌, ◌≢◌, ◌↔◌, ◌+◌, �
 ghost use Rattle.cfn_core.specs.Actions.{Acts, IsThere, CanTake, Take, Give, Back, Recall, Sweep, without};
 ghost use Rattle.cfn_core.specs.Finding.{IsFirstFree, granted_in};
 ghost use Rattle.cfn_core.specs.Machine.{IsReplyOf, reply_of, world_of};
-ghost use Rattle.cfn_core.specs.Values.{piece_of};
+ghost use Rattle.cfn_task.specs.Values.{piece_of};
 
 use crate::action::Reply;
 use crate::editing::{recall, set_end, sweep};
 use crate::finding::{First, first_free, granted, has_open, place_of};
 use crate::hands::{let_go, out_end};
 use crate::node::End;
-use crate::task::Task;
 use crate::world::World;
+use cfn_task::Task;
 use std::alloc::AllocError;
 
 impl World<'_> {

@@ -21,17 +21,14 @@ mod hands;
 pub mod laws;
 mod leaves;
 mod node;
-mod piece;
 mod seat;
-mod task;
 mod trail;
 mod walk;
 mod word;
 mod world;
 
 pub use action::{Action, Reply};
-pub use piece::Piece;
-pub use task::Task;
+pub use cfn_task::{Piece, Task};
 pub use world::{RunMemory, World};
 
 #[cfg(test)]

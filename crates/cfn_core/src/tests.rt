@@ -6,7 +6,7 @@ ghost use Rattle.std.specs.List.{AllByRecursion};
 ghost use Rattle.cfn_model.specs.declared.limits.TheConstants.{GREATEST};
 ghost use Rattle.cfn_model.specs.Sums.{is_live, removes};
 ghost use Rattle.cfn_core.specs.Machine.{IsOf};
-ghost use Rattle.cfn_core.specs.Values.{IsTaskOf};
+ghost use Rattle.cfn_task.specs.Values.{IsTaskOf};
 
 use super::*;
 use crate::node::End;

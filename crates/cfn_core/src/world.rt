@@ -11,9 +11,9 @@ ghost use Rattle.cfn_core.specs.Machine.{IsOf, IsReplyOf, action_of, reply_of, w
 use crate::action::{Action, Reply};
 use crate::node::{End, Node};
 use crate::seat::{Seat, new_seats};
-use crate::task::Task;
 use cfn_net::{Network, Scored};
 use cfn_proof::{Block, Path};
+use cfn_task::Task;
 use std::alloc::{AllocError, Global};
 use std::marker::Model;
 

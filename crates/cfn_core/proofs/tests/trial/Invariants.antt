@@ -1,6 +1,6 @@
 use Rattle.std.proofs.Common.{◌≡◌}
 use Rattle.std.specs.List.{AllByRecursion}
-use Rattle.cfn_core.specs.Values.{IsTaskOf}
+use Rattle.cfn_task.specs.Values.{IsTaskOf}
 use Rattle.cfn_core.proofs.tests.trial.Given as goal
 
 -- the world and the tasks are of the network

@@ -4,7 +4,7 @@ use Rattle.cfn_core.specs.World.{note_at}
 use Rattle.cfn_core.specs.Actions.{Acts, IsThere, CanGive, Give, Gone}
 use Rattle.cfn_core.specs.Finding.{IsOutAt}
 use Rattle.cfn_core.specs.Machine.{Machine, world_of}
-use Rattle.cfn_core.specs.Values.{piece_of}
+use Rattle.cfn_task.specs.Values.{piece_of}
 use Rattle.cfn_core.proofs.Insides.{value}
 use Rattle.cfn_core.proofs.Pieces.{gone}
 use Rattle.cfn_core.proofs.world.World.give.Goals as goal

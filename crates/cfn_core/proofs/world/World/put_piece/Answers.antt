@@ -9,7 +9,7 @@ use Rattle.cfn_core.specs.declared.node.Node.{Node}
 use Rattle.cfn_core.specs.Nodes.{nodes_of, led}
 use Rattle.cfn_core.specs.Finding.{no_node, node_at, open_in, IsOutAt}
 use Rattle.cfn_core.specs.Machine.{Machine, world_of}
-use Rattle.cfn_core.specs.Values.{piece_of}
+use Rattle.cfn_task.specs.Values.{piece_of}
 use Rattle.cfn_core.proofs.Holding.{tasks_in}
 use Rattle.cfn_core.proofs.Insides.{value, changed}
 use Rattle.cfn_core.proofs.Pieces.{few_more, numbers_fit, put_in, opens}

@@ -25,7 +25,7 @@ pub struct Task {
 
 impl Model for Task {
     ghost use Rattle.cfn_machine.specs.Pool.{IsTask};
-    ghost use Rattle.cfn_core.specs.Values.{TaskValue};
+    ghost use Rattle.cfn_task.specs.Values.{TaskValue};
 
     ghost Value = { TaskValue };
 
@@ -39,7 +39,7 @@ impl Model for Task {
 
 impl Task {
     /// A task of a network. It takes no memory.
-    pub(crate) fn of(
+    pub fn of(
         network: &Network,
         leaf: u64,
         worker: u32,

@@ -6,7 +6,7 @@ ghost use Rattle.cfn_model.specs.Paths.{Tame};
 ghost use Rattle.cfn_model.specs.Tree.{Valid, Strict, count};
 ghost use Rattle.cfn_proof.specs.Nodes.{tree_of};
 ghost use Rattle.cfn_machine.specs.Pool.{IsPiece};
-ghost use Rattle.cfn_core.specs.Values.{piece_of};
+ghost use Rattle.cfn_task.specs.Values.{piece_of};
 
 use crate::task::Task;
 use cfn_proof::Tree;
@@ -26,7 +26,7 @@ pub struct Piece {
 impl Model for Piece {
     ghost use Rattle.std.specs.Prelude.{◌≤◌};
     ghost use Rattle.cfn_machine.specs.Pool.{IsPiece};
-    ghost use Rattle.cfn_core.specs.Values.{PieceValue, IsPieceValue};
+    ghost use Rattle.cfn_task.specs.Values.{PieceValue, IsPieceValue};
 
     ghost Value = { PieceValue };
 
@@ -88,11 +88,21 @@ impl Piece {
         ensures network { result.network ≡ self.network }
         ensures task { result.task ≡ self.task }
     {
+        let (task, _) = self.into_parts();
+        task
+    }
+
+    /// The task and the tree below its leaf. It takes no memory.
+    pub fn into_parts(self) -> (Task, Tree)
+        ensures network { result.0.network ≡ self.network }
+        ensures task { result.0.task ≡ self.task }
+        ensures tree { result.1 ≡ self.nodes }
+    {
         let Piece {
             task,
-            tree: _,
+            tree,
             threshold: _,
         } = self;
-        task
+        (task, tree)
     }
 }

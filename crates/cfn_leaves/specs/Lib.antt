@@ -1,0 +1,11 @@
+pub mod Standing
+pub mod Listed
+pub mod Value
+pub mod Ways
+pub mod Answers
+pub mod Returned
+pub mod Swept
+pub mod Read
+pub mod Walked
+pub mod Placed
+pub mod Given

@@ -1,0 +1,69 @@
+//! The opening of a pool.
+
+ghost use Rattle.std.specs.Prelude.{◌≡◌, ℕ, ◌<◌, ◌^◌, [], List, Option, IfOk};
+ghost use Rattle.cfn_model.specs.Tree.{count};
+ghost use Rattle.cfn_proof.specs.Nodes.{tree_of};
+ghost use Rattle.cfn_machine.specs.Pool.{opening_with, price};
+ghost use Rattle.cfn_leaves.specs.Value.{pool_of};
+ghost use Rattle.cfn_leaves.specs.Placed.{IsOpening};
+
+use crate::leaves::{Leaves, ROWS};
+use crate::placing::{place, reserve};
+use crate::walk::open_spots;
+use cfn_net::Network;
+use cfn_open::OpenList;
+use cfn_proof::Tree;
+use cfn_proof::laws::same_before;
+use std::alloc::{AllocError, Global};
+use std::snapshot::Snapshot;
+
+impl Leaves {
+    /// The leaves of a tree that a pool begins with, such as one open leaf: each open leaf is free, with numbers in the order
+    /// of the tree's text; no node is made yet; and the first row of bounds is that of the threshold. An `Err` is want of
+    /// memory, or of a number for a floor.
+    pub fn start(
+        alloc: Global,
+        network: &Network,
+        tree: Tree,
+        threshold: u64,
+        budget: u64,
+    ) -> Result<Leaves, AllocError>
+        requires { count (tree_of tree) < 2 ^ 64 }
+        ensures network { IfOk result (λ leaves. leaves.network ≡ network.now) }
+        ensures pool { IfOk result (λ leaves. (shares : ℕ) (best : Option (List ℕ)) → price network.now best ≡ threshold →
+            pool_of leaves (record { best = best; seen = threshold; shares = shares }) ≡ opening_with network.now shares budget (tree_of tree) best) }
+    {
+        let mut leaves = Leaves::bare(alloc, network, tree, budget)?;
+        leaves.note(network, threshold);
+        Ok(leaves)
+    }
+
+    /// The same without a row of bounds.
+    fn bare(alloc: Global, network: &Network, tree: Tree, budget: u64) -> Result<Leaves, AllocError>
+        requires { count (tree_of tree) < 2 ^ 64 }
+        ensures { IfOk result (IsOpening network.now tree budget) }
+    {
+        same_before();
+        tree.linked();
+        let walk = open_spots(alloc, &tree, network.constants())?;
+        let more = walk.spots.len();
+        let mut table = Vec::new(alloc);
+        let mut list = OpenList::make(alloc);
+        let mut spare = OpenList::make(alloc);
+        reserve(&mut table, &mut list, &mut spare, 0, more)?;
+        place(&mut table, &mut list, &walk.spots, Tree::ROOT, 1);
+        Ok(Leaves {
+            network: Snapshot::of(network),
+            tree,
+            table,
+            list,
+            spare,
+            opened: more as u64,
+            granted: 0,
+            budget,
+            begun: walk.made,
+            nodes: 0,
+            rows: Vec::with_capacity(alloc, ROWS)?,
+        })
+    }
+}

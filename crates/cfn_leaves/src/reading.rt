@@ -1,0 +1,76 @@
+//! What is read of the leaves.
+
+ghost use Rattle.std.specs.Prelude.{◌≡◌, ◌+◌, [], min};
+ghost use Rattle.cfn_model.specs.Tree.{bound};
+ghost use Rattle.cfn_proof.specs.Nodes.{tree_of};
+ghost use Rattle.cfn_machine.specs.Pool.{granted};
+ghost use Rattle.cfn_machine.specs.Pool as pool;
+ghost use Rattle.cfn_leaves.specs.Read.{lesser};
+ghost use Rattle.cfn_leaves.specs.Value.{pool_tree};
+
+use crate::entry::Entry;
+use crate::leaves::Leaves;
+use cfn_proof::laws::same_before;
+use cfn_proof::{Row, Tree};
+
+impl Leaves {
+    /// How many nodes were made since the opening: splits and closed leaves of pieces.
+    pub fn nodes(&self) -> u64
+        ensures { result ≡ self.now.nodes }
+    {
+        self.nodes
+    }
+
+    /// How many nodes may be made.
+    pub fn budget(&self) -> u64
+        ensures { result ≡ self.now.budget }
+    {
+        self.budget
+    }
+
+    /// How many nodes the budget has left beside those that were made and those that may still be made below leaves that
+    /// are out.
+    pub fn left(&self) -> u64
+        ensures { result + (self.now.nodes + granted (pool_tree self.now)) ≡ self.now.budget }
+    {
+        self.budget - (self.nodes + self.granted)
+    }
+
+    /// The rows of bounds that were noted, the first of them first.
+    pub fn rows(&self) -> &[Row]
+        ensures { result.now ≡ self.now.rows }
+    {
+        &self.rows
+    }
+
+    /// The least of a threshold and the floors of all open leaves, free or out. It takes no memory, and goes over the
+    /// table.
+    pub fn bound(&self, threshold: u64) -> u64
+        ensures { result ≡ bound self.now.network [] (pool.tree_of (pool_tree self.now)) threshold }
+    {
+        same_before();
+        let mut least = threshold;
+        for held in &self.table {
+            least = lesser(least, *held);
+        }
+        least
+    }
+
+    /// The search tree. It takes no memory.
+    pub fn finish(self) -> Tree
+        ensures { tree_of result ≡ pool.tree_of (pool_tree self) }
+    {
+        let Leaves { tree, .. } = self;
+        tree
+    }
+}
+
+/// The lesser of a number and the floor of an entry, where there is one.
+fn lesser(least: u64, held: Option<Entry>) -> u64
+    ensures { result ≡ lesser least held }
+{
+    match held {
+        Some(entry) if entry.floor < u128::from(least) => entry.floor as u64,
+        _ => least,
+    }
+}
