@@ -1,18 +1,18 @@
 -- How a run ends, from what its parts did.
 use Rattle.std.proofs.Common.{◌≡◌, ℕ, true, false, List, ◌∷◌, refl, ap, ◌∙◌, subst}
-use Rattle.std.specs.Prelude.{Result, Ok, Err, IsErr, OnOk, OnErr, is_ok, is_err, if◌then◌else◌}
+use Rattle.std.specs.Prelude.{Result, Ok, Err, IsErr, OnOk, OnErr, is_ok, is_err, if◌then◌else◌, length}
 use Rattle.cfn_model.specs.declared.reading.Refusal.{Refusal}
 use Rattle.cfn_model.specs.declared.report.Row.{Row}
 use Rattle.cfn_model.specs.declared.report.ResultWord.{ResultWord}
-use Rattle.cfn_model.specs.Network.{Network}
+use Rattle.cfn_model.specs.Network.{Network, Least}
 use Rattle.cfn_model.specs.Certificate.{Certificate}
 use Rattle.cfn_model.specs.Reading.{reading}
 use Rattle.cfn_model.specs.Text.{spelling, report, write_fault_text}
-use Rattle.cfn_report.specs.Texts.{migrated_text}
+use Rattle.cfn_report.specs.Texts.{migrated_text, trial_text}
 use Rattle.cfn_desk.specs.Outside.{Outside, Call, Load, Open, Bytes, Discard, HasFile, after, says}
 use Rattle.cfn_line.specs.Appending.{Appends, IsCut}
 use Rattle.cfn_line.specs.declared.channel.Channel.TheVariants.{File, Screen}
-use Rattle.cfn_cli.specs.Request.{SolveRequest, CostRequest}
+use Rattle.cfn_cli.specs.Request.{SolveRequest, CostRequest, NormalRequest, TrialRequest}
 use Rattle.cfn_app.specs.declared.format.Format.TheVariants.{Wcsp}
 use Rattle.cfn_wcsp.specs.Giving.{Fails}
 use Rattle.cfn_wcsp.specs.declared.fault.ReadFault.{ReadFault}
@@ -24,10 +24,16 @@ use Rattle.cfn_app.specs.Endings.{Ends, said, cut}
 use Rattle.cfn_app.specs.Headline.{Promise}
 use Rattle.cfn_app.specs.Loading.{ReadsAs, RefusesAs, SaysUnread, Unloaded, Unread, loaded}
 use Rattle.cfn_app.specs.Loading as loading
+use Rattle.cfn_wcspwrite.specs.Canonical.{canonical}
+use Rattle.cfn_app.specs.Normalizing.{Normalizes}
+use Rattle.cfn_app.specs.Normalizing as normalizing
 use Rattle.cfn_app.specs.Costing.{Costs, Prices}
 use Rattle.cfn_app.specs.Costing as costing
 use Rattle.cfn_app.specs.Solving.{Solves, Searches, Outputs, Wrote, NotWritten, status_of}
 use Rattle.cfn_app.specs.Solving as solving
+use Rattle.cfn_gen.specs.Generator.{instance}
+use Rattle.cfn_app.specs.Trying.{Tries, trial_text_of}
+use Rattle.cfn_app.specs.Trying as trying
 use Rattle.cfn_app.specs.Migrating.{Rewrites}
 use Rattle.cfn_app.specs.Migrating as migrating
 
@@ -88,6 +94,15 @@ module _ (old : Outside) (now : List Call) (status : Status) where
   costs_unread middle ask bytes has at unread =
       costing.unread bytes has (subst (λ (cs : List Call). Unread Wcsp bytes cs now status) (ap (λ o. o.calls) at) unread)
 
+  -- the canonical text was asked for
+  pub normalizes_read : (middle last : Outside) (ask : NormalRequest) (bytes : List ℕ) (P : Network) → HasFile old ask.file bytes → middle ≡ after (Load ask.file (Bytes bytes)) old → ReadsAs Wcsp bytes P → ReadsAs Wcsp (canonical P) P → last ≡ middle → Ends (record { calls = last.calls; text = canonical P; status = Done }) now status → Normalizes ask old now status
+  normalizes_read middle last ask bytes P has at reads again same ends =
+      normalizing.normalized bytes P has reads again (subst (λ (cs : List Call). Ends (record { calls = cs; text = canonical P; status = Done }) now status) (once middle last ask.file bytes at same) ends)
+
+  pub normalizes_unread : (middle : Outside) (ask : NormalRequest) (bytes : List ℕ) → HasFile old ask.file bytes → middle ≡ after (Load ask.file (Bytes bytes)) old → Unread Wcsp bytes middle.calls now status → Normalizes ask old now status
+  normalizes_unread middle ask bytes has at unread =
+      normalizing.unread bytes has (subst (λ (cs : List Call). Unread Wcsp bytes cs now status) (ap (λ o. o.calls) at) unread)
+
 module _ (old new : Outside) (status : Status) where
   -- a network was to be searched
   pub solves_unread : (middle : Outside) (ask : SolveRequest) (bytes : List ℕ) → HasFile old ask.file bytes → middle ≡ after (Load ask.file (Bytes bytes)) old → new.files ≡ middle.files → Unread Wcsp bytes middle.calls new.calls status → Solves ask old new status
@@ -97,3 +112,12 @@ module _ (old new : Outside) (status : Status) where
   pub solves_read : (middle last : Outside) (ask : SolveRequest) (bytes : List ℕ) (P : Network) → HasFile old ask.file bytes → middle ≡ after (Load ask.file (Bytes bytes)) old → ReadsAs Wcsp bytes P → last ≡ middle → Searches P ask last new status → Solves ask old new status
   solves_read middle last ask bytes P has at reads same searches =
       solving.read bytes P has reads (subst (λ o. Searches P ask o new status) (same ∙ at) searches)
+
+-- a network was drawn and solved
+pub tried : {T E : Type 0} (ask : TrialRequest) (P : Network) (least variables functions : ℕ) (before now : Outside) (result : Result T E) (status : Status) → P ≡ instance ask.seed ask.size → variables ≡ length P.sizes → functions ≡ length P.functions → Least P least →
+    Appends Screen before (trial_text variables functions least) result now → status ≡ (if is_ok result then Done else Fault) → Tries ask before.calls now.calls status
+tried ask P least variables functions before now result status drawn some many is one due =
+    let text : trial_text variables functions least ≡ trial_text_of (instance ask.seed ask.size) least =
+    ap (λ v. trial_text v functions least) some ∙ ap (λ e. trial_text (length P.sizes) e least) many ∙ ap (λ Q. trial_text_of Q least) drawn in
+    trying.solved least (subst (λ Q. Least Q least) drawn is)
+    (ends_saying before.calls before now (trial_text_of (instance ask.seed ask.size) least) result Done status refl (subst (λ (t : List ℕ). Appends Screen before t result now) text one) due)

@@ -4,8 +4,11 @@ mod CostStating
 mod Counting
 mod Ends
 mod Files
+mod LeastCost
 mod Pairing
 mod MigrateStating
+mod NormalStating
 mod SolveStating
 mod Stating
+mod TrialStating
 mod Writing

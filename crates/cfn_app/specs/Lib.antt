@@ -4,6 +4,8 @@ pub mod Endings
 pub mod Headline
 pub mod Loading
 pub mod Migrating
+pub mod Normalizing
 pub mod Runs
 pub mod Solving
 pub mod Statuses
+pub mod Trying

@@ -5,16 +5,18 @@ use Rattle.cfn_model.specs.declared.report.ResultWord.{ResultWord}
 use Rattle.cfn_model.specs.declared.report.ResultWord.TheVariants.{Optimum, Budget, Memory}
 use Rattle.cfn_model.specs.declared.report.ResultWord.TheVariants as words
 use Rattle.cfn_model.specs.declared.reading.Refusal.{Refusal}
-use Rattle.cfn_model.specs.Network.{Network, Fits, cost as cost_at}
+use Rattle.cfn_model.specs.Network.{Network, Fits, Least, cost as cost_at}
 use Rattle.cfn_model.specs.Certificate.{Certificate, Good, in_second}
 use Rattle.cfn_model.specs.Text.{Spells, spelling, report, refusal_text, memory_fault_text, cost_text, values_fault_text, value_fault_text}
 use Rattle.cfn_net.specs.Fitting.{IsFirstMisfit}
 use Rattle.cfn_fault.specs.declared.kind.FaultKind.{FaultKind}
 use Rattle.cfn_fault.specs.Fault as faulty
 use Rattle.cfn_check.specs.Checking.{cost_of}
+use Rattle.cfn_wcspwrite.specs.Canonical.{canonical}
+use Rattle.cfn_gen.specs.Generator.{instance}
 use Rattle.cfn_report.specs.Texts.{usage_text, verified_text, refused_text, migrated_text}
 use Rattle.cfn_desk.specs.Outside.{Outside, Call, Open, Close, Writing, HasFile, IsIdle, Stored, faults, puts, says}
-use Rattle.cfn_cli.specs.Request.{Request, solve, check, cost, migrate, SolveRequest, CheckRequest, CostRequest, MigrateRequest}
+use Rattle.cfn_cli.specs.Request.{Request, solve, check, cost, normal, trial, migrate, SolveRequest, CheckRequest, CostRequest, NormalRequest, TrialRequest, MigrateRequest}
 use Rattle.cfn_app.specs.declared.format.Format.TheVariants.{Wcsp}
 use Rattle.cfn_app.specs.declared.status.Status.{Status}
 use Rattle.cfn_app.specs.declared.status.Status.TheVariants.{Done, Nothing, BudgetSpent, Usage, Refused, Fault, NoMemory, Disproved}
@@ -22,6 +24,7 @@ use Rattle.cfn_app.specs.Endings.{IsHindered}
 use Rattle.cfn_app.specs.Headline.{Promise}
 use Rattle.cfn_app.specs.Loading.{ReadsAs, RefusesAs, Paired, Tells, loaded}
 use Rattle.cfn_app.specs.Checking.{Verifies}
+use Rattle.cfn_app.specs.Trying.{trial_text_of}
 
 -- The count of failed calls: it rose with the status of a fault, and with no other.
 abbrev pub Counts : List Call → List Call → Status → Type 0
@@ -152,6 +155,53 @@ pub record CostStatus (ask : CostRequest) (old new : Outside) (status : Status) 
   pub costed : (bytes : List ℕ) (P : Network) → Tells old ask.file bytes → ReadsAs Wcsp bytes P → Fits P.sizes ask.values → (status ≡ Done) ⊎ IsHindered status
   pub misfits : (bytes : List ℕ) (P : Network) → Tells old ask.file bytes → ReadsAs Wcsp bytes P → (Fits P.sizes ask.values → ⊥) → (status ≡ Refused) ⊎ IsHindered status
 
+-- ---- normal
+
+-- The canonical text of the file's network was said, and reads as that same network; so of a file that has that text, the
+-- same text is said.
+abbrev pub Normalized : NormalRequest → Outside → Outside → Type 0
+Normalized ask old new =
+    (bytes : List ℕ) × (P : Network) × HasFile old ask.file bytes × ReadsAs Wcsp bytes P × ReadsAs Wcsp (canonical P) P × Says old (loaded ask.file bytes old.calls) (canonical P) new
+
+abbrev pub NormalSays : NormalRequest → Outside → Outside → Status → Type 0
+NormalSays ask old new Done = Normalized ask old new
+NormalSays ask old new Nothing = ⊥
+NormalSays ask old new BudgetSpent = ⊥
+NormalSays ask old new Usage = ⊥
+NormalSays ask old new Refused = FileRefused (λ bytes. loaded ask.file bytes old.calls) ask.file old new
+NormalSays ask old new Fault = Unit {0}
+NormalSays ask old new NoMemory = SaysNoMemory old new
+NormalSays ask old new Disproved = ⊥
+
+-- What a status of `normal` says; a file that is refused ends with that, and the canonical text of one that reads as a
+-- network is said.
+pub record NormalStatus (ask : NormalRequest) (old new : Outside) (status : Status) : Type 0 where
+  pub says : NormalSays ask old new status
+  pub refused : (bytes : List ℕ) (refusal : Refusal) → Tells old ask.file bytes → RefusesAs Wcsp bytes refusal → (status ≡ Refused) ⊎ IsHindered status
+  pub normalized : (bytes : List ℕ) (P : Network) → Tells old ask.file bytes → ReadsAs Wcsp bytes P → (status ≡ Done) ⊎ IsHindered status
+
+-- ---- trial
+
+-- The least cost of the network of the seed and size was said.
+abbrev pub Tried : TrialRequest → Outside → Outside → Type 0
+Tried ask old new =
+    (least : ℕ) × Least (instance ask.seed ask.size) least × Says old old.calls (trial_text_of (instance ask.seed ask.size) least) new
+
+abbrev pub TrialSays : TrialRequest → Outside → Outside → Status → Type 0
+TrialSays ask old new Done = Tried ask old new
+TrialSays ask old new Nothing = ⊥
+TrialSays ask old new BudgetSpent = ⊥
+TrialSays ask old new Usage = ⊥
+TrialSays ask old new Refused = ⊥
+TrialSays ask old new Fault = Unit {0}
+TrialSays ask old new NoMemory = SaysNoMemory old new
+TrialSays ask old new Disproved = ⊥
+
+-- What a status of `trial` says; where no call of the desk fails and memory is not refused, the least cost is said.
+pub record TrialStatus (ask : TrialRequest) (old new : Outside) (status : Status) : Type 0 where
+  pub says : TrialSays ask old new status
+  pub tried : (status ≡ Done) ⊎ IsHindered status
+
 -- ---- migrate
 
 -- The certificate is good, and it was written in the second version, which is as good: under the name that was asked for
@@ -206,6 +256,8 @@ pub record Statuses (request : Option Request) (old new : Outside) (status : Sta
   pub solves : (ask : SolveRequest) → request ≡ Some (solve ask) → SolveStatus ask old new status
   pub checks : (ask : CheckRequest) → request ≡ Some (check ask) → CheckStatus ask old new status
   pub costs : (ask : CostRequest) → request ≡ Some (cost ask) → CostStatus ask old new status
+  pub normalizes : (ask : NormalRequest) → request ≡ Some (normal ask) → NormalStatus ask old new status
+  pub tries : (ask : TrialRequest) → request ≡ Some (trial ask) → TrialStatus ask old new status
   pub migrates : (ask : MigrateRequest) → request ≡ Some (migrate ask) → MigrateStatus ask old new status
   pub counts : Counts old.calls new.calls status
   pub idle : IsIdle old.calls → IsIdle new.calls

@@ -2,10 +2,12 @@
 //!
 //! `run` reads the words of the command line, loads and reads the file, and then solves it, writes the certificate and
 //! says the report; or judges the certificate that it loaded, and says its bounds or its first line that fails, or writes
-//! it in the second version; or says the cost of an assignment. How it may end, with each call of the desk, is defined in specs/Runs.antt; what each status
+//! it in the second version; or says the cost of an assignment, or the file's network in its canonical text; or draws a
+//! network and says its least cost. How it may end, with each call of the desk, is defined in specs/Runs.antt; what each status
 //! says in specs/Statuses.antt; and what a report promises in specs/Headline.antt.
 //!
-//! - `program` has `run`, and `solving`, `checking`, `costing` and `migrating` have a command each, as specs/ has.
+//! - `program` has `run`, and `solving`, `checking`, `costing`, `normalizing`, `trying` and `migrating` have a command each,
+//!   as specs/ has.
 //! - `loading` goes from the names of files to bytes and a network in a `format`, and `output` writes a certificate and
 //!   says its report. `status` has the statuses.
 //! - A `Gate` is what the workers of a search pass; one works, and passes none.
@@ -17,10 +19,12 @@ mod format;
 mod gate;
 mod loading;
 mod migrating;
+mod normalizing;
 mod output;
 mod program;
 mod solving;
 mod status;
+mod trying;
 
 pub use gate::{Gate, OpenGate, Point};
 pub use program::run;

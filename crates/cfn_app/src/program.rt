@@ -10,8 +10,10 @@ use crate::checking::check_file;
 use crate::costing::cost_file;
 use crate::gate::Gate;
 use crate::migrating::migrate_file;
+use crate::normalizing::normalize_file;
 use crate::solving::solve_file;
 use crate::status::{Status, ending};
+use crate::trying::try_drawn;
 use cfn_cli::{CliFault, Command};
 use cfn_desk::Desk;
 use std::alloc::Global;
@@ -56,6 +58,8 @@ fn end_of<R, D: Desk, G: Gate + Sync>(
         Ok(Command::Solve(ask)) => solve_file(alloc, &ask, desk),
         Ok(Command::Check(ask)) => check_file(alloc, &ask, desk),
         Ok(Command::Cost(ask)) => cost_file(alloc, &ask, desk),
+        Ok(Command::Normal(ask)) => normalize_file(alloc, &ask, desk),
+        Ok(Command::Trial(ask)) => try_drawn(alloc, &ask, desk),
         Ok(Command::Migrate(ask)) => migrate_file(alloc, &ask, desk),
         Err(CliFault::Usage) => ending(cfn_report::write_usage(desk), Status::Usage),
         Err(CliFault::Memory) => ending(cfn_report::write_memory_fault(desk), Status::NoMemory),

@@ -4,7 +4,7 @@ use Rattle.clap.specs.Words.{Row, Text, all_of, first_of}
 use Rattle.std.specs.Prelude.{IsErrAnd}
 use Rattle.cfn_cli.specs.declared.fault.CliFault.{CliFault}
 use Rattle.cfn_cli.specs.declared.fault.CliFault.TheVariants.{Usage}
-use Rattle.cfn_cli.specs.Request.{check_of, cost_of, migrate_in, number_of, solve_in, values_of}
+use Rattle.cfn_cli.specs.Request.{check_of, cost_of, migrate_in, normal_of, number_of, solve_in, trial_of, values_of}
 
 -- A fault of any kind, where nothing is asked for.
 pub nothing_asked : {T X : Type 0} (r : Result T CliFault) (asked : Option X) → asked ≡ None
@@ -58,6 +58,32 @@ pub check_without_certificate : (rows : List Row) (file : Text) → first_of (co
     → first_of (codes "certificate") rows ≡ None → check_of rows ≡ None
 unfolding check_of
 check_without_certificate rows file e1 e2 = rw (e1, e2) refl
+
+pub normal_made : (rows : List Row) (file : Text) → first_of (codes "file") rows ≡ Some file → normal_of rows ≡ Some (record { file = file })
+unfolding normal_of
+normal_made rows file e1 = rw e1 refl
+
+pub normal_without_file : (rows : List Row) → first_of (codes "file") rows ≡ None → normal_of rows ≡ None
+unfolding normal_of
+normal_without_file rows e1 = rw e1 refl
+
+pub trial_made : (rows : List Row) (seed size workers : ℕ) → number_of (codes "seed") 0 65536 rows ≡ Some seed → number_of (codes "size") 1 200 rows ≡ Some size
+    → number_of (codes "workers") 1 64 rows ≡ Some workers → trial_of rows ≡ Some (record { seed = seed; size = size; workers = workers })
+unfolding trial_of
+trial_made rows seed size workers e1 e2 e3 = rw (e1, e2, e3) refl
+
+pub trial_without_seed : (rows : List Row) → number_of (codes "seed") 0 65536 rows ≡ None → trial_of rows ≡ None
+unfolding trial_of
+trial_without_seed rows e1 = rw e1 refl
+
+pub trial_without_size : (rows : List Row) (seed : ℕ) → number_of (codes "seed") 0 65536 rows ≡ Some seed → number_of (codes "size") 1 200 rows ≡ None → trial_of rows ≡ None
+unfolding trial_of
+trial_without_size rows seed e1 e2 = rw (e1, e2) refl
+
+pub trial_without_workers : (rows : List Row) (seed size : ℕ) → number_of (codes "seed") 0 65536 rows ≡ Some seed → number_of (codes "size") 1 200 rows ≡ Some size
+    → number_of (codes "workers") 1 64 rows ≡ None → trial_of rows ≡ None
+unfolding trial_of
+trial_without_workers rows seed size e1 e2 e3 = rw (e1, e2, e3) refl
 
 pub migrate_made : (rows : List Row) (file certificate out : Text) → first_of (codes "file") rows ≡ Some file
     → first_of (codes "certificate") rows ≡ Some certificate → first_of (codes "out") rows ≡ Some out

@@ -23,6 +23,14 @@ certificate_rule = record (new_rule (codes "certificate")) { required = true }
 unfoldable pub out_rule : Rule
 out_rule = record (new_rule (codes "out")) { required = true }
 
+-- SEED
+unfoldable pub seed_rule : Rule
+seed_rule = record (new_rule (codes "seed")) { required = true; parser = Some number }
+
+-- SIZE
+unfoldable pub size_rule : Rule
+size_rule = record (new_rule (codes "size")) { required = true; parser = Some number }
+
 -- [--workers W], and 1 where it is left out
 unfoldable pub workers_rule : Rule
 workers_rule = record (new_rule (codes "workers")) {
@@ -60,12 +68,20 @@ check_app = with_rule (with_rule (new_app (codes "check")) file_rule) certificat
 unfoldable pub cost_app : App
 cost_app = with_rule (with_rule (new_app (codes "cost")) file_rule) values_rule
 
+-- normal FILE
+unfoldable pub normal_app : App
+normal_app = with_rule (new_app (codes "normal")) file_rule
+
+-- trial SEED SIZE [--workers W]
+unfoldable pub trial_app : App
+trial_app = with_rule (with_rule (with_rule (new_app (codes "trial")) seed_rule) size_rule) workers_rule
+
 -- migrate FILE CERT OUT
 unfoldable pub migrate_app : App
 migrate_app = with_rule (with_rule (with_rule (new_app (codes "migrate")) file_rule) certificate_rule) out_rule
 
 -- The program, which wants one of its commands.
 unfoldable pub command_line : App
-command_line = with_subcommand (with_subcommand (with_subcommand (with_subcommand
+command_line = with_subcommand (with_subcommand (with_subcommand (with_subcommand (with_subcommand (with_subcommand
     (on_top (λ s. record s { subcommand_required = true }) (new_app (codes "wcspsolve")))
-    solve_app.top) check_app.top) cost_app.top) migrate_app.top
+    solve_app.top) check_app.top) cost_app.top) normal_app.top) trial_app.top) migrate_app.top

@@ -8,10 +8,12 @@ use Rattle.clap.specs.Words.{Kinds, Row, Text, all_of, fault_of, first_of, subco
 use Rattle.clap.specs.ValueTests.{is_unsigned_in}
 use Rattle.cfn_cli.specs.Line.{command_line}
 use Rattle.cfn_cli.specs.declared.command.Command.{Command}
-use Rattle.cfn_cli.specs.declared.command.Command.TheVariants.{Solve, Check, Cost, Migrate}
+use Rattle.cfn_cli.specs.declared.command.Command.TheVariants.{Solve, Check, Cost, Normal, Trial, Migrate}
 use Rattle.cfn_cli.specs.declared.command.SolveArguments.{SolveArguments}
 use Rattle.cfn_cli.specs.declared.command.CheckArguments.{CheckArguments}
 use Rattle.cfn_cli.specs.declared.command.CostArguments.{CostArguments}
+use Rattle.cfn_cli.specs.declared.command.NormalArguments.{NormalArguments}
+use Rattle.cfn_cli.specs.declared.command.TrialArguments.{TrialArguments}
 use Rattle.cfn_cli.specs.declared.command.MigrateArguments.{MigrateArguments}
 
 -- ---- requests
@@ -30,6 +32,14 @@ pub record CostRequest : Type 0 where
   pub file : Text
   pub values : List ℕ
 
+pub record NormalRequest : Type 0 where
+  pub file : Text
+
+pub record TrialRequest : Type 0 where
+  pub seed : ℕ
+  pub size : ℕ
+  pub workers : ℕ
+
 pub record MigrateRequest : Type 0 where
   pub file : Text
   pub certificate : Text
@@ -39,6 +49,8 @@ pub data Request : Type 0 where
   solve : SolveRequest → Request
   check : CheckRequest → Request
   cost : CostRequest → Request
+  normal : NormalRequest → Request
+  trial : TrialRequest → Request
   migrate : MigrateRequest → Request
 
 -- ---- the request that a command holds
@@ -57,6 +69,12 @@ spoken_check a = record { file = string_bytes a.file; certificate = string_bytes
 abbrev pub spoken_cost : CostArguments → CostRequest
 spoken_cost a = record { file = string_bytes a.file; values = a.values.items }
 
+abbrev pub spoken_normal : NormalArguments → NormalRequest
+spoken_normal a = record { file = string_bytes a.file }
+
+abbrev pub spoken_trial : TrialArguments → TrialRequest
+spoken_trial a = record { seed = a.seed; size = a.size; workers = a.workers }
+
 abbrev pub spoken_migrate : MigrateArguments → MigrateRequest
 spoken_migrate a = record { file = string_bytes a.file; certificate = string_bytes a.certificate; out = string_bytes a.out }
 
@@ -64,6 +82,8 @@ abbrev pub request : Command → Request
 request (Solve a) = solve (spoken_solve a)
 request (Check a) = check (spoken_check a)
 request (Cost a) = cost (spoken_cost a)
+request (Normal a) = normal (spoken_normal a)
+request (Trial a) = trial (spoken_trial a)
 request (Migrate a) = migrate (spoken_migrate a)
 
 -- ---- the numbers
@@ -122,6 +142,16 @@ cost_of rows = option_and_then (λ file. option_map (λ values. record {
   values = values;
 }) (option_and_then values_of (all_of (codes "values") rows))) (first_of (codes "file") rows)
 
+unfoldable pub normal_of : List Row → Option NormalRequest
+normal_of rows = option_map (λ file. record { file = file }) (first_of (codes "file") rows)
+
+unfoldable pub trial_of : List Row → Option TrialRequest
+trial_of rows = option_and_then (λ seed. option_and_then (λ size. option_map (λ workers. record {
+  seed = seed;
+  size = size;
+  workers = workers;
+}) (number_of (codes "workers") 1 64 rows)) (number_of (codes "size") 1 200 rows)) (number_of (codes "seed") 0 65536 rows)
+
 -- What the rows of `migrate` say.
 unfoldable pub migrate_in : List Row → Option MigrateRequest
 migrate_in rows = option_and_then (λ file. option_and_then (λ certificate. option_map (λ out. record {
@@ -142,7 +172,9 @@ request_named name rows =
     if bytes_eq name (codes "solve") then option_map solve (solve_of rows)
     else (if bytes_eq name (codes "check") then option_map check (check_of rows)
     else (if bytes_eq name (codes "cost") then option_map cost (cost_of rows)
-    else (if bytes_eq name (codes "migrate") then option_map migrate (migrate_of rows) else None)))
+    else (if bytes_eq name (codes "normal") then option_map normal (normal_of rows)
+    else (if bytes_eq name (codes "trial") then option_map trial (trial_of rows)
+    else (if bytes_eq name (codes "migrate") then option_map migrate (migrate_of rows) else None)))))
 
 abbrev pub request_from : Option (Text × List Row) → Option Request
 request_from = option_and_then (λ met. request_named met.0 met.1)
@@ -171,10 +203,22 @@ abbrev pub IfSolve : Command → (SolveArguments → Type 0) → Type 0
 IfSolve (Solve a) P = P a
 IfSolve (Check a) P = Unit {0}
 IfSolve (Cost a) P = Unit {0}
+IfSolve (Normal a) P = Unit {0}
+IfSolve (Trial a) P = Unit {0}
 IfSolve (Migrate a) P = Unit {0}
 
 abbrev pub IfCost : Command → (CostArguments → Type 0) → Type 0
 IfCost (Solve a) P = Unit {0}
 IfCost (Check a) P = Unit {0}
 IfCost (Cost a) P = P a
+IfCost (Normal a) P = Unit {0}
+IfCost (Trial a) P = Unit {0}
 IfCost (Migrate a) P = Unit {0}
+
+abbrev pub IfTrial : Command → (TrialArguments → Type 0) → Type 0
+IfTrial (Solve a) P = Unit {0}
+IfTrial (Check a) P = Unit {0}
+IfTrial (Cost a) P = Unit {0}
+IfTrial (Normal a) P = Unit {0}
+IfTrial (Trial a) P = P a
+IfTrial (Migrate a) P = Unit {0}

@@ -9,6 +9,10 @@ pub enum Command {
     Check(CheckArguments),
     /// `cost FILE VALUES..`
     Cost(CostArguments),
+    /// `normal FILE`
+    Normal(NormalArguments),
+    /// `trial SEED SIZE [--workers W]`
+    Trial(TrialArguments),
     /// `migrate FILE CERT OUT`
     Migrate(MigrateArguments),
 }
@@ -43,6 +47,24 @@ pub struct CostArguments {
     pub file: String,
     /// A value for each variable, in order: at least one.
     pub values: Vec<u32>,
+}
+
+/// A network to say in its canonical text.
+#[derive(Debug, Drop)]
+pub struct NormalArguments {
+    /// The name of the file that the network is read from.
+    pub file: String,
+}
+
+/// A drawn network to solve.
+#[derive(Debug, Drop)]
+pub struct TrialArguments {
+    /// The seed that its costs are drawn from: 0 to 65,536.
+    pub seed: u32,
+    /// How many variables it has: 1 to 200.
+    pub size: u32,
+    /// How many workers are asked for: 1 to 64, and 1 where the words give no number.
+    pub workers: u8,
 }
 
 /// A certificate to write in the second version, and the file that it is for.

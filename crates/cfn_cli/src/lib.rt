@@ -3,6 +3,8 @@
 //!     wcspsolve solve FILE CERT [--workers W] [--budget B]
 //!     wcspsolve check FILE CERT
 //!     wcspsolve cost FILE VALUES..
+//!     wcspsolve normal FILE
+//!     wcspsolve trial SEED SIZE [--workers W]
 //!     wcspsolve migrate FILE CERT OUT
 //!
 //! The crate `clap` says which word is which argument, by the command that `line` builds. `reading`
@@ -17,7 +19,10 @@ mod line;
 mod parsing;
 mod reading;
 
-pub use command::{CheckArguments, Command, CostArguments, MigrateArguments, SolveArguments};
+pub use command::{
+    CheckArguments, Command, CostArguments, MigrateArguments, NormalArguments, SolveArguments,
+    TrialArguments,
+};
 pub use fault::CliFault;
 pub use parsing::parse;
 

@@ -3,7 +3,7 @@
 ghost use Rattle.std.specs.Prelude.{◌≡◌, IfOk, false};
 ghost use Rattle.clap.specs.Words.{rule_of};
 ghost use Rattle.cfn_cli.specs.Building.{Builds};
-ghost use Rattle.cfn_cli.specs.Line.{budget_rule, certificate_rule, check_app, command_line, cost_app, file_rule, migrate_app, out_rule, solve_app, values_rule, workers_rule};
+ghost use Rattle.cfn_cli.specs.Line.{budget_rule, certificate_rule, check_app, command_line, cost_app, file_rule, migrate_app, normal_app, out_rule, seed_rule, size_rule, solve_app, trial_app, values_rule, workers_rule};
 
 use clap::{Arg, ArgAction, Command, value_parser};
 use std::alloc::{AllocError, Global};
@@ -15,12 +15,16 @@ pub(crate) fn command_line<'a>(alloc: Global) -> Result<Command<'a>, AllocError>
     let solve = solve(alloc)?;
     let check = check(alloc)?;
     let cost = cost(alloc)?;
+    let normal = normal(alloc)?;
+    let trial = trial(alloc)?;
     let migrate = migrate(alloc)?;
     Command::new(alloc, "wcspsolve")
         .subcommand_required(true)
         .subcommand(solve)?
         .subcommand(check)?
         .subcommand(cost)?
+        .subcommand(normal)?
+        .subcommand(trial)?
         .subcommand(migrate)
 }
 
@@ -48,6 +52,21 @@ fn cost<'a>(alloc: Global) -> Result<Command<'a>, AllocError>
     Command::new(alloc, "cost")
         .arg(file(alloc))?
         .arg(values(alloc))
+}
+
+fn normal<'a>(alloc: Global) -> Result<Command<'a>, AllocError>
+    ensures { IfOk result (Builds normal_app) }
+{
+    Command::new(alloc, "normal").arg(file(alloc))
+}
+
+fn trial<'a>(alloc: Global) -> Result<Command<'a>, AllocError>
+    ensures { IfOk result (Builds trial_app) }
+{
+    Command::new(alloc, "trial")
+        .arg(seed(alloc))?
+        .arg(size(alloc))?
+        .arg(workers(alloc))
 }
 
 fn migrate<'a>(alloc: Global) -> Result<Command<'a>, AllocError>
@@ -81,6 +100,26 @@ fn out<'a>(alloc: Global) -> Arg<'a>
     ensures local { result.global ≡ false }
 {
     Arg::new(alloc, "out").required(true)
+}
+
+#[tactic(auto, unfolding(crate::specs::Line::seed_rule))]
+fn seed<'a>(alloc: Global) -> Arg<'a>
+    ensures rule { rule_of result ≡ seed_rule }
+    ensures local { result.global ≡ false }
+{
+    Arg::new(alloc, "seed")
+        .required(true)
+        .value_parser(value_parser!(u64))
+}
+
+#[tactic(auto, unfolding(crate::specs::Line::size_rule))]
+fn size<'a>(alloc: Global) -> Arg<'a>
+    ensures rule { rule_of result ≡ size_rule }
+    ensures local { result.global ≡ false }
+{
+    Arg::new(alloc, "size")
+        .required(true)
+        .value_parser(value_parser!(u64))
 }
 
 #[tactic(auto, unfolding(crate::specs::Line::workers_rule))]

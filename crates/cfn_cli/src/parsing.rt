@@ -2,7 +2,7 @@
 
 ghost use Rattle.std.specs.Prelude.{◌≡◌, ◌≤◌, ◌<◌, ◌^◌, Some, None, IfErr, IfOk, length, map};
 ghost use Rattle.std.specs.List.{All};
-ghost use Rattle.cfn_cli.specs.Request.{IfCost, IfSolve, request, request_of};
+ghost use Rattle.cfn_cli.specs.Request.{IfCost, IfSolve, IfTrial, request, request_of};
 
 use crate::command::Command;
 use crate::fault::{CliFault, fault_of};
@@ -22,6 +22,8 @@ pub fn parse(alloc: Global, words: &[&str]) -> Result<Command, CliFault>
     ensures budget { IfOk result (λ c. IfSolve c (λ s. s.budget ≤ 9223372036854775807)) }
     ensures values { IfOk result (λ c. IfCost c (λ k. All (λ v. v < 2 ^ 32) k.values.items)) }
     ensures some_value { IfOk result (λ c. IfCost c (λ k. 0 < length k.values.items)) }
+    ensures seed { IfOk result (λ c. IfTrial c (λ t. t.seed ≤ 65536)) }
+    ensures size { IfOk result (λ c. IfTrial c (λ t. (1 ≤ t.size) × (t.size ≤ 200))) }
 {
     let line = command_line(alloc)?;
     match line.try_get_matches_from(words) {

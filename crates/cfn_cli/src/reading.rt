@@ -3,9 +3,12 @@
 ghost use Rattle.std.specs.Prelude.{◌≡◌, ◌≤◌, ◌<◌, ◌^◌, Some, None, IfErr, IfOk, IfSome, length, map};
 ghost use Rattle.std.specs.List.{All};
 ghost use Rattle.clap.specs.Words.{first_of, found_of, rows_of, subcommand_rows_of};
-ghost use Rattle.cfn_cli.specs.Request.{IfCost, IfSolve, check_of, cost_of, migrate_in, migrate_of, number_in, number_of, request, request_from, request_named, solve_in, solve_of, spoken_check, spoken_cost, spoken_migrate, spoken_solve, values_of};
+ghost use Rattle.cfn_cli.specs.Request.{IfCost, IfSolve, IfTrial, check_of, cost_of, migrate_in, migrate_of, normal_of, number_in, number_of, request, request_from, request_named, solve_in, solve_of, spoken_check, spoken_cost, spoken_migrate, spoken_normal, spoken_solve, spoken_trial, trial_of, values_of};
 
-use crate::command::{CheckArguments, Command, CostArguments, MigrateArguments, SolveArguments};
+use crate::command::{
+    CheckArguments, Command, CostArguments, MigrateArguments, NormalArguments, SolveArguments,
+    TrialArguments,
+};
 use crate::fault::CliFault;
 use clap::ArgMatches;
 use std::alloc::Global;
@@ -15,6 +18,12 @@ const MOST_WORKERS: u64 = 64;
 
 /// The greatest budget, 2^63 - 1.
 const MOST_BUDGET: u64 = 9_223_372_036_854_775_807;
+
+/// The greatest seed of a drawn network.
+const MOST_SEED: u64 = 65_536;
+
+/// The most variables of a drawn network.
+const MOST_SIZE: u64 = 200;
 
 /// The greatest value of a variable, 2^32 - 1.
 const MOST_VALUE: u64 = 4_294_967_295;
@@ -28,6 +37,8 @@ pub(crate) fn command(alloc: Global, matches: &ArgMatches<'_>) -> Result<Command
     ensures budget { IfOk result (λ c. IfSolve c (λ s. s.budget ≤ 9223372036854775807)) }
     ensures values { IfOk result (λ c. IfCost c (λ k. All (λ v. v < 2 ^ 32) k.values.items)) }
     ensures some_value { IfOk result (λ c. IfCost c (λ k. 0 < length k.values.items)) }
+    ensures seed { IfOk result (λ c. IfTrial c (λ t. t.seed ≤ 65536)) }
+    ensures size { IfOk result (λ c. IfTrial c (λ t. (1 ≤ t.size) × (t.size ≤ 200))) }
 {
     match matches.subcommand() {
         Some((name, found)) => named(alloc, name, found),
@@ -43,6 +54,8 @@ fn named(alloc: Global, name: &str, found: &ArgMatches<'_>) -> Result<Command, C
     ensures budget { IfOk result (λ c. IfSolve c (λ s. s.budget ≤ 9223372036854775807)) }
     ensures values { IfOk result (λ c. IfCost c (λ k. All (λ v. v < 2 ^ 32) k.values.items)) }
     ensures some_value { IfOk result (λ c. IfCost c (λ k. 0 < length k.values.items)) }
+    ensures seed { IfOk result (λ c. IfTrial c (λ t. t.seed ≤ 65536)) }
+    ensures size { IfOk result (λ c. IfTrial c (λ t. (1 ≤ t.size) × (t.size ≤ 200))) }
 {
     if name == "solve" {
         Ok(Command::Solve(solve(alloc, found)?))
@@ -50,6 +63,10 @@ fn named(alloc: Global, name: &str, found: &ArgMatches<'_>) -> Result<Command, C
         Ok(Command::Check(check(alloc, found)?))
     } else if name == "cost" {
         Ok(Command::Cost(cost(alloc, found)?))
+    } else if name == "normal" {
+        Ok(Command::Normal(normal(alloc, found)?))
+    } else if name == "trial" {
+        Ok(Command::Trial(trial(found)?))
     } else if name == "migrate" {
         Ok(Command::Migrate(migrate(alloc, found)?))
     } else {
@@ -120,6 +137,34 @@ fn cost(alloc: Global, found: &ArgMatches<'_>) -> Result<CostArguments, CliFault
     Ok(CostArguments {
         file: String::from_str(alloc, file)?,
         values,
+    })
+}
+
+fn normal(alloc: Global, found: &ArgMatches<'_>) -> Result<NormalArguments, CliFault>
+    ensures arguments { IfOk result (λ n. normal_of (rows_of (found_of found.now)) ≡ Some (spoken_normal n)) }
+    ensures usage { IfErr result (λ fault. fault ≡ CliFault.Usage
+        → normal_of (rows_of (found_of found.now)) ≡ None) }
+{
+    let file = text(found, "file")?;
+    Ok(NormalArguments {
+        file: String::from_str(alloc, file)?,
+    })
+}
+
+fn trial(found: &ArgMatches<'_>) -> Result<TrialArguments, CliFault>
+    ensures arguments { IfOk result (λ t. trial_of (rows_of (found_of found.now)) ≡ Some (spoken_trial t)) }
+    ensures usage { IfErr result (λ fault. fault ≡ CliFault.Usage
+        → trial_of (rows_of (found_of found.now)) ≡ None) }
+    ensures seed { IfOk result (λ t. t.seed ≤ 65536) }
+    ensures size { IfOk result (λ t. (1 ≤ t.size) × (t.size ≤ 200)) }
+{
+    let seed = number(found, "seed", 0, MOST_SEED)?;
+    let size = number(found, "size", 1, MOST_SIZE)?;
+    let workers = number(found, "workers", 1, MOST_WORKERS)?;
+    Ok(TrialArguments {
+        seed: seed as u32,
+        size: size as u32,
+        workers: workers as u8,
     })
 }
 

@@ -43,6 +43,22 @@ fn migrates(alloc: Global, words: &[&str], out: &str) -> bool {
     }
 }
 
+fn says_normal(alloc: Global, words: &[&str]) -> bool {
+    match parse(alloc, words) {
+        Ok(Command::Normal(asked)) => asked.file.as_str() == "f",
+        _ => false,
+    }
+}
+
+fn tries(alloc: Global, words: &[&str], seed: u32, size: u32, workers: u8) -> bool {
+    match parse(alloc, words) {
+        Ok(Command::Trial(asked)) => {
+            asked.seed == seed && asked.size == size && asked.workers == workers
+        }
+        _ => false,
+    }
+}
+
 fn costs(alloc: Global, words: &[&str], values: &[u32]) -> bool {
     match parse(alloc, words) {
         Ok(Command::Cost(asked)) => {
@@ -98,6 +114,23 @@ fn cost_is_read(rt: HostRuntime) {
 }
 
 #[test]
+fn normal_and_trial_are_read(rt: HostRuntime) {
+    let alloc = rt.alloc();
+    assert!(rt; says_normal(alloc, &["w", "normal", "f"]));
+    assert!(rt; tries(alloc, &["w", "trial", "7", "20"], 7, 20, 1));
+    assert!(rt;
+        tries(
+            alloc,
+            &["w", "trial", "65536", "200", "--workers", "64"],
+            65_536,
+            200,
+            64
+        )
+    );
+    assert!(rt; tries(alloc, &["w", "trial", "--workers=8", "0", "1"], 0, 1, 8));
+}
+
+#[test]
 fn migrate_is_read(rt: HostRuntime) {
     let alloc = rt.alloc();
     assert!(rt; migrates(alloc, &["w", "migrate", "a", "b", "c"], "c"));
@@ -132,6 +165,15 @@ fn other_words_are_usage(rt: HostRuntime) {
         &["w", "solve", "a", "b", "--budget=-1"],
         &["w", "solve", "a", "b", "--budget", "9223372036854775808"],
         &["w", "solve", "a", "b", "--budget"],
+        &["w", "normal"],
+        &["w", "normal", "a", "b"],
+        &["w", "normal", "a", "--workers", "1"],
+        &["w", "trial", "7"],
+        &["w", "trial", "65537", "1"],
+        &["w", "trial", "7", "0"],
+        &["w", "trial", "7", "201"],
+        &["w", "trial", "7", "1", "--workers", "65"],
+        &["w", "trial", "7", "1", "--budget", "1"],
         &["w", "migrate", "a", "b"],
         &["w", "migrate", "a", "b", "a"],
         &["w", "migrate", "a", "b", "c", "d"],

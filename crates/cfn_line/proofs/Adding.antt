@@ -6,7 +6,7 @@ use Rattle.std.proofs.lemmas.List.{append-nil}
 use Rattle.cfn_desk.specs.Outside.{Outside}
 use Rattle.cfn_line.specs.declared.channel.Channel.TheVariants.{Screen}
 use Rattle.cfn_line.specs.Appending.{Appends, Midway, Adds}
-use Rattle.cfn_line.proofs.CallerLemmas.{ok, err, then, stop, respell, begin, finish, halt, at_done}
+use Rattle.cfn_line.proofs.Sending.{ok, err, then, stop, respell, begin, finish, halt, at_done}
 
 -- a text is added while a whole is being sent, of which it stands before the rest
 pub add_on : {T E : Type 0} {before mid now : Outside} {whole had waiting text waits : List ℕ} {x : T} (rest : List ℕ) → had ≡ waiting ++ (text ++ rest) → Midway Screen before whole had mid → Adds mid waiting text (ok T E x) now waits → Midway Screen before whole (waits ++ rest) now

@@ -1,2 +1,3 @@
 mod Adding
+mod Sending
 pub mod CallerLemmas

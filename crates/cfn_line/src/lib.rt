@@ -4,7 +4,8 @@
 //! specs/Appending.antt: on Ok the whole text was sent, and an `Err` is one call that failed, behind a front of the text.
 //!
 //! - `channel` sends bytes in one call.
-//! - `word` has the words that lines are made of, and `waiting` the bytes of a line that wait for the screen.
+//! - `word` has the words that lines are made of, and `waiting` the bytes that wait for the screen, a `Line`. A caller
+//!   whose lines are no lists of fixed words and numbers adds their words, or bytes, to a `Line` of its own.
 //! - `lines` writes a line of words: into the file each word by one call, together with the space or LF behind it; on
 //!   the screen the line by one call, where it has at most 4,096 bytes.
 //!
@@ -18,7 +19,8 @@ mod word;
 
 pub use channel::{Channel, send};
 pub use lines::{write_line, write_list};
-pub use word::Word;
+pub use waiting::Line;
+pub use word::{Word, add_word};
 
 #[cfg(test)]
 mod tests;

@@ -1,4 +1,4 @@
-//! A line that is being built for the screen, and is sent in one call where it has room.
+//! Bytes that are gathered for the screen, and sent in one call where they have room.
 
 ghost use Rattle.std.specs.Prelude.{◌≡◌, ◌+◌, ◌≤◌, [], ◌∷◌, ◌++◌, length};
 ghost use Rattle.cfn_line.specs.Appending.{Adds, Appends};
@@ -11,7 +11,7 @@ use std::marker::Model;
 /// How many bytes may wait to be said.
 const ROOM: usize = 4096;
 
-/// The bytes of a line that wait to be said.
+/// Bytes that wait to be said, at most 4,096 of them.
 #[derive(Drop)]
 pub struct Line {
     bytes: [u8; ROOM],
@@ -56,7 +56,7 @@ impl Line {
         self.len = end;
     }
 
-    /// Says what waits.
+    /// Says what waits, and then nothing waits. After an `Err` some front of it was said.
     pub fn say<D: Desk>(&mut self, desk: &mut D) -> Result<(), Failed>
         ensures sent { Appends Screen (D.outside desk.old) self.old result (D.outside desk.new) }
         ensures emptied { self.new ≡ [] }
@@ -66,7 +66,8 @@ impl Line {
         sent
     }
 
-    /// Adds bytes. Where they do not fit, what waits is said, and then they are.
+    /// Adds bytes. Where they do not fit, what waits is said, and then they are. An `Err` is one call of the desk that
+    /// failed, behind a front of both.
     pub fn add<D: Desk>(&mut self, bytes: &[u8], desk: &mut D) -> Result<(), Failed>
         ensures { Adds (D.outside desk.old) self.old bytes.now result (D.outside desk.new) self.new }
     {

@@ -114,7 +114,8 @@ fn put_number<D: Desk>(number: u64, end: u8, desk: &mut D) -> Result<(), Failed>
     send(Channel::File, &piece[start..], desk)
 }
 
-/// Adds a word and the byte behind it to a line for the screen.
+/// Adds a word and the byte behind it to the bytes that wait for the screen. An `Err` is one call of the desk that
+/// failed, behind a front of what waited and of the word.
 pub fn add_word<D: Desk>(into: &mut Line, word: Word, end: u8, desk: &mut D) -> Result<(), Failed>
     ensures { Adds (D.outside desk.old) into.old (word_text word ++ end ∷ []) result
         (D.outside desk.new) into.new }

@@ -13,6 +13,8 @@ usage_text =
     ∷ (codes "wcspsolve" ∷ codes "solve" ∷ codes "FILE" ∷ codes "CERT" ∷ codes "[--workers" ∷ codes "W]" ∷ codes "[--budget" ∷ codes "B]" ∷ [])
     ∷ (codes "wcspsolve" ∷ codes "check" ∷ codes "FILE" ∷ codes "CERT" ∷ [])
     ∷ (codes "wcspsolve" ∷ codes "cost" ∷ codes "FILE" ∷ codes "VALUES.." ∷ [])
+    ∷ (codes "wcspsolve" ∷ codes "normal" ∷ codes "FILE" ∷ [])
+    ∷ (codes "wcspsolve" ∷ codes "trial" ∷ codes "SEED" ∷ codes "SIZE" ∷ codes "[--workers" ∷ codes "W]" ∷ [])
     ∷ (codes "wcspsolve" ∷ codes "migrate" ∷ codes "FILE" ∷ codes "CERT" ∷ codes "OUT" ∷ [])
     ∷ [])
 
@@ -47,6 +49,11 @@ verified_text lower best = line (codes "verified" ∷ codes "lower" ∷ decimal 
 -- What is said of a certificate that was written in the second version.
 abbrev pub migrated_text : List ℕ
 migrated_text = line (codes "migrated" ∷ [])
+
+-- What is said of a drawn network: its size, and the least cost of its assignments.
+abbrev pub trial_text : ℕ → ℕ → ℕ → List ℕ
+trial_text variables functions least =
+    text ((codes "variables" ∷ decimal variables ∷ []) ∷ (codes "functions" ∷ decimal functions ∷ []) ∷ (codes "least" ∷ decimal least ∷ []) ∷ [])
 
 abbrev pub refused_text : FaultKind → ℕ → List ℕ
 refused_text kind l = line (codes "refused" ∷ fault_name kind ∷ codes "at" ∷ decimal l ∷ [])

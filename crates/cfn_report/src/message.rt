@@ -8,8 +8,9 @@ ghost use Rattle.cfn_model.specs.Text.{allowed_word, cost_text, kind_name, memor
 ghost use Rattle.cfn_line.specs.Appending.{Appends};
 ghost use Rattle.cfn_line.specs.Words.{word_text};
 ghost use Rattle.cfn_line.specs.declared.channel.Channel.TheVariants.{Screen};
-ghost use Rattle.cfn_report.specs.Texts.{fault_name, migrated_text, refused_text, usage_text, verified_text};
+ghost use Rattle.cfn_report.specs.Texts.{fault_name, migrated_text, refused_text, trial_text, usage_text, verified_text};
 
+use crate::report::say_number;
 use crate::word::word_of;
 use cfn_desk::{Desk, Failed};
 use cfn_fault::FaultKind;
@@ -63,7 +64,7 @@ pub fn write_usage<D: Desk>(desk: &mut D) -> Result<(), Failed>
 {
     send(
         Channel::Screen,
-        b"error usage\nwcspsolve solve FILE CERT [--workers W] [--budget B]\nwcspsolve check FILE CERT\nwcspsolve cost FILE VALUES..\nwcspsolve migrate FILE CERT OUT\n",
+        b"error usage\nwcspsolve solve FILE CERT [--workers W] [--budget B]\nwcspsolve check FILE CERT\nwcspsolve cost FILE VALUES..\nwcspsolve normal FILE\nwcspsolve trial SEED SIZE [--workers W]\nwcspsolve migrate FILE CERT OUT\n",
         desk,
     )
 }
@@ -126,6 +127,22 @@ pub fn write_verified<D: Desk>(lower: u64, best: Option<u64>, desk: &mut D) -> R
         word_of(best),
     ];
     write_line(Channel::Screen, &words, desk)
+}
+
+/// Says how large a drawn network is, and the least cost of its assignments. An `Err` has said some front of it.
+pub fn write_trial<D: Desk>(
+    variables: u32,
+    functions: u32,
+    least: u64,
+    desk: &mut D,
+) -> Result<(), Failed>
+    ensures { Appends Screen (D.outside desk.old)
+        (trial_text variables functions least)
+        result (D.outside desk.new) }
+{
+    say_number("variables", u64::from(variables), desk)?;
+    say_number("functions", u64::from(functions), desk)?;
+    say_number("least", least, desk)
 }
 
 /// Says that a certificate was written in the second version. An `Err` has said some front of it.

@@ -147,7 +147,11 @@ fn say_end<D: Desk>(nodes: u64, word: ResultWord, desk: &mut D) -> Result<(), Fa
 }
 
 /// Says a line of a name and a number.
-fn say_number<D: Desk>(name: &'static str, number: u64, desk: &mut D) -> Result<(), Failed>
+pub(crate) fn say_number<D: Desk>(
+    name: &'static str,
+    number: u64,
+    desk: &mut D,
+) -> Result<(), Failed>
     ensures { Appends Screen (D.outside desk.old)
         (line (name.now ∷ decimal number ∷ [])) result (D.outside desk.new) }
 {

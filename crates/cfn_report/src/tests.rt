@@ -141,11 +141,13 @@ fn says_each_message(rt: HostRuntime) -> Result<(), Fail> {
     assert_eq!(rt; write_verified(1, Some(1), &mut desk), Ok(()));
     assert_eq!(rt; write_verified(5, None, &mut desk), Ok(()));
     assert_eq!(rt; write_migrated(&mut desk), Ok(()));
+    assert_eq!(rt; write_trial(20, 57, 71, &mut desk), Ok(()));
     assert_eq!(rt; write_refused(FaultKind::Lift, 9, &mut desk), Ok(()));
     let text = b"error table-too-wide at 17\nerror read\nerror write\nerror memory\nerror usage\n\
         wcspsolve solve FILE CERT [--workers W] [--budget B]\nwcspsolve check FILE CERT\n\
-        wcspsolve cost FILE VALUES..\nwcspsolve migrate FILE CERT OUT\ncost 9 allowed\ncost 10 forbidden\n\
-        error values expected 3 got 4\nerror value at 2\nverified lower 1 best 1\nverified lower 5 best none\nmigrated\nrefused lift at 9\n";
+        wcspsolve cost FILE VALUES..\nwcspsolve normal FILE\nwcspsolve trial SEED SIZE [--workers W]\n\
+        wcspsolve migrate FILE CERT OUT\ncost 9 allowed\ncost 10 forbidden\n\
+        error values expected 3 got 4\nerror value at 2\nverified lower 1 best 1\nverified lower 5 best none\nmigrated\nvariables 20\nfunctions 57\nleast 71\nrefused lift at 9\n";
     assert_eq!(rt; desk.said_bytes(), text.as_slice());
     Ok(())
 }

@@ -216,7 +216,7 @@ fn other_words_are_no_command(rt: HostRuntime) -> Result<(), Fail> {
         let run = Run::of(&rt, words, TINY, &[])?;
         assert_eq!(rt; run.status, 3);
         let said =
-            b"error usage\nwcspsolve solve FILE CERT [--workers W] [--budget B]\nwcspsolve check FILE CERT\nwcspsolve cost FILE VALUES..\nwcspsolve migrate FILE CERT OUT\n";
+            b"error usage\nwcspsolve solve FILE CERT [--workers W] [--budget B]\nwcspsolve check FILE CERT\nwcspsolve cost FILE VALUES..\nwcspsolve normal FILE\nwcspsolve trial SEED SIZE [--workers W]\nwcspsolve migrate FILE CERT OUT\n";
         assert_eq!(rt; run.said(), said.as_slice());
         assert_eq!(rt; run.certificate(), b"".as_slice());
     }

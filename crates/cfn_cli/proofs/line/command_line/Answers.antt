@@ -11,4 +11,6 @@ returns c =
     let with_solve = command_added _ _ _ _ _ c.in_ok-subcommand.ensures required c.in_ok-solve.ensures in
     let with_check = command_added _ _ _ _ _ c.in_ok-subcommand-2.ensures with_solve c.in_ok-check.ensures in
     let with_cost = command_added _ _ _ _ _ c.in_ok-subcommand-3.ensures with_check c.in_ok-cost.ensures in
-    IfOk-weaker c.subcommand-4.result _ _ (λ new adds. command_added _ _ new _ _ adds with_cost c.in_ok-migrate.ensures) c.subcommand-4.ensures
+    let with_normal = command_added _ _ _ _ _ c.in_ok-subcommand-4.ensures with_cost c.in_ok-normal.ensures in
+    let with_trial = command_added _ _ _ _ _ c.in_ok-subcommand-5.ensures with_normal c.in_ok-trial.ensures in
+    IfOk-weaker c.subcommand-6.result _ _ (λ new adds. command_added _ _ new _ _ adds with_trial c.in_ok-migrate.ensures) c.subcommand-6.ensures

@@ -1,0 +1,53 @@
+//! The command `trial`.
+
+ghost use Rattle.std.specs.Prelude.{◌≡◌, ℕ, ◌<◌, ◌≤◌, List, IfOk};
+ghost use Rattle.cfn_model.specs.Network.{Least, cost};
+ghost use Rattle.cfn_cli.specs.Request.{spoken_trial};
+ghost use Rattle.cfn_app.specs.Trying.{Tries};
+
+use crate::status::{Status, ending};
+use cfn_cli::TrialArguments;
+use cfn_desk::Desk;
+use cfn_gen::{allowing_law, instance};
+use cfn_hybrid::solve;
+use cfn_model::GREATEST;
+use cfn_net::Network;
+use cfn_proof::Stop;
+use std::alloc::{AllocError, Global};
+
+/// Draws the network that is asked for, solves it, and says its least cost, or that memory was refused. It is solved on
+/// one thread, whatever number of workers is asked for.
+pub fn try_drawn<D: Desk>(alloc: Global, ask: &TrialArguments, desk: &mut D) -> Status
+    requires seed { ask.now.seed ≤ 65536 }
+    requires some { 1 ≤ ask.now.size }
+    requires few { ask.now.size ≤ 200 }
+    ensures ends { Tries (spoken_trial ask.now) (D.outside desk.old).calls (D.outside desk.new).calls result }
+    ensures files { (D.outside desk.new).files ≡ (D.outside desk.old).files }
+{
+    let Ok(network) = instance(alloc, ask.seed, ask.size) else {
+        return ending(cfn_report::write_memory_fault(desk), Status::NoMemory);
+    };
+    allowing_law();
+    let Ok(least) = least_cost(alloc, &network) else {
+        return ending(cfn_report::write_memory_fault(desk), Status::NoMemory);
+    };
+    let (variables, functions) = (network.variables(), network.functions());
+    ending(
+        cfn_report::write_trial(variables, functions, least, desk),
+        Status::Done,
+    )
+}
+
+/// The least cost of a network, each of whose assignments is allowed. An `Err` is want of memory: no search spends the
+/// greatest budget, 2^63 - 1 nodes.
+fn least_cost(alloc: Global, network: &Network) -> Result<u64, AllocError>
+    requires { (values : List ℕ) → cost network.now values < network.now.upper }
+    ensures { IfOk result (λ least. Least network.now least) }
+{
+    network.limits();
+    let outcome = solve(alloc, network, GREATEST)?;
+    match outcome.stop {
+        Stop::Done => Ok(outcome.certificate.lower),
+        Stop::Budget | Stop::Memory => Err(AllocError),
+    }
+}

@@ -1,0 +1,4 @@
+mod Allowing
+mod Drawing
+mod Rows
+mod Trials

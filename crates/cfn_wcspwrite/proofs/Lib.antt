@@ -1,0 +1,5 @@
+mod Functions
+mod Parsing
+mod Parts
+mod Tables
+mod Wording
