@@ -1,0 +1,121 @@
+"""A planner's words as a file for wcspsolve, and its report as a plan: variables with named values, rules and costs.
+
+docs/MODELLING.md explains it, with timetable.py, warehouse.py and roster.py, which use it.
+"""
+
+from __future__ import annotations
+
+import itertools
+import sys
+from collections import Counter
+from collections.abc import Callable, Hashable, Iterable, Mapping, Sequence
+from typing import Any, Final, TextIO
+
+# The value of each variable, by its name.
+Plan = dict[str, Any]
+
+# What a cost function answers for values that no plan may have together.
+FORBIDDEN: Final = None
+
+
+class Model:
+    """A weighted constraint network: a plan gives each variable one of its values, and costs the sum of the functions."""
+
+    def __init__(self, name: str) -> None:
+        self.name = name
+        self._values: dict[str, tuple[Any, ...]] = {}
+        self._functions: list[tuple[tuple[str, ...], list[int | None]]] = []
+        self._sums: set[str] = set()
+
+    def variable(self, name: str, values: Iterable[Hashable]) -> str:
+        """A choice: a plan takes exactly one of these values. Answers its name."""
+        if name in self._values:
+            raise ValueError(f"{name} is a variable already")
+        self._values[name] = tuple(values)
+        return name
+
+    def function(self, scope: Sequence[str], cost: Callable[..., int | None]) -> None:
+        """A cost function: cost(value, ..) is what values of these variables cost together, or FORBIDDEN."""
+        costs = [cost(*values) for values in itertools.product(*(self._values[name] for name in scope))]
+        for amount in costs:
+            if amount is not FORBIDDEN and not (isinstance(amount, int) and amount >= 0):
+                raise ValueError(f"{amount} is no whole cost from 0 on")
+        if any(amount != 0 for amount in costs):  # a function that costs nothing is left out
+            self._functions.append((tuple(scope), costs))
+
+    def forbid(self, scope: Sequence[str], is_broken: Callable[..., bool]) -> None:
+        """A hard rule: no plan has values of these variables for which is_broken(value, ..) is true."""
+        self.function(scope, lambda *values: FORBIDDEN if is_broken(*values) else 0)
+
+    def cost(self, name: str, costs: Mapping[Any, int]) -> None:
+        """What a variable's values cost; a value that is not listed costs nothing."""
+        self.function([name], lambda value: costs.get(value, 0))
+
+    def total(self, name: str, parts: Sequence[str], amount: Callable[[str, Any], int], most: int) -> str:
+        """A variable that is the sum of amount(part, value) over these variables, and is at most `most`. Answers its name.
+
+        It is the last of a chain of variables, each of which adds one part to the one before it.
+        """
+        sums = [0]
+        before = self.variable(f"{name}, 0 added", sums)
+        self._sums.add(before)
+        for count, part in enumerate(parts, start=1):
+            amounts = {value: amount(part, value) for value in self._values[part]}
+            sums = sorted({old + added for old in sums for added in amounts.values() if old + added <= most})
+            here = self.variable(f"{name}, {count} added", sums)
+            self._sums.add(here)
+            self.forbid([before, part, here], lambda old, value, new: new != old + amounts[value])
+            before = here
+        return before
+
+    def upper_bound(self) -> int:
+        """One more than a plan can cost where no hard rule is broken."""
+        return 1 + sum(max((cost for cost in costs if cost is not FORBIDDEN), default=0) for _, costs in self._functions)
+
+    def write(self, file: TextIO) -> None:
+        """Puts the network in the wcsp format (docs/FORMAT.md)."""
+        top = self.upper_bound()
+        number = {name: place for place, name in enumerate(self._values)}
+        sizes = [len(values) for values in self._values.values()]
+        print(self.name, len(sizes), max(sizes), len(self._functions), top, file=file)
+        print(*sizes, file=file)
+        for scope, costs in self._functions:
+            cells = itertools.product(*(range(len(self._values[name])) for name in scope))
+            priced = [(cell, top if cost is FORBIDDEN else cost) for cell, cost in zip(cells, costs)]
+            default = Counter(cost for _, cost in priced).most_common(1)[0][0]
+            listed = [(cell, cost) for cell, cost in priced if cost != default]
+            print(len(scope), *(number[name] for name in scope), default, len(listed), file=file)
+            for cell, cost in listed:
+                print(*cell, cost, file=file)
+
+    def read(self, report: Iterable[str]) -> tuple[int, Plan]:
+        """The cost and the plan of a report of `solve`, without the sums of `total`. ValueError where it has no plan."""
+        lines = {words[0]: words[1:] for words in map(str.split, report) if words}
+        if "values" not in lines:
+            raise ValueError("the report has no line of values")
+        choices = zip(self._values.items(), lines["values"], strict=True)
+        plan = {name: values[int(word)] for (name, values), word in choices if name not in self._sums}
+        return int(lines["upper"][0]), plan
+
+
+def main(model: Model, price: Callable[[Plan], int]) -> None:
+    """`write` prints the model's file. `read` prints the plan of a report on standard input, and compares its cost.
+
+    price(plan) is what the plan costs by the data, without the model. ValueError where it breaks a rule.
+    """
+    match sys.argv[1:]:
+        case ["write"]:
+            model.write(sys.stdout)
+        case ["read"]:
+            try:
+                reported, plan = model.read(sys.stdin)
+                priced = price(plan)
+            except ValueError as error:
+                sys.exit(str(error))
+            for name, value in plan.items():
+                print(f"{name}: {', '.join(value) if isinstance(value, tuple) else value}")
+            if priced != reported:
+                sys.exit(f"the report says {reported}, but the data say {priced}")
+            print(f"cost {priced}, by the report and by the data")
+        case _:
+            sys.exit("usage: write, or read with a report on standard input")
