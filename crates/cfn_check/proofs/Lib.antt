@@ -1,7 +1,4 @@
-pub mod Arities
-pub mod Slots
-pub mod Amounts
-pub mod Live
+pub mod Along
 pub mod Verifying
 pub mod BestValues
 pub mod Lines
@@ -9,7 +6,5 @@ pub mod Telling
 pub mod Walking
 pub mod Probing
 pub mod Walks
-pub mod Shifted
 pub mod Saying
 pub mod Rooms
-pub mod Wiped

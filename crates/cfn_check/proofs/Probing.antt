@@ -13,11 +13,12 @@ use Rattle.cfn_model.specs.Steps.{IsPlace, CanProject}
 use Rattle.cfn_net.proofs.CallerLemmas.{length-dims, get_or-dims, Inhabited-dims, cells-drop-pos}
 use Rattle.cfn_check.specs.declared.probe.Asked.{Asked}
 use Rattle.cfn_check.specs.declared.probe.Spot.{Spot}
-use Rattle.cfn_check.specs.Slots.{slots, along, shifted}
-use Rattle.cfn_check.specs.Tables.{IsSlight}
+use Rattle.cfn_tables.specs.Slots.{slots, shifted}
+use Rattle.cfn_check.specs.Along.{along}
+use Rattle.cfn_check.specs.Along.{IsSlight}
 use Rattle.cfn_check.specs.Probing.{IsLow, LacksIn, Lacks, IsAsked, IsSpot, IsOnly, spot_behind}
-use Rattle.cfn_check.proofs.Arities.{arity_small}
-use Rattle.cfn_check.proofs.Slots.{slots-drop_more, slots_few}
+use Rattle.cfn_tables.proofs.CallerLemmas.{arity_small}
+use Rattle.cfn_tables.proofs.CallerLemmas.{slots-drop_more, slots_few}
 
 -- values behind one more place, and behind the spot before it
 record IsNext (P : Network) (history : List Event) (asked : Asked) (spot next : Spot) (y v : ℕ) : Type 0 where

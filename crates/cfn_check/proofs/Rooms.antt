@@ -1,5 +1,5 @@
 -- Sums over a trail stay far within 128 bits.
-use Rattle.std.proofs.Common.{ℕ, suc, ◌+◌, ◌*◌, ◌<◌, ◌≤◌, ◌^◌, List, [], ◌∷◌, length, arith}
+use Rattle.std.proofs.Common.{ℕ, suc, ◌+◌, ◌*◌, ◌≤◌, ◌^◌, List, [], ◌∷◌, length, arith}
 use Rattle.std.proofs.lemmas.Int.{ints}
 use Rattle.std.proofs.Math.Nat.{mul-le-mul}
 use Rattle.std.specs.Prelude.{Bool, true, false, if◌then◌else◌, ℤ, pos, neg_ℤ, ◌≤ℤ◌}
@@ -10,9 +10,11 @@ use Rattle.cfn_model.specs.Network.{Network, IsNetwork}
 use Rattle.cfn_model.specs.Sums.{when, lifted, floor, unary_by, unary, removes}
 use Rattle.cfn_net.proofs.CallerLemmas.{floor_at_root}
 use Rattle.cfn_check.specs.declared.entry.Entry.{Entry}
-use Rattle.cfn_check.specs.Slots.{shifted_by, shifted}
-use Rattle.cfn_check.specs.Tables.{Tables, HasRoom, IsSlight, takers}
-use Rattle.cfn_check.specs.Standing.{IsPossible, IsTrail, IsLedger, events_of}
+use Rattle.cfn_tables.specs.Slots.{shifted_by, shifted}
+use Rattle.cfn_tables.specs.Tables.{Tables, HasRoom, takers}
+use Rattle.cfn_check.specs.Along.{IsSlight}
+use Rattle.cfn_tables.specs.Possible.{IsPossible}
+use Rattle.cfn_check.specs.Standing.{IsTrail, IsLedger, events_of}
 
 pub record Within (n : ℕ) (z : ℤ) : Type 0 where
   pub low : neg_ℤ (pos n) ≤ℤ z

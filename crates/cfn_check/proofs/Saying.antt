@@ -10,9 +10,10 @@ use Rattle.cfn_model.specs.declared.step.Event.TheVariants.{Did, Took, Refused}
 use Rattle.cfn_model.specs.Network.{Network}
 use Rattle.cfn_model.specs.Sums.{removes, cuts, is_cut}
 use Rattle.cfn_model.proofs.CallerLemmas.{eqb_same}
-use Rattle.cfn_check.specs.Tables.{Tables, HasShape, Says, SaysSame, Adds, Cuts, Has, HasFlag, no_values, tuples_at, takers, cut_at}
+use Rattle.cfn_tables.specs.Tables.{Tables, HasShape, Says, SaysSame, Adds, Cuts, Has, HasFlag, no_values, tuples_at, takers, cut_at}
 use Rattle.cfn_check.specs.declared.entry.Entry.{Entry}
-use Rattle.cfn_check.specs.Standing.{IsPossible, IsMarked, IsLedger, events_of}
+use Rattle.cfn_tables.specs.Possible.{IsPossible}
+use Rattle.cfn_check.specs.Standing.{IsMarked, IsLedger, events_of}
 
 pub says_more : (P : Network) (event : Event) (history : List Event) (old new : Tables) → Says P history old → HasShape P new → Adds P event old new → Cuts P event true old new → Says P (event ∷ history) new
 says_more P event history old new s shape adds cut = record {

@@ -6,9 +6,10 @@ use Rattle.std.proofs.lemmas.List.{take_all, drop_all, drop_more}
 use Rattle.std.specs.Prelude.{ℤ, pos, neg_ℤ, ◌+ℤ◌, ◌≤ℤ◌}
 use Rattle.cfn_model.specs.Network.{Fits, cell, cell_from, dims}
 use Rattle.cfn_net.proofs.CallerLemmas.{Fits-length, Fits-at, length-dims}
-use Rattle.cfn_check.specs.Slots.{slots, along}
-use Rattle.cfn_check.specs.Tables.{IsSlight}
-use Rattle.cfn_check.proofs.Slots.{slots-take_more, slot_below}
+use Rattle.cfn_tables.specs.Slots.{slots}
+use Rattle.cfn_check.specs.Along.{along}
+use Rattle.cfn_check.specs.Along.{IsSlight}
+use Rattle.cfn_tables.proofs.CallerLemmas.{slots-take_more, slot_below}
 
 cell_from-take_more : (n : ℕ) (sizes values : List ℕ) (p : ℕ) → p < length sizes → length values ≡ length sizes → cell_from n (take (suc p) sizes) (take (suc p) values) ≡ cell_from n (take p sizes) (take p values) * get_or sizes p 0 + get_or values p 0
 cell_from-take_more n [] values p l same = absurd (omega arith)

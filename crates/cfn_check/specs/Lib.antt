@@ -1,7 +1,4 @@
-pub mod Sides
-pub mod Values
-pub mod Slots
-pub mod Tables
+pub mod Along
 pub mod Standing
 pub mod Asking
 pub mod Probing

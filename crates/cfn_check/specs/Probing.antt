@@ -5,7 +5,8 @@ use Rattle.cfn_model.specs.Network.{Network, Fits, cells, cell_from, dims, dims_
 use Rattle.cfn_model.specs.Sums.{all_live, is_cut}
 use Rattle.cfn_check.specs.declared.probe.Asked.{Asked}
 use Rattle.cfn_check.specs.declared.probe.Spot.{Spot}
-use Rattle.cfn_check.specs.Slots.{slots, along, shifted}
+use Rattle.cfn_tables.specs.Slots.{slots, shifted}
+use Rattle.cfn_check.specs.Along.{along}
 
 -- The tuple of f with a number is below the upper bound, not cut, and its entry is below a bound.
 pub record IsLow (P : Network) (history : List Event) (f c : ℕ) (bound : ℤ) : Type 0 where

@@ -1,14 +1,13 @@
 -- Where a checker stands: the network, and the history of the path from the root.
-use Rattle.std.specs.Prelude.{◌≡◌, ℕ, ◌<◌, ◌≤◌, ◌^◌, Bool, not, List, [], ◌∷◌, length, map, drop}
-use Rattle.cfn_model.specs.declared.step.Step.{Step}
+use Rattle.std.specs.Prelude.{◌≡◌, ℕ, ◌≤◌, ◌^◌, Bool, not, List, [], ◌∷◌, length, map, drop}
 use Rattle.cfn_model.specs.declared.step.Step.TheVariants.{Project, Extend, Lift, CutValue, CutTuple}
 use Rattle.cfn_model.specs.declared.step.Event.{Event}
 use Rattle.cfn_model.specs.declared.step.Event.TheVariants.{Did, Took, Refused}
 use Rattle.cfn_model.specs.Network.{Network}
 use Rattle.cfn_model.specs.Sums.{is_cut}
-use Rattle.cfn_model.specs.Steps.{IsDecision, InRange}
 use Rattle.cfn_check.specs.declared.entry.Entry.{Entry}
-use Rattle.cfn_check.specs.Tables.{Tables, Says}
+use Rattle.cfn_tables.specs.Possible.{IsPossible}
+use Rattle.cfn_tables.specs.Tables.{Tables, Says}
 
 pub record Standing : Type 0 where
   pub network : Network
@@ -20,19 +19,6 @@ with_event event s = record { network = s.network; history = event ∷ s.history
 
 abbrev pub without : ℕ → Standing → Standing
 without n s = record { network = s.network; history = drop n s.history }
-
--- An event's numbers are in range, those of decisions too, and its amount is below 2^64.
-abbrev pub IsSmallStep : Step → Type 0
-IsSmallStep (Project f i a m) = m < 2 ^ 64
-IsSmallStep (Extend f i a m) = m < 2 ^ 64
-IsSmallStep (Lift x m) = m < 2 ^ 64
-IsSmallStep (CutValue x a) = Unit {0}
-IsSmallStep (CutTuple f c) = Unit {0}
-
-abbrev pub IsPossible : Network → Event → Type 0
-IsPossible P (Did step) = InRange P step × IsSmallStep step
-IsPossible P (Took d) = IsDecision P d
-IsPossible P (Refused d) = IsDecision P d
 
 -- A cut of a tuple is marked where the tuple was not cut before it.
 abbrev pub IsMarked : Event → Bool → List Event → Type 0

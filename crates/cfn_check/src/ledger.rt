@@ -6,20 +6,21 @@ ghost use Rattle.cfn_model.specs.Network.{Fits, cells, cell, dims, dims_at, scop
 ghost use Rattle.cfn_model.specs.Sums.{when, floor, unary, residual, is_live, is_cut};
 ghost use Rattle.cfn_model.specs.Steps.{IsValue, IsCell};
 ghost use Rattle.cfn_model.specs.Tree.{CanClose, IsWiped};
-ghost use Rattle.cfn_check.specs.Slots.{slots, shifted, along};
-ghost use Rattle.cfn_check.specs.Tables.{IsSlight};
-ghost use Rattle.cfn_check.specs.Standing.{IsPossible, IsMarked, with_event, without};
+ghost use Rattle.cfn_tables.specs.Slots.{slots, shifted};
+ghost use Rattle.cfn_check.specs.Along.{along};
+ghost use Rattle.cfn_check.specs.Along.{IsSlight};
+ghost use Rattle.cfn_tables.specs.Possible.{IsPossible};
+ghost use Rattle.cfn_check.specs.Standing.{IsMarked, with_event, without};
 ghost use Rattle.cfn_certtext.specs.Reading.{step_of, decision_of};
 ghost use Rattle.cfn_check.specs.Asking.{IsJudged, IsDecided};
 
 use crate::allowed::allowed;
 use crate::asked::{Judged, decision_in_range, in_range};
-use crate::costs::Costs;
 use crate::entry::Entry;
-use crate::shifts::slots;
 use cfn_certtext::{DecisionText, StepText};
 use cfn_model::{Event, Step};
 use cfn_net::Network;
+use cfn_tables::{Costs, slots};
 use std::alloc::{AllocError, Global};
 use std::marker::Model;
 use std::snapshot::Snapshot;

@@ -1,6 +1,6 @@
 //! The separate checker of certificates.
 //!
-//! It stands on no solver's store, and adds up all shifts in numbers of its own, of 128 bits. It copies no table.
+//! It stands on no solver's store, and adds up all shifts in tables of its own (`cfn_tables`). It copies no table.
 //!
 //! - `check` judges a certificate from the bytes of its text; `Check` is its answer. `certificate` goes over the text in
 //!   the order of its lines: `reading` has those before the tree, `best` and `assignment` the best assignment, `nodes`
@@ -9,8 +9,7 @@
 //! - `Ledger` is where one path of the tree stands. It judges a step and makes it, takes or refuses a decision, tells
 //!   whether a leaf may be closed, and goes back to a mark. `asked` has which steps and decisions of a text are in range,
 //!   `allowed` what each step asks; an `Entry` is one event of the path.
-//! - `Costs` are the tables: the floor, a `Domain` for each variable, `Shifts` for each function. A `Side` has the values
-//!   that a decision keeps, or the others. `probe` walks over the live tuples that a project asks about.
+//! - `probe` walks over the live tuples that a project asks about.
 #![tactic(auto)]
 
 mod allowed;
@@ -19,16 +18,12 @@ mod asked;
 mod assignment;
 mod best;
 mod certificate;
-mod costs;
-mod domain;
 mod entry;
 mod ledger;
 mod nodes;
 mod owed;
 mod probe;
 mod reading;
-mod shifts;
-mod side;
 mod walk;
 
 pub use answer::Check;

@@ -1,4 +1,4 @@
-use Rattle.cfn_check.proofs.Arities.{place_small}
+use Rattle.cfn_tables.proofs.CallerLemmas.{place_small}
 use Rattle.cfn_check.proofs.asked.is_place.Goals as goal
 
 pub returns-clause-small : goal.returns-clause-small

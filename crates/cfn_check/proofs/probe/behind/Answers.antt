@@ -4,9 +4,9 @@ use mir.Syntax.{w128}
 use Rattle.std.proofs.lemmas.Int.{ints, to_z-of_z}
 use Rattle.std.specs.Prelude.{◌+ℤ◌}
 use Rattle.cfn_check.specs.declared.probe.Spot.{Spot}
-use Rattle.cfn_check.specs.Slots.{shifted}
+use Rattle.cfn_tables.specs.Slots.{shifted}
 use Rattle.cfn_check.specs.Probing.{IsSpot, spot_behind}
-use Rattle.cfn_check.proofs.Arities.{arity_small}
+use Rattle.cfn_tables.proofs.CallerLemmas.{arity_small}
 use Rattle.cfn_check.proofs.Probing.{next_spot, same_spot, size_at, room_behind}
 use Rattle.cfn_check.proofs.probe.behind.Goals as goal
 

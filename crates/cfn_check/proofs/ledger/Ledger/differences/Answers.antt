@@ -1,4 +1,4 @@
-use Rattle.cfn_check.proofs.Slots.{residual_along}
+use Rattle.cfn_check.proofs.Along.{residual_along}
 use Rattle.cfn_check.proofs.ledger.Ledger.differences.Goals as goal
 
 pub returns : goal.returns

@@ -1,6 +1,6 @@
 use Rattle.std.proofs.Common.{ap, ◌∙◌}
 use Rattle.std.specs.Prelude.{◌==◌}
-use Rattle.cfn_check.proofs.Live.{live_is}
+use Rattle.cfn_tables.proofs.CallerLemmas.{live_is}
 use Rattle.cfn_check.proofs.ledger.Ledger.is_live.Goals as goal
 
 pub returns : goal.returns

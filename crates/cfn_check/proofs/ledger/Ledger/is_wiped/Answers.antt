@@ -1,5 +1,5 @@
 use Rattle.std.proofs.Common.{sym, ◌∙◌}
-use Rattle.cfn_check.proofs.Wiped.{wiped_is, is_wiped}
+use Rattle.cfn_tables.proofs.CallerLemmas.{wiped_is, is_wiped}
 use Rattle.cfn_check.proofs.ledger.Ledger.is_wiped.Goals as goal
 
 pub returns : goal.returns

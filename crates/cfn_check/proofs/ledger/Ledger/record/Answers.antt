@@ -1,6 +1,6 @@
 use Rattle.std.proofs.Common.{◌≡◌, reverse, sym, ap, ◌∙◌, subst}
 use Rattle.cfn_model.specs.Network.{Network, IsNetwork}
-use Rattle.cfn_check.specs.Tables.{HasRoom}
+use Rattle.cfn_tables.specs.Tables.{HasRoom}
 use Rattle.cfn_check.proofs.Rooms.{room}
 use Rattle.cfn_check.proofs.Saying.{ledger_same}
 use Rattle.cfn_check.proofs.ledger.Ledger.record.Goals as goal

@@ -6,8 +6,9 @@ use Rattle.cfn_model.specs.Network.{Network, IsNetwork, Fits, cell, dims, dims_a
 use Rattle.cfn_model.specs.declared.step.Event.{Event}
 use Rattle.cfn_model.specs.Sums.{when, residual}
 use Rattle.cfn_net.proofs.CallerLemmas.{get_or-dims}
-use Rattle.cfn_check.specs.Slots.{shifted, along}
-use Rattle.cfn_check.proofs.Arities.{arity_small}
+use Rattle.cfn_tables.specs.Slots.{shifted}
+use Rattle.cfn_check.specs.Along.{along}
+use Rattle.cfn_tables.proofs.CallerLemmas.{arity_small}
 use Rattle.cfn_check.proofs.Rooms.{IsCost, first_cost}
 use Rattle.cfn_check.proofs.Walks.{TakenOff, SlotBefore, nothing_off, slot_before, one_off}
 use Rattle.cfn_check.proofs.ledger.Ledger.residual.Goals as goal

@@ -1,4 +1,4 @@
-use Rattle.cfn_check.specs.Slots.{shifted}
+use Rattle.cfn_tables.specs.Slots.{shifted}
 use Rattle.cfn_check.proofs.Walks.{TakenOff}
 use Rattle.cfn_check.proofs.ledger.Ledger.residual.Given as goal
 

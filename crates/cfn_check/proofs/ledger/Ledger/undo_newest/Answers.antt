@@ -1,6 +1,6 @@
 use Rattle.std.proofs.Common.{◌≡◌, sym, ap, ◌∙◌, subst}
 use Rattle.cfn_model.specs.Network.{Network, IsNetwork}
-use Rattle.cfn_check.specs.Tables.{HasRoom}
+use Rattle.cfn_tables.specs.Tables.{HasRoom}
 use Rattle.std.proofs.Common.{List, [], ◌∷◌, reverse}
 use Rattle.std.proofs.lemmas.List.{reverse-append}
 use Rattle.cfn_check.specs.declared.entry.Entry.{Entry}

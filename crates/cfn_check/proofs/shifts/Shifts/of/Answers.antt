@@ -1,6 +1,0 @@
-use Rattle.std.proofs.Common.{length, ap, arith}
-use Rattle.cfn_check.proofs.Arities.{arity_small}
-use Rattle.cfn_check.proofs.shifts.Shifts.of.Goals as goal
-
-pub slots-requires-clause-few : goal.slots-requires-clause-few
-slots-requires-clause-few c = omega (arith, arity_small c.args.network.now c.args.f c.limits.ensures c.requires, ap length c.scope.ensures)
