@@ -1,4 +1,3 @@
-mod Offsets
 pub mod Counting
 mod Agreeing
 pub mod Going

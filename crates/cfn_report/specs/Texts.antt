@@ -10,13 +10,17 @@ use Rattle.cfn_fault.specs.declared.kind.FaultKind.TheVariants as kinds
 abbrev pub usage_text : List ℕ
 usage_text =
     text ((codes "error" ∷ codes "usage" ∷ [])
-    ∷ (codes "wcspsolve" ∷ codes "solve" ∷ codes "FILE" ∷ codes "CERT" ∷ codes "[--workers" ∷ codes "W]" ∷ codes "[--budget" ∷ codes "B]" ∷ [])
-    ∷ (codes "wcspsolve" ∷ codes "check" ∷ codes "FILE" ∷ codes "CERT" ∷ [])
-    ∷ (codes "wcspsolve" ∷ codes "cost" ∷ codes "FILE" ∷ codes "VALUES.." ∷ [])
-    ∷ (codes "wcspsolve" ∷ codes "normal" ∷ codes "FILE" ∷ [])
+    ∷ (codes "wcspsolve" ∷ codes "solve" ∷ codes "FILE" ∷ codes "CERT" ∷ codes "[--workers" ∷ codes "W]" ∷ codes "[--budget" ∷ codes "B]" ∷ codes "[--wcnf]" ∷ [])
+    ∷ (codes "wcspsolve" ∷ codes "check" ∷ codes "FILE" ∷ codes "CERT" ∷ codes "[--wcnf]" ∷ [])
+    ∷ (codes "wcspsolve" ∷ codes "cost" ∷ codes "FILE" ∷ codes "VALUES.." ∷ codes "[--wcnf]" ∷ [])
+    ∷ (codes "wcspsolve" ∷ codes "normal" ∷ codes "FILE" ∷ codes "[--wcnf]" ∷ [])
     ∷ (codes "wcspsolve" ∷ codes "trial" ∷ codes "SEED" ∷ codes "SIZE" ∷ codes "[--workers" ∷ codes "W]" ∷ [])
     ∷ (codes "wcspsolve" ∷ codes "migrate" ∷ codes "FILE" ∷ codes "CERT" ∷ codes "OUT" ∷ [])
     ∷ [])
+
+-- What is said of a wcnf file whose header is not `p wcnf`: the word that differs.
+abbrev pub header_text : ℕ → List ℕ
+header_text ordinal = line (codes "error" ∷ codes "header" ∷ codes "at" ∷ decimal ordinal ∷ [])
 
 -- The parts of a report around its rows.
 abbrev pub size_lines : ℕ → ℕ → ℕ → List (List (List ℕ))

@@ -12,9 +12,9 @@ mod report;
 mod word;
 
 pub use message::{
-    write_cost, write_memory_fault, write_migrated, write_read_fault, write_refusal, write_refused,
-    write_trial, write_usage, write_value_fault, write_values_fault, write_verified,
-    write_write_fault,
+    write_cost, write_header_fault, write_memory_fault, write_migrated, write_read_fault,
+    write_refusal, write_refused, write_trial, write_usage, write_value_fault, write_values_fault,
+    write_verified, write_write_fault,
 };
 pub use report::{Report, write};
 

@@ -8,7 +8,7 @@ ghost use Rattle.cfn_model.specs.Text.{allowed_word, cost_text, kind_name, memor
 ghost use Rattle.cfn_line.specs.Appending.{Appends};
 ghost use Rattle.cfn_line.specs.Words.{word_text};
 ghost use Rattle.cfn_line.specs.declared.channel.Channel.TheVariants.{Screen};
-ghost use Rattle.cfn_report.specs.Texts.{fault_name, migrated_text, refused_text, trial_text, usage_text, verified_text};
+ghost use Rattle.cfn_report.specs.Texts.{fault_name, header_text, migrated_text, refused_text, trial_text, usage_text, verified_text};
 
 use crate::report::say_number;
 use crate::word::word_of;
@@ -29,6 +29,21 @@ pub fn write_refusal<D: Desk>(refusal: &Refusal, desk: &mut D) -> Result<(), Fai
         Word::Name(name_of(refusal.kind)),
         Word::Name("at"),
         Word::Number(refusal.ordinal),
+    ];
+    write_line(Channel::Screen, &words, desk)
+}
+
+/// Says that a wcnf file's header is not `p wcnf`, and the number of the word that differs, from 1. An `Err` has said some
+/// front of it.
+pub fn write_header_fault<D: Desk>(ordinal: u64, desk: &mut D) -> Result<(), Failed>
+    ensures { Appends Screen (D.outside desk.old)
+        (header_text ordinal) result (D.outside desk.new) }
+{
+    let words = [
+        Word::Name("error"),
+        Word::Name("header"),
+        Word::Name("at"),
+        Word::Number(ordinal),
     ];
     write_line(Channel::Screen, &words, desk)
 }
@@ -64,7 +79,7 @@ pub fn write_usage<D: Desk>(desk: &mut D) -> Result<(), Failed>
 {
     send(
         Channel::Screen,
-        b"error usage\nwcspsolve solve FILE CERT [--workers W] [--budget B]\nwcspsolve check FILE CERT\nwcspsolve cost FILE VALUES..\nwcspsolve normal FILE\nwcspsolve trial SEED SIZE [--workers W]\nwcspsolve migrate FILE CERT OUT\n",
+        b"error usage\nwcspsolve solve FILE CERT [--workers W] [--budget B] [--wcnf]\nwcspsolve check FILE CERT [--wcnf]\nwcspsolve cost FILE VALUES.. [--wcnf]\nwcspsolve normal FILE [--wcnf]\nwcspsolve trial SEED SIZE [--workers W]\nwcspsolve migrate FILE CERT OUT\n",
         desk,
     )
 }

@@ -130,6 +130,7 @@ fn says_each_message(rt: HostRuntime) -> Result<(), Fail> {
         ordinal: 17,
     };
     assert_eq!(rt; write_refusal(&refusal, &mut desk), Ok(()));
+    assert_eq!(rt; write_header_fault(2, &mut desk), Ok(()));
     assert_eq!(rt; write_read_fault(&mut desk), Ok(()));
     assert_eq!(rt; write_write_fault(&mut desk), Ok(()));
     assert_eq!(rt; write_memory_fault(&mut desk), Ok(()));
@@ -143,9 +144,10 @@ fn says_each_message(rt: HostRuntime) -> Result<(), Fail> {
     assert_eq!(rt; write_migrated(&mut desk), Ok(()));
     assert_eq!(rt; write_trial(20, 57, 71, &mut desk), Ok(()));
     assert_eq!(rt; write_refused(FaultKind::Lift, 9, &mut desk), Ok(()));
-    let text = b"error table-too-wide at 17\nerror read\nerror write\nerror memory\nerror usage\n\
-        wcspsolve solve FILE CERT [--workers W] [--budget B]\nwcspsolve check FILE CERT\n\
-        wcspsolve cost FILE VALUES..\nwcspsolve normal FILE\nwcspsolve trial SEED SIZE [--workers W]\n\
+    let text =
+        b"error table-too-wide at 17\nerror header at 2\nerror read\nerror write\nerror memory\nerror usage\n\
+        wcspsolve solve FILE CERT [--workers W] [--budget B] [--wcnf]\nwcspsolve check FILE CERT [--wcnf]\n\
+        wcspsolve cost FILE VALUES.. [--wcnf]\nwcspsolve normal FILE [--wcnf]\nwcspsolve trial SEED SIZE [--workers W]\n\
         wcspsolve migrate FILE CERT OUT\ncost 9 allowed\ncost 10 forbidden\n\
         error values expected 3 got 4\nerror value at 2\nverified lower 1 best 1\nverified lower 5 best none\nmigrated\nvariables 20\nfunctions 57\nleast 71\nrefused lift at 9\n";
     assert_eq!(rt; desk.said_bytes(), text.as_slice());

@@ -3,3 +3,4 @@ pub use Rattle.cfn_store.proofs.Amounts.{exact_now, unary_amount, residual_amoun
 pub use Rattle.cfn_store.proofs.Tuples.{tuple_at}
 pub use Rattle.cfn_store.proofs.Along.{exact_here}
 pub use Rattle.cfn_store.proofs.Sides.{side_line}
+pub use Rattle.cfn_store.proofs.Offsets.{offset_below, offset_apart, offset_next, offset_least}

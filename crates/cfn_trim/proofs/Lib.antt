@@ -4,3 +4,4 @@ pub mod Making
 pub mod Running
 pub mod Marks
 pub mod Closing
+pub mod Small

@@ -8,16 +8,18 @@
 //! - `trimmer.rt`: what a caller has;
 //! - `needs.rt`: which steps are needed, from the newest back; `flags.rt`, its sets of numbers;
 //! - `run.rt`: makes the chosen steps again; `testing.rt`, whether a step can be made;
-//! - `end.rt`: what closes a leaf.
+//! - `end.rt`: what closes a leaf; `smallness.rt`: costs stay small along a block.
 #![tactic(auto)]
 
 mod end;
 mod flags;
 mod needs;
 mod run;
+mod smallness;
 mod testing;
 mod trimmer;
 
+pub use smallness::block_stays_tame;
 pub use trimmer::Trimmer;
 
 #[cfg(test)]

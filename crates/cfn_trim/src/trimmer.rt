@@ -1,6 +1,7 @@
 //! Trims the block of a dead leaf.
 
 ghost use Rattle.std.specs.Prelude.{◌≡◌, ◌<◌, ◌≤◌, length, IfOk, IfSome};
+ghost use Rattle.cfn_model.specs.Paths.{TameBlock};
 ghost use Rattle.cfn_model.specs.Steps.{Run, after};
 ghost use Rattle.cfn_model.specs.Tree.{CanClose};
 ghost use Rattle.cfn_store.specs.Standing.{history};
@@ -11,6 +12,7 @@ ghost use Rattle.cfn_trim.specs.Trimming.{IsBegin, AreSome, IsBeside};
 use crate::end::{closes, emptied};
 use crate::needs::Needs;
 use crate::run::run;
+use crate::smallness::block_stays_tame;
 use cfn_net::Network;
 use cfn_proof::Block;
 use cfn_store::{Mark, Store};
@@ -48,7 +50,7 @@ impl<'n> Trimmer<'n> {
     }
 
     /// The block behind which a leaf is closed that is dead where its store stands: of the steps of the store's block those that the
-    /// closing needs, where they run and close alone, and else all. The store goes back to the mark, where its block began, after an
+    /// closing needs, where they run and close alone, and else all. Costs stay below 2^64 along it. The store goes back to the mark, where its block began, after an
     /// `Err` too, which is want of memory.
     pub fn closing_block(
         &mut self,
@@ -63,6 +65,7 @@ impl<'n> Trimmer<'n> {
         requires closes { CanClose self.old (history store.old) threshold }
         ensures runs { IfOk result (λ block. Run self.old store.old.base block threshold) }
         ensures closes { IfOk result (λ block. CanClose self.old (after block store.old.base) threshold) }
+        ensures tame { IfOk result (TameBlock self.old store.old.base) }
         ensures some { IfOk result (λ block. AreSome block store.old.block) }
         ensures no_longer { IfOk result (λ block. length block ≤ length store.old.block) }
         ensures store { store.new ≡ back_at mark.now store.old }
@@ -87,10 +90,12 @@ impl<'n> Trimmer<'n> {
         requires closes { CanClose self.old (history store.old) threshold }
         ensures runs { IfOk result (λ block. Run self.old store.old.base block threshold) }
         ensures closes { IfOk result (λ block. CanClose self.old (after block store.old.base) threshold) }
+        ensures tame { IfOk result (TameBlock self.old store.old.base) }
         ensures some { IfOk result (λ block. AreSome block store.old.block) }
         ensures beside { IsBeside store.old store.new }
         ensures same { self.new ≡ self.old }
     {
+        block_stays_tame(store);
         let whole = store.block(alloc)?;
         if store.block_len() < FEWEST_STEPS {
             return Ok(whole);
@@ -103,6 +108,7 @@ impl<'n> Trimmer<'n> {
         if !run(store, &whole, &mut self.chosen, threshold) || !closes(store, threshold, empty) {
             return Ok(whole);
         }
+        block_stays_tame(store);
         store.block(alloc)
     }
 

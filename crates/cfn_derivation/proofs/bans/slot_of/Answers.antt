@@ -4,7 +4,7 @@ use Rattle.std.specs.Prelude.{slice_index, take}
 use Rattle.cfn_model.specs.Network.{dims_at, scope_at}
 use Rattle.cfn_net.proofs.CallerLemmas.{get_or-dims, length-dims}
 use Rattle.cfn_store.specs.Shifts.{offset}
-use Rattle.cfn_derivation.proofs.Offsets.{offset_next, offset_least}
+use Rattle.cfn_store.proofs.CallerLemmas.{offset_next, offset_least}
 use Rattle.cfn_derivation.proofs.bans.slot_of.Goals as goal
 
 -- the size that comes next is that of the place, which is before the one that is asked for

@@ -1,6 +1,6 @@
 use Rattle.std.proofs.Common.{rules, ◌≡◌, ◌<◌, length, sym, ap, ◌∙◌, subst, false, slice_index_or}
 use Rattle.std.specs.Prelude.{vec_capacity}
-use Rattle.cfn_derivation.proofs.Flags.{has_room, put_is}
+use Rattle.cfn_queue.proofs.CallerLemmas.{has_room, put_is}
 use Rattle.cfn_derivation.proofs.listed.Listed.put.Goals as goal
 
 pub push_reserved-requires : goal.push_reserved-requires
