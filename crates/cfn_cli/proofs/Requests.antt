@@ -1,10 +1,10 @@
 -- The request that rows make, from what stands under each name.
-use Rattle.std.proofs.Common.{◌≡◌, ℕ, List, Option, Some, None, Result, Ok, Err, IfErr, ◌∙◌, sym, refl, codes}
+use Rattle.std.proofs.Common.{◌≡◌, ℕ, List, Option, Some, None, Result, Ok, Err, IfErr, ◌∙◌, sym, ap, refl, codes}
 use Rattle.clap.specs.Words.{Row, Text, all_of, first_of}
 use Rattle.std.specs.Prelude.{IsErrAnd}
 use Rattle.cfn_cli.specs.declared.fault.CliFault.{CliFault}
 use Rattle.cfn_cli.specs.declared.fault.CliFault.TheVariants.{Usage}
-use Rattle.cfn_cli.specs.Request.{check_of, cost_of, migrate_in, normal_of, number_of, solve_in, trial_of, values_of}
+use Rattle.cfn_cli.specs.Request.{check_of, cost_of, format_in, format_of, migrate_in, normal_of, number_of, solve_in, trial_of, values_of}
 
 -- A fault of any kind, where nothing is asked for.
 pub nothing_asked : {T X : Type 0} (r : Result T CliFault) (asked : Option X) → asked ≡ None
@@ -21,7 +21,7 @@ passed_on (Err y) e asked gives none = λ is. none (sym gives ∙ is)
 pub solve_made : (rows : List Row) (file certificate : Text) (workers budget : ℕ) → first_of (codes "file") rows ≡ Some file
     → first_of (codes "certificate") rows ≡ Some certificate → number_of (codes "workers") 1 64 rows ≡ Some workers
     → number_of (codes "budget") 0 9223372036854775807 rows ≡ Some budget
-    → solve_in rows ≡ Some (record { file = file; certificate = certificate; workers = workers; budget = budget })
+    → solve_in rows ≡ Some (record { file = file; certificate = certificate; workers = workers; budget = budget; format = format_of rows })
 unfolding solve_in
 solve_made rows file certificate workers budget e1 e2 e3 e4 = rw (e1, e2, e3, e4) refl
 
@@ -46,7 +46,7 @@ unfolding solve_in
 solve_without_budget rows file certificate workers e1 e2 e3 e4 = rw (e1, e2, e3, e4) refl
 
 pub check_made : (rows : List Row) (file certificate : Text) → first_of (codes "file") rows ≡ Some file
-    → first_of (codes "certificate") rows ≡ Some certificate → check_of rows ≡ Some (record { file = file; certificate = certificate })
+    → first_of (codes "certificate") rows ≡ Some certificate → check_of rows ≡ Some (record { file = file; certificate = certificate; format = format_of rows })
 unfolding check_of
 check_made rows file certificate e1 e2 = rw (e1, e2) refl
 
@@ -59,7 +59,7 @@ pub check_without_certificate : (rows : List Row) (file : Text) → first_of (co
 unfolding check_of
 check_without_certificate rows file e1 e2 = rw (e1, e2) refl
 
-pub normal_made : (rows : List Row) (file : Text) → first_of (codes "file") rows ≡ Some file → normal_of rows ≡ Some (record { file = file })
+pub normal_made : (rows : List Row) (file : Text) → first_of (codes "file") rows ≡ Some file → normal_of rows ≡ Some (record { file = file; format = format_of rows })
 unfolding normal_of
 normal_made rows file e1 = rw e1 refl
 
@@ -107,7 +107,7 @@ migrate_without_out rows file certificate e1 e2 e3 = rw (e1, e2, e3) refl
 
 pub cost_made : (rows : List Row) (file : Text) (texts : List Text) (values : List ℕ) → first_of (codes "file") rows ≡ Some file
     → all_of (codes "values") rows ≡ Some texts → values_of texts ≡ Some values
-    → cost_of rows ≡ Some (record { file = file; values = values })
+    → cost_of rows ≡ Some (record { file = file; values = values; format = format_of rows })
 unfolding cost_of
 cost_made rows file texts values e1 e2 e3 = rw (e1, e2, e3) refl
 
@@ -124,3 +124,7 @@ pub cost_without_values : (rows : List Row) (file : Text) (texts : List Text) �
     → all_of (codes "values") rows ≡ Some texts → values_of texts ≡ None → cost_of rows ≡ None
 unfolding cost_of
 cost_without_values rows file texts e1 e2 e3 = rw (e1, e2, e3) refl
+
+-- the format, from the text that stands under its name
+pub format_by : (rows : List Row) (o : Option Text) → first_of (codes "wcnf") rows ≡ o → format_of rows ≡ format_in o
+format_by rows o e = ap format_in e

@@ -3,7 +3,7 @@ use Rattle.std.specs.Prelude.{Some, true, codes, []}
 use Rattle.std.specs.Prelude.{◌∷◌}
 use Rattle.clap.specs.Words.{App, Rule, new_app, new_rule, with_rule, with_subcommand}
 use Rattle.clap.specs.Simple.{on_top}
-use Rattle.clap.specs.declared.builder.action.ArgAction.TheVariants.{Append}
+use Rattle.clap.specs.declared.builder.action.ArgAction.TheVariants.{Append, SetTrue}
 use Rattle.clap.specs.declared.builder.value_parser.ValueParser.{ValueParser}
 use Rattle.clap.specs.declared.builder.value_parser.ValueParser.TheVariants as vp
 
@@ -55,22 +55,29 @@ values_rule = record (new_rule (codes "values")) {
   parser = Some number;
 }
 
--- solve FILE CERT [--workers W] [--budget B]
+-- [--wcnf]
+unfoldable pub wcnf_rule : Rule
+wcnf_rule = record (new_rule (codes "wcnf")) {
+  long = Some (codes "wcnf");
+  action = Some SetTrue;
+}
+
+-- solve FILE CERT [--workers W] [--budget B] [--wcnf]
 unfoldable pub solve_app : App
-solve_app = with_rule (with_rule (with_rule (with_rule (new_app (codes "solve")) file_rule)
-    certificate_rule) workers_rule) budget_rule
+solve_app = with_rule (with_rule (with_rule (with_rule (with_rule (new_app (codes "solve")) file_rule)
+    certificate_rule) workers_rule) budget_rule) wcnf_rule
 
--- check FILE CERT
+-- check FILE CERT [--wcnf]
 unfoldable pub check_app : App
-check_app = with_rule (with_rule (new_app (codes "check")) file_rule) certificate_rule
+check_app = with_rule (with_rule (with_rule (new_app (codes "check")) file_rule) certificate_rule) wcnf_rule
 
--- cost FILE VALUES..
+-- cost FILE VALUES.. [--wcnf]
 unfoldable pub cost_app : App
-cost_app = with_rule (with_rule (new_app (codes "cost")) file_rule) values_rule
+cost_app = with_rule (with_rule (with_rule (new_app (codes "cost")) file_rule) values_rule) wcnf_rule
 
--- normal FILE
+-- normal FILE [--wcnf]
 unfoldable pub normal_app : App
-normal_app = with_rule (new_app (codes "normal")) file_rule
+normal_app = with_rule (with_rule (new_app (codes "normal")) file_rule) wcnf_rule
 
 -- trial SEED SIZE [--workers W]
 unfoldable pub trial_app : App

@@ -7,6 +7,8 @@ use Rattle.std.specs.Str.Parse.{digits_value, without_leading_plus}
 use Rattle.clap.specs.Words.{Kinds, Row, Text, all_of, fault_of, first_of, subcommand_of}
 use Rattle.clap.specs.ValueTests.{is_unsigned_in}
 use Rattle.cfn_cli.specs.Line.{command_line}
+use Rattle.cfn_cli.specs.declared.format.Format.{Format}
+use Rattle.cfn_cli.specs.declared.format.Format.TheVariants.{Wcsp, Wcnf}
 use Rattle.cfn_cli.specs.declared.command.Command.{Command}
 use Rattle.cfn_cli.specs.declared.command.Command.TheVariants.{Solve, Check, Cost, Normal, Trial, Migrate}
 use Rattle.cfn_cli.specs.declared.command.SolveArguments.{SolveArguments}
@@ -23,17 +25,21 @@ pub record SolveRequest : Type 0 where
   pub certificate : Text
   pub workers : ℕ
   pub budget : ℕ
+  pub format : Format
 
 pub record CheckRequest : Type 0 where
   pub file : Text
   pub certificate : Text
+  pub format : Format
 
 pub record CostRequest : Type 0 where
   pub file : Text
   pub values : List ℕ
+  pub format : Format
 
 pub record NormalRequest : Type 0 where
   pub file : Text
+  pub format : Format
 
 pub record TrialRequest : Type 0 where
   pub seed : ℕ
@@ -61,16 +67,17 @@ spoken_solve a = record {
   certificate = string_bytes a.certificate;
   workers = a.workers;
   budget = a.budget;
+  format = a.format;
 }
 
 abbrev pub spoken_check : CheckArguments → CheckRequest
-spoken_check a = record { file = string_bytes a.file; certificate = string_bytes a.certificate }
+spoken_check a = record { file = string_bytes a.file; certificate = string_bytes a.certificate; format = a.format }
 
 abbrev pub spoken_cost : CostArguments → CostRequest
-spoken_cost a = record { file = string_bytes a.file; values = a.values.items }
+spoken_cost a = record { file = string_bytes a.file; values = a.values.items; format = a.format }
 
 abbrev pub spoken_normal : NormalArguments → NormalRequest
-spoken_normal a = record { file = string_bytes a.file }
+spoken_normal a = record { file = string_bytes a.file; format = a.format }
 
 abbrev pub spoken_trial : TrialArguments → TrialRequest
 spoken_trial a = record { seed = a.seed; size = a.size; workers = a.workers }
@@ -111,6 +118,14 @@ values_of (text ∷ texts) =
 abbrev pub number_of : Text → ℕ → ℕ → List Row → Option ℕ
 number_of id least most rows = option_and_then (number_in least most) (first_of id rows)
 
+-- The format of a file, by what stands under `wcnf`: clap puts `true` there where the words have the option.
+abbrev pub format_in : Option Text → Format
+format_in None = Wcsp
+format_in (Some text) = if bytes_eq text (codes "true") then Wcnf else Wcsp
+
+abbrev pub format_of : List Row → Format
+format_of rows = format_in (first_of (codes "wcnf") rows)
+
 -- What the rows of `solve` say.
 unfoldable pub solve_in : List Row → Option SolveRequest
 solve_in rows = option_and_then (λ file. option_and_then (λ certificate.
@@ -119,6 +134,7 @@ solve_in rows = option_and_then (λ file. option_and_then (λ certificate.
       certificate = certificate;
       workers = workers;
       budget = budget;
+      format = format_of rows;
     }) (number_of (codes "budget") 0 9223372036854775807 rows))
     (number_of (codes "workers") 1 64 rows))
     (first_of (codes "certificate") rows)) (first_of (codes "file") rows)
@@ -134,16 +150,18 @@ unfoldable pub check_of : List Row → Option CheckRequest
 check_of rows = option_and_then (λ file. option_map (λ certificate. record {
   file = file;
   certificate = certificate;
+  format = format_of rows;
 }) (first_of (codes "certificate") rows)) (first_of (codes "file") rows)
 
 unfoldable pub cost_of : List Row → Option CostRequest
 cost_of rows = option_and_then (λ file. option_map (λ values. record {
   file = file;
   values = values;
+  format = format_of rows;
 }) (option_and_then values_of (all_of (codes "values") rows))) (first_of (codes "file") rows)
 
 unfoldable pub normal_of : List Row → Option NormalRequest
-normal_of rows = option_map (λ file. record { file = file }) (first_of (codes "file") rows)
+normal_of rows = option_map (λ file. record { file = file; format = format_of rows }) (first_of (codes "file") rows)
 
 unfoldable pub trial_of : List Row → Option TrialRequest
 trial_of rows = option_and_then (λ seed. option_and_then (λ size. option_map (λ workers. record {

@@ -1,15 +1,17 @@
 //! What a command line asks for.
 
+use crate::format::Format;
+
 /// A command, with all that its words say.
 #[derive(Debug, Drop)]
 pub enum Command {
-    /// `solve FILE CERT [--workers W] [--budget B]`
+    /// `solve FILE CERT [--workers W] [--budget B] [--wcnf]`
     Solve(SolveArguments),
-    /// `check FILE CERT`
+    /// `check FILE CERT [--wcnf]`
     Check(CheckArguments),
-    /// `cost FILE VALUES..`
+    /// `cost FILE VALUES.. [--wcnf]`
     Cost(CostArguments),
-    /// `normal FILE`
+    /// `normal FILE [--wcnf]`
     Normal(NormalArguments),
     /// `trial SEED SIZE [--workers W]`
     Trial(TrialArguments),
@@ -29,6 +31,8 @@ pub struct SolveArguments {
     /// How many nodes the search may expand: 0 to 2^63 - 1, and the greatest where the words give
     /// no number.
     pub budget: u64,
+    /// The format of the file: wcnf exactly where the words say so.
+    pub format: Format,
 }
 
 /// A certificate to judge, and the file that it is for.
@@ -38,6 +42,8 @@ pub struct CheckArguments {
     pub file: String,
     /// The name of the file that the certificate is read from.
     pub certificate: String,
+    /// The format of the file: wcnf exactly where the words say so.
+    pub format: Format,
 }
 
 /// An assignment of which the cost is asked for.
@@ -47,6 +53,8 @@ pub struct CostArguments {
     pub file: String,
     /// A value for each variable, in order: at least one.
     pub values: Vec<u32>,
+    /// The format of the file: wcnf exactly where the words say so.
+    pub format: Format,
 }
 
 /// A network to say in its canonical text.
@@ -54,6 +62,8 @@ pub struct CostArguments {
 pub struct NormalArguments {
     /// The name of the file that the network is read from.
     pub file: String,
+    /// The format of the file: wcnf exactly where the words say so.
+    pub format: Format,
 }
 
 /// A drawn network to solve.

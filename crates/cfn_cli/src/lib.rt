@@ -1,9 +1,9 @@
 //! The command line of the program `wcspsolve`: which command its words spell.
 //!
-//!     wcspsolve solve FILE CERT [--workers W] [--budget B]
-//!     wcspsolve check FILE CERT
-//!     wcspsolve cost FILE VALUES..
-//!     wcspsolve normal FILE
+//!     wcspsolve solve FILE CERT [--workers W] [--budget B] [--wcnf]
+//!     wcspsolve check FILE CERT [--wcnf]
+//!     wcspsolve cost FILE VALUES.. [--wcnf]
+//!     wcspsolve normal FILE [--wcnf]
 //!     wcspsolve trial SEED SIZE [--workers W]
 //!     wcspsolve migrate FILE CERT OUT
 //!
@@ -15,6 +15,7 @@
 
 mod command;
 mod fault;
+mod format;
 mod line;
 mod parsing;
 mod reading;
@@ -24,6 +25,7 @@ pub use command::{
     TrialArguments,
 };
 pub use fault::CliFault;
+pub use format::Format;
 pub use parsing::parse;
 
 #[cfg(test)]

@@ -3,7 +3,7 @@
 ghost use Rattle.std.specs.Prelude.{◌≡◌, IfOk, false};
 ghost use Rattle.clap.specs.Words.{rule_of};
 ghost use Rattle.cfn_cli.specs.Building.{Builds};
-ghost use Rattle.cfn_cli.specs.Line.{budget_rule, certificate_rule, check_app, command_line, cost_app, file_rule, migrate_app, normal_app, out_rule, seed_rule, size_rule, solve_app, trial_app, values_rule, workers_rule};
+ghost use Rattle.cfn_cli.specs.Line.{budget_rule, certificate_rule, check_app, command_line, cost_app, file_rule, migrate_app, normal_app, out_rule, seed_rule, size_rule, solve_app, trial_app, values_rule, wcnf_rule, workers_rule};
 
 use clap::{Arg, ArgAction, Command, value_parser};
 use std::alloc::{AllocError, Global};
@@ -35,7 +35,8 @@ fn solve<'a>(alloc: Global) -> Result<Command<'a>, AllocError>
         .arg(file(alloc))?
         .arg(certificate(alloc))?
         .arg(workers(alloc))?
-        .arg(budget(alloc))
+        .arg(budget(alloc))?
+        .arg(wcnf(alloc))
 }
 
 fn check<'a>(alloc: Global) -> Result<Command<'a>, AllocError>
@@ -43,7 +44,8 @@ fn check<'a>(alloc: Global) -> Result<Command<'a>, AllocError>
 {
     Command::new(alloc, "check")
         .arg(file(alloc))?
-        .arg(certificate(alloc))
+        .arg(certificate(alloc))?
+        .arg(wcnf(alloc))
 }
 
 fn cost<'a>(alloc: Global) -> Result<Command<'a>, AllocError>
@@ -51,13 +53,16 @@ fn cost<'a>(alloc: Global) -> Result<Command<'a>, AllocError>
 {
     Command::new(alloc, "cost")
         .arg(file(alloc))?
-        .arg(values(alloc))
+        .arg(values(alloc))?
+        .arg(wcnf(alloc))
 }
 
 fn normal<'a>(alloc: Global) -> Result<Command<'a>, AllocError>
     ensures { IfOk result (Builds normal_app) }
 {
-    Command::new(alloc, "normal").arg(file(alloc))
+    Command::new(alloc, "normal")
+        .arg(file(alloc))?
+        .arg(wcnf(alloc))
 }
 
 fn trial<'a>(alloc: Global) -> Result<Command<'a>, AllocError>
@@ -153,4 +158,14 @@ fn values<'a>(alloc: Global) -> Arg<'a>
         .required(true)
         .action(ArgAction::Append)
         .value_parser(value_parser!(u64))
+}
+
+#[tactic(auto, unfolding(crate::specs::Line::wcnf_rule))]
+fn wcnf<'a>(alloc: Global) -> Arg<'a>
+    ensures rule { rule_of result ≡ wcnf_rule }
+    ensures local { result.global ≡ false }
+{
+    Arg::new(alloc, "wcnf")
+        .long("wcnf")
+        .action(ArgAction::SetTrue)
 }

@@ -3,13 +3,14 @@
 ghost use Rattle.std.specs.Prelude.{◌≡◌, ◌≤◌, ◌<◌, ◌^◌, Some, None, IfErr, IfOk, IfSome, length, map};
 ghost use Rattle.std.specs.List.{All};
 ghost use Rattle.clap.specs.Words.{first_of, found_of, rows_of, subcommand_rows_of};
-ghost use Rattle.cfn_cli.specs.Request.{IfCost, IfSolve, IfTrial, check_of, cost_of, migrate_in, migrate_of, normal_of, number_in, number_of, request, request_from, request_named, solve_in, solve_of, spoken_check, spoken_cost, spoken_migrate, spoken_normal, spoken_solve, spoken_trial, trial_of, values_of};
+ghost use Rattle.cfn_cli.specs.Request.{IfCost, IfSolve, IfTrial, check_of, cost_of, format_in, format_of, migrate_in, migrate_of, normal_of, number_in, number_of, request, request_from, request_named, solve_in, solve_of, spoken_check, spoken_cost, spoken_migrate, spoken_normal, spoken_solve, spoken_trial, trial_of, values_of};
 
 use crate::command::{
     CheckArguments, Command, CostArguments, MigrateArguments, NormalArguments, SolveArguments,
     TrialArguments,
 };
 use crate::fault::CliFault;
+use crate::format::Format;
 use clap::ArgMatches;
 use std::alloc::Global;
 
@@ -106,6 +107,7 @@ fn solve_in(alloc: Global, found: &ArgMatches<'_>) -> Result<SolveArguments, Cli
         certificate: String::from_str(alloc, certificate)?,
         workers: workers as u8,
         budget,
+        format: format(found),
     })
 }
 
@@ -119,6 +121,7 @@ fn check(alloc: Global, found: &ArgMatches<'_>) -> Result<CheckArguments, CliFau
     Ok(CheckArguments {
         file: String::from_str(alloc, file)?,
         certificate: String::from_str(alloc, judged)?,
+        format: format(found),
     })
 }
 
@@ -137,6 +140,7 @@ fn cost(alloc: Global, found: &ArgMatches<'_>) -> Result<CostArguments, CliFault
     Ok(CostArguments {
         file: String::from_str(alloc, file)?,
         values,
+        format: format(found),
     })
 }
 
@@ -148,6 +152,7 @@ fn normal(alloc: Global, found: &ArgMatches<'_>) -> Result<NormalArguments, CliF
     let file = text(found, "file")?;
     Ok(NormalArguments {
         file: String::from_str(alloc, file)?,
+        format: format(found),
     })
 }
 
@@ -216,6 +221,27 @@ fn values(alloc: Global, texts: &[&str]) -> Result<Vec<u32>, CliFault>
         values.push(value as u32)?;
     }
     Ok(values)
+}
+
+/// The format of the file.
+fn format(found: &ArgMatches<'_>) -> Format
+    ensures { result ≡ format_of (rows_of (found_of found.now)) }
+{
+    match found.get_str("wcnf") {
+        Some(flag) => format_flagged(flag),
+        None => Format::Wcsp,
+    }
+}
+
+/// The format of a file, by the value of the flag.
+fn format_flagged(flag: &str) -> Format
+    ensures { result ≡ format_in (Some flag.now) }
+{
+    if flag == "true" {
+        Format::Wcnf
+    } else {
+        Format::Wcsp
+    }
 }
 
 /// The text of an argument.

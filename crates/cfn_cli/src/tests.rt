@@ -1,4 +1,4 @@
-use crate::{CliFault, Command, parse};
+use crate::{CliFault, Command, Format, parse};
 use std::alloc::Global;
 use std::test::Fail;
 
@@ -65,6 +65,38 @@ fn costs(alloc: Global, words: &[&str], values: &[u32]) -> bool {
             asked.file.as_str() == "f" && asked.values.as_slice() == values
         }
         _ => false,
+    }
+}
+
+/// The format that is asked for, of a command that has one.
+fn format(alloc: Global, words: &[&str]) -> Option<Format> {
+    match parse(alloc, words) {
+        Ok(Command::Solve(asked)) => Some(asked.format),
+        Ok(Command::Check(asked)) => Some(asked.format),
+        Ok(Command::Cost(asked)) => Some(asked.format),
+        Ok(Command::Normal(asked)) => Some(asked.format),
+        _ => None,
+    }
+}
+
+#[test]
+fn format_is_read(rt: HostRuntime) {
+    let alloc = rt.alloc();
+    for words in [
+        ["w", "solve", "a", "b"].as_slice(),
+        &["w", "check", "a", "b"],
+        &["w", "cost", "f", "0"],
+        &["w", "normal", "f"],
+    ] {
+        assert!(rt; format(alloc, words) == Some(Format::Wcsp), "{words:?}");
+    }
+    for words in [
+        ["w", "solve", "--wcnf", "a", "b"].as_slice(),
+        &["w", "check", "a", "b", "--wcnf"],
+        &["w", "cost", "f", "--wcnf", "0"],
+        &["w", "normal", "f", "--wcnf"],
+    ] {
+        assert!(rt; format(alloc, words) == Some(Format::Wcnf), "{words:?}");
     }
 }
 
@@ -166,6 +198,10 @@ fn other_words_are_usage(rt: HostRuntime) {
         &["w", "solve", "a", "b", "--budget", "9223372036854775808"],
         &["w", "solve", "a", "b", "--budget"],
         &["w", "normal"],
+        &["w", "normal", "a", "--wcnf=true"],
+        &["w", "normal", "a", "--wcnf", "--wcnf"],
+        &["w", "trial", "7", "1", "--wcnf"],
+        &["w", "migrate", "a", "b", "c", "--wcnf"],
         &["w", "normal", "a", "b"],
         &["w", "normal", "a", "--workers", "1"],
         &["w", "trial", "7"],

@@ -6,8 +6,8 @@ ghost use Rattle.cfn_wcsp.specs.Fields.{check_of};
 use cfn_model::{Kind, MOST_CELLS, MOST_FUNCTIONS, MOST_VALUES, MOST_VARIABLES};
 
 /// What a number of the file says.
-#[derive(Clone, Copy)]
-pub(crate) enum Field {
+#[derive(Clone, Copy, Debug)]
+pub enum Field {
     /// The number of variables.
     Variables,
     /// The greatest domain size.
@@ -30,8 +30,8 @@ pub(crate) enum Field {
 }
 
 impl Field {
-    /// The first check that a number fails in this field.
-    pub(crate) fn check(self, number: i64) -> Option<Kind>
+    /// The first check that a number fails in this field, if it fails one.
+    pub fn check(self, number: i64) -> Option<Kind>
         ensures { result ≡ check_of self number }
     {
         match self {

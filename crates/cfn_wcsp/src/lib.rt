@@ -5,7 +5,8 @@
 //!
 //! - `read` answers the network, or a `ReadFault`: the file is refused, or memory is. `reading` goes over the file as a
 //!   whole, `sizes` over the domain sizes, and `tables` over one cost function, with its `scope`.
-//! - `numerals` takes the next word and the next number, and `field` has what each number is checked for.
+//! - `numerals` takes the next word and the next number, and `field` has what each number is checked for. `numeral`,
+//!   `refused` and `Field` serve readers of other formats too.
 #![tactic(auto)]
 
 mod fault;
@@ -17,6 +18,8 @@ mod sizes;
 mod tables;
 
 pub use fault::ReadFault;
+pub use field::Field;
+pub use numerals::{numeral, refused};
 pub use reading::read;
 
 #[cfg(test)]

@@ -13,8 +13,8 @@ use crate::scope::Scope;
 use cfn_model::{Kind, NumberFault, Refusal};
 use cfn_words::{Words, number};
 
-/// The refusal of the word with an ordinal.
-pub(crate) fn refused(kind: Kind, ordinal: u64) -> ReadFault
+/// The fault of a word that fails a check: its kind, and the word's ordinal, counted from 1.
+pub fn refused(kind: Kind, ordinal: u64) -> ReadFault
     ensures { result ≡ ReadFault.Refused (record { kind = kind; ordinal = ordinal }) }
 {
     ReadFault::Refused(Refusal { kind, ordinal })
@@ -33,8 +33,9 @@ pub(crate) fn word<'a>(words: &mut Words<'a>) -> Result<(&'a [u8], u64), ReadFau
     }
 }
 
-/// The number that the word with an ordinal is.
-pub(crate) fn numeral(word: &[u8], ordinal: u64) -> Result<i64, ReadFault>
+/// The number that the word with an ordinal is: an optional `-` and decimal digits, at most 2^63 - 1 in absolute value
+/// (toulbar2 user manual, wcsp format). A word that is no such number is refused at its ordinal.
+pub fn numeral(word: &[u8], ordinal: u64) -> Result<i64, ReadFault>
     ensures { Gives (λ z. z) result (number_in (number_of word.now) ordinal) }
 {
     match number(word) {

@@ -8,4 +8,5 @@ unfolding cost_app
 returns c =
     let start = begun _ _ c.new.ensures.app c.new.ensures.local in
     let with_file = argument_added _ _ _ _ _ c.in_ok-arg.ensures start c.file.ensures.rule c.file.ensures.local in
-    IfOk-weaker c.arg-2.result _ _ (λ new adds. argument_added _ new _ _ _ adds with_file c.values.ensures.rule c.values.ensures.local) c.arg-2.ensures
+    let with_values = argument_added _ _ _ _ _ c.in_ok-arg-2.ensures with_file c.values.ensures.rule c.values.ensures.local in
+    IfOk-weaker c.arg-3.result _ _ (λ new adds. argument_added _ new _ _ _ adds with_values c.wcnf.ensures.rule c.wcnf.ensures.local) c.arg-3.ensures

@@ -7,4 +7,5 @@ pub returns : goal.returns
 unfolding normal_app
 returns c =
     let start = begun _ _ c.new.ensures.app c.new.ensures.local in
-    IfOk-weaker c.arg.result _ _ (λ new adds. argument_added _ new _ _ _ adds start c.file.ensures.rule c.file.ensures.local) c.arg.ensures
+    let with_file = argument_added _ _ _ _ _ c.in_ok-arg.ensures start c.file.ensures.rule c.file.ensures.local in
+    IfOk-weaker c.arg-2.result _ _ (λ new adds. argument_added _ new _ _ _ adds with_file c.wcnf.ensures.rule c.wcnf.ensures.local) c.arg-2.ensures

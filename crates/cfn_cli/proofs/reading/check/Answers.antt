@@ -10,5 +10,5 @@ returns-in_err-judged-clause-usage c =
 
 pub returns-clause-arguments : goal.returns-clause-arguments
 returns-clause-arguments c =
-    rw (c.in_ok-from_str.ensures.ok, c.in_ok-from_str-2.ensures.ok)
+    rw (c.in_ok-from_str.ensures.ok, c.in_ok-from_str-2.ensures.ok, c.format.ensures)
     (check_made _ _ _ c.in_ok-file.ensures.text c.in_ok-judged.ensures.text)

@@ -18,5 +18,5 @@ returns-in_err-values-clause-usage c =
 
 pub returns-clause-arguments : goal.returns-clause-arguments
 returns-clause-arguments c =
-    rw c.in_ok-from_str.ensures.ok
+    rw (c.in_ok-from_str.ensures.ok, c.format.ensures)
     (cost_made _ _ _ _ c.in_ok-file.ensures.text (all_rows c.args.found.now (codes "values") _ c.in-Some.ensures) c.in_ok-values.ensures.values)

@@ -19,5 +19,5 @@ returns-in_err-budget-clause-usage c =
 
 pub returns-clause-arguments : goal.returns-clause-arguments
 returns-clause-arguments c =
-    rw (c.in_ok-from_str.ensures.ok, c.in_ok-from_str-2.ensures.ok)
+    rw (c.in_ok-from_str.ensures.ok, c.in_ok-from_str-2.ensures.ok, c.format.ensures)
     (solve_made _ _ _ _ _ c.in_ok-file.ensures.text c.in_ok-certificate.ensures.text c.in_ok-workers.ensures.number c.in_ok-budget.ensures.number)

@@ -1,0 +1,10 @@
+pub mod FirstLines
+pub mod Steps
+pub mod Occurrences
+pub mod Checks
+pub mod Tables
+pub mod Gathering
+pub mod Literals
+pub mod Adding
+pub mod Weights
+pub mod Rows
