@@ -1,3 +1,4 @@
+pub mod CallerLemmas
 pub mod Ways
 pub mod Trees
 pub mod Marks

@@ -1,7 +1,7 @@
 //! What is read of the leaves.
 
 ghost use Rattle.std.specs.Prelude.{◌≡◌, ◌+◌, [], min};
-ghost use Rattle.cfn_model.specs.Tree.{bound};
+ghost use Rattle.cfn_model.specs.Tree.{bound, open_leaves};
 ghost use Rattle.cfn_proof.specs.Nodes.{tree_of};
 ghost use Rattle.cfn_machine.specs.Pool.{granted};
 ghost use Rattle.cfn_machine.specs.Pool as pool;
@@ -19,6 +19,13 @@ impl Leaves {
         ensures { result ≡ self.now.nodes }
     {
         self.nodes
+    }
+
+    /// How many leaves are open, free or out.
+    pub fn open_leaves(&self) -> u64
+        ensures { result ≡ open_leaves (pool.tree_of (pool_tree self.now)) }
+    {
+        self.opened
     }
 
     /// How many nodes may be made.
@@ -56,12 +63,13 @@ impl Leaves {
         least
     }
 
-    /// The search tree. It takes no memory.
-    pub fn finish(self) -> Tree
-        ensures { tree_of result ≡ pool.tree_of (pool_tree self) }
+    /// The search tree, and the rows of bounds that were noted. It takes no memory.
+    pub fn finish(self) -> (Tree, Vec<Row>)
+        ensures tree { tree_of result.0 ≡ pool.tree_of (pool_tree self) }
+        ensures rows { result.1.items ≡ self.rows }
     {
-        let Leaves { tree, .. } = self;
-        tree
+        let Leaves { tree, rows, .. } = self;
+        (tree, rows)
     }
 }
 

@@ -113,7 +113,7 @@ fn piece_takes_the_place_of_the_root(rt: HostRuntime) -> Result<(), Fail> {
     assert!(rt; matches!(leaves.give(piece), Handed::Done));
     assert!(rt; leaves.nodes() == 1);
     assert!(rt; leaves.left() == 1);
-    let tree = leaves.finish();
+    let (tree, _) = leaves.finish();
     assert!(rt; tree.len() == 3);
     Ok(())
 }
@@ -155,7 +155,7 @@ fn sweep_closes_the_root(rt: HostRuntime) -> Result<(), Fail> {
     assert!(rt; leaves.bound(10) == 10);
     leaves.note(&network, 7);
     assert!(rt; leaves.rows().len() == 2);
-    let tree = leaves.finish();
+    let (tree, _) = leaves.finish();
     assert!(rt; tree.node(Tree::ROOT).end == End::Shut);
     Ok(())
 }

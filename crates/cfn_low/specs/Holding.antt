@@ -5,7 +5,7 @@ use Rattle.cfn_model.specs.Network.{Network}
 use Rattle.cfn_model.specs.Certificate.{Solution, threshold_of}
 use Rattle.cfn_machine.specs.declared.sight.Sight.{Sight}
 use Rattle.cfn_machine.specs.Word.{all_shares}
-use Rattle.cfn_low.specs.Steps.{sight}
+use Rattle.cfn_low.specs.Steps.{IsReached, sight}
 
 -- The best assignment that a worker keeps, if it keeps one, the threshold that it has seen, and its shares.
 pub record Holding : Type 0 where
@@ -25,12 +25,14 @@ kept P one other = if nat_lt (threshold_of P.upper other) (threshold_of P.upper 
 abbrev pub sight_of : Network → Holding → Sight
 sight_of P h = sight (price_of P h) h.seen h.shares
 
--- It has a share, no more than there are, and nothing above the upper bound.
+-- It has a share, no more than there are, and nothing above the upper bound. What was seen is the upper bound, or the cost
+-- of an assignment.
 pub record IsHolding (P : Network) (h : Holding) : Type 0 where
   pub some : 0 < h.shares
   pub few : h.shares ≤ all_shares
   pub price : price_of P h ≤ P.upper
   pub seen : h.seen ≤ P.upper
+  pub reached : IsReached P h.seen
 
 -- A word that has just been made: which table it is, and of which network.
 pub record Made : Type 0 where

@@ -40,13 +40,13 @@ pub struct Note<M: Incumbent> {
 
 impl<M: Incumbent> Model for Note<M> {
     ghost use Rattle.std.specs.Prelude.{◌≡◌, ℕ, ◌≤◌};
-    ghost use Rattle.cfn_low.specs.Steps.{bare, sight};
+    ghost use Rattle.cfn_low.specs.Steps.{IsReached, bare, sight};
 
     ghost Value = { ℕ };
 
     ghost view = { λ s. s.seen };
 
-    ghost invariant = { λ s. (s.seat.table_id ≡ M.table) × (s.seat.me ≡ bare (sight M.network.upper s.seen 0)) × (s.seen ≤ M.network.upper) };
+    ghost invariant = { λ s. (s.seat.table_id ≡ M.table) × (s.seat.me ≡ bare (sight M.network.upper s.seen 0)) × (s.seen ≤ M.network.upper) × IsReached M.network s.seen };
 }
 
 impl<M: Incumbent> Holder<M> {
@@ -62,6 +62,13 @@ impl<M: Incumbent> Holder<M> {
         ensures { result.now ≡ record { network = M.network; held = self.now.held } }
     {
         &self.best
+    }
+
+    /// Nothing: its contract tells a caller what a part keeps.
+    pub fn kept(&self)
+        ensures { IsHolding M.network self.now }
+    {
+        let _ = &self.seen;
     }
 
     /// Whether it has all 128 shares of the word.

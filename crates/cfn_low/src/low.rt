@@ -4,6 +4,7 @@
 ghost use Rattle.std.specs.Prelude.{◌≡◌, ◌<◌, ◌≤◌, ◌+◌, ◌-◌, min, None, IfOk};
 ghost use Rattle.cfn_model.specs.Certificate.{threshold_of};
 ghost use Rattle.cfn_low.specs.Holding.{price_of, kept};
+ghost use Rattle.cfn_low.specs.Steps.{IsReached};
 
 use crate::holder::{Holder, Note};
 use crate::rule::{Incumbent, Look, Lower, Meeting, Share, Telling, WordRule};
@@ -16,7 +17,7 @@ use std::marker::{Model, PhantomData};
 /// A word that has no name yet, with all its shares.
 #[derive(Drop)]
 pub struct Unnamed {
-    table: Table<(), Sight, u64, WordRule, Global>,
+    table: Table<(), Sight, Network, WordRule, Global>,
     seat: Seat<(), Sight>,
     best: Scored,
 }
@@ -31,14 +32,14 @@ impl Model for Unnamed {
 
     ghost view = { λ s. record { table = s.table.shared.table_id; network = s.best.network } };
 
-    ghost invariant = { λ s. (s.table.shared.table_id.words ≡ 1) × (s.table.shared.table_id.slots ≡ 0) × (s.table.shared.key ≡ s.best.network.upper) × (s.seat.table_id ≡ s.table.shared.table_id)
+    ghost invariant = { λ s. (s.table.shared.table_id.words ≡ 1) × (s.table.shared.table_id.slots ≡ 0) × (s.table.shared.key ≡ s.best.network) × (s.seat.table_id ≡ s.table.shared.table_id)
         × (s.seat.me ≡ bare (first_sight s.best.network.upper)) × (s.best.held ≡ None) };
 }
 
 /// The word.
 #[derive(Drop)]
 pub struct Low<M: Incumbent> {
-    table: Table<(), Sight, u64, WordRule, Global>,
+    table: Table<(), Sight, Network, WordRule, Global>,
     word: PhantomData<M>,
 }
 
@@ -47,7 +48,7 @@ impl<M: Incumbent> Model for Low<M> {
 
     ghost view = { λ s. tt };
 
-    ghost invariant = { λ s. (s.table.shared.table_id ≡ M.table) × (s.table.shared.table_id.words ≡ 1) × (s.table.shared.table_id.slots ≡ 0) × (s.table.shared.key ≡ M.network.upper) };
+    ghost invariant = { λ s. (s.table.shared.table_id ≡ M.table) × (s.table.shared.table_id.words ≡ 1) × (s.table.shared.table_id.slots ≡ 0) × (s.table.shared.key ≡ M.network) };
 }
 
 impl Unnamed {
@@ -58,7 +59,7 @@ impl Unnamed {
         network.limits();
         let best = Scored::empty(alloc, network)?;
         let top = network.ub();
-        let (table, seat) = Table::of_words(alloc, &[top], &top)?;
+        let (table, seat) = Table::of_words(alloc, &[top], network)?;
         Ok(Unnamed { table, seat, best })
     }
 
@@ -112,7 +113,7 @@ impl<M: Incumbent> Low<M> {
         ensures below { result ≤ price_of M.network holder.old }
         ensures whole { holder.old.shares ≡ 128 → result ≡ price_of M.network holder.old }
     {
-        let seen = self.table.shared.load::<Look>(&mut holder.seat, 0);
+        let seen = self.table.shared.load::<Look<M>>(&mut holder.seat, 0);
         holder.seen = seen;
         seen
     }
@@ -125,13 +126,13 @@ impl<M: Incumbent> Low<M> {
         ensures falls { result ≤ holder.old.seen }
         ensures below { result ≤ threshold_of M.network.upper offer.now.held }
     {
-        let price = offer.price();
+        let price = price(offer);
         let found = self
             .table
             .shared
-            .fetch_min::<Lower>(&mut holder.seat, 0, price);
+            .fetch_min::<Lower<M>>(&mut holder.seat, 0, price);
         keep_cheaper(&mut holder.best, offer);
-        holder.seen = found.min(price);
+        holder.seen = if price < found { price } else { found };
         holder.seen
     }
 
@@ -162,7 +163,9 @@ impl<M: Incumbent> Low<M> {
         self.table
             .shared
             .join_seat::<Meeting<M>>(&mut holder.seat, seat);
-        holder.seen = holder.seen.min(seen);
+        if seen < holder.seen {
+            holder.seen = seen;
+        }
         self.look(holder)
     }
 
@@ -185,7 +188,9 @@ impl<M: Incumbent> Low<M> {
             .shared
             .join_seat::<Meeting<M>>(&mut holder.seat, seat);
         keep_cheaper(&mut holder.best, &best);
-        holder.seen = holder.seen.min(seen);
+        if seen < holder.seen {
+            holder.seen = seen;
+        }
         holder.shares = 128.min(holder.shares + shares);
     }
 
@@ -209,6 +214,15 @@ impl<M: Incumbent> Low<M> {
         closed.free();
         (best, word)
     }
+}
+
+/// The price of what a buffer holds: the cost of an assignment, or the upper bound.
+fn price(offer: &Scored) -> u64
+    ensures price { result ≡ threshold_of offer.now.network.upper offer.now.held }
+    ensures reached { IsReached offer.now.network result }
+{
+    offer.priced();
+    offer.price()
 }
 
 /// Takes over what another buffer of the network holds, where that is cheaper.

@@ -1,15 +1,15 @@
 //! The rule of the word, and what each step on it tells.
 //!
-//! The word is the least of a top and of all prices that are kept. A view is what one thread has of it; where it has no
+//! The word is the least of a top and of all prices that are kept: the top, or the cost of an assignment. A view is what one thread has of it; where it has no
 //! share it keeps nothing below the top. So whoever has all shares and has just looked has seen the price of its own best.
 
 ghost use Rattle.std.specs.Prelude.{ℕ};
-ghost use Rattle.cfn_machine.specs.Word.{first_sight};
-ghost use Rattle.cfn_low.specs.Steps.{IsWord, Looks, Lowers, left_of, right_of, noted, joined, spent};
+ghost use Rattle.cfn_low.specs.Steps.{IsWord, first_of, Looks, Lowers, left_of, right_of, noted, joined, spent};
 
 use atomic_table::{Join, Play, Split, TableRule};
 use cfn_machine::Sight;
-use std::marker::PhantomData;
+use cfn_net::Network;
+use std::marker::{Brand, PhantomData};
 
 /// Which word a part is of, and the network whose assignments are found. No value of it is made.
 pub trait Incumbent {
@@ -21,27 +21,40 @@ pub trait Incumbent {
     ghost network: { Network };
 }
 
-/// The rule, at a top.
+/// The name that one call picks for a word: at such a call the members are those that the caller says, and these are never read.
+impl Incumbent for Brand {
+    ghost use Rattle.std.specs.Prelude.{[]};
+
+    ghost table = { record { words = 1; slots = 0; views_name = 0; atom = 0; block = 0; offset = 0; slot_names = [] } };
+
+    ghost network = { record { name = []; sizes = []; upper = 0; functions = [] } };
+}
+
+/// The rule, for a network: its upper bound is the top.
 pub(crate) struct WordRule;
 
-impl TableRule<(), Sight, u64> for WordRule {
+impl TableRule<(), Sight, Network> for WordRule {
     ghost holds = { IsWord };
 
-    ghost first = { first_sight };
+    ghost first = { first_of };
 }
 
 /// A read of the word.
-pub(crate) struct Look;
+pub(crate) struct Look<M> {
+    word: PhantomData<M>,
+}
 
-impl Play<(), Sight> for Look {
-    ghost then = { Looks };
+impl<M: Incumbent> Play<(), Sight> for Look<M> {
+    ghost then = { Looks M.network };
 }
 
 /// The word is lowered to a price.
-pub(crate) struct Lower;
+pub(crate) struct Lower<M> {
+    word: PhantomData<M>,
+}
 
-impl Play<(), Sight> for Lower {
-    ghost then = { Lowers };
+impl<M: Incumbent> Play<(), Sight> for Lower<M> {
+    ghost then = { Lowers M.network };
 }
 
 /// One share goes to a new part, which keeps nothing.

@@ -10,14 +10,6 @@ use std::alloc::{AllocError, Global};
 use std::marker::Brand;
 use std::test::*;
 
-impl Incumbent for Brand {
-    ghost use Rattle.std.specs.Prelude.{[]};
-
-    ghost table = { record { words = 1; slots = 0; views_name = 0; atom = 0; block = 0; offset = 0; slot_names = [] } };
-
-    ghost network = { record { name = []; sizes = []; upper = 0; functions = [] } };
-}
-
 /// One variable with three values, of the costs 7, 5 and 9 below 20.
 fn three(alloc: Global) -> Result<Network, AllocError> {
     let mut builder = Builder::make(alloc, b"three", &[3], 20)?;

@@ -19,6 +19,6 @@ returns-clause-word g c =
     let is = some-injective _ _ (sym c.word-word.ensures ∙ ap (λ l. get_elem? l 0) (sym final.2 ∙ word.1)) in
     let whole = ap (λ m. m.0.shares) c.last.invariant.2 in
     let now = ap (λ h. h.shares) c.last.view_is in
-    let one = one_keeps c.self.inside.table.shared.key word.0 s.views last.seat.id v word.2.each seen.1 (omega (arith, word.2.shares, whole, now, c.requires)) in
+    let one = one_keeps c.self.inside.table.shared.key.upper word.0 s.views last.seat.id v word.2.each seen.1 (omega (arith, word.2.shares, whole, now, c.requires)) in
     let best = ap (λ m. m.0.best) c.last.invariant.2 in
     is ∙ word.2.least ∙ one ∙ best ∙ ap (price_of g.M.Incumbent.network) c.last.view_is

@@ -1,5 +1,6 @@
 use Rattle.std.proofs.Common.{◌≡◌, ◌∙◌, refl, sym, ap, subst, arith}
 use Rattle.atomic_table.specs.Table.{Joins}
+use Rattle.cfn_model.specs.Network.{Network}
 use Rattle.cfn_low.specs.Steps.{IsWord, joined, spent}
 use Rattle.cfn_low.proofs.Turns.{joins}
 use Rattle.cfn_low.proofs.low.Low.heed.Goals as goal
@@ -13,6 +14,6 @@ join_seat-requires g c =
       c.note.invariant.0 ∙ sym c.self.invariant.0,
       ap (λ m. m.1) c.note.invariant.1,
       omega (arith, c.self.invariant.1),
-      subst (λ t. Joins (IsWord c.self.inside.table.shared.key) c.holder.inside.seat.id v c.note.inside.seat.id w (joined v w) (spent t)) c.self.invariant.3
+      subst (λ (P : Network). Joins (IsWord c.self.inside.table.shared.key) c.holder.inside.seat.id v c.note.inside.seat.id w (joined v w) (spent P.upper)) c.self.invariant.3
           (joins c.self.inside.table.shared.key 0 c.holder.inside.seat.id v c.note.inside.seat.id w (omega (arith, shares, c.holder.invariant.3.some))),
     )

@@ -1,4 +1,5 @@
 use Rattle.std.proofs.Common.{◌≡◌, ◌∙◌, refl, sym, ap, subst, arith}
+use Rattle.cfn_model.specs.Network.{Network}
 use Rattle.cfn_low.proofs.Turns.{splits}
 use Rattle.cfn_low.proofs.low.Low.note.Goals as goal
 
@@ -6,5 +7,5 @@ pub split_seat-seat-requires : goal.split_seat-seat-requires
 split_seat-seat-requires g c = (
   c.holder.invariant.0 ∙ sym c.self.invariant.0,
   omega (arith, c.self.invariant.1),
-  splits c.self.inside.table.shared.key 0 c.holder.inside.seat.id c.holder.inside.seat.me.0 _ _ refl refl (λ none. none) (omega arith) (sym c.self.invariant.3) refl,
+  splits c.self.inside.table.shared.key 0 c.holder.inside.seat.id c.holder.inside.seat.me.0 _ _ refl refl (λ none. none) (omega arith) (ap (λ (P : Network). P.upper) (sym c.self.invariant.3)) refl,
 )

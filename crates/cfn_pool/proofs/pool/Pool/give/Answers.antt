@@ -1,0 +1,55 @@
+use Rattle.std.proofs.Common.{◌≡◌, ℕ, ◌+◌, ◌≤◌, ◌∙◌, refl, sym, ap, ap₂, subst, arith, IsTrue, IsFalse, true, false, Bool}
+use Rattle.cfn_model.specs.Network.{Network}
+use Rattle.cfn_machine.specs.Pool.{Pool, View, cheaper}
+use Rattle.cfn_machine.specs.Steps as steps
+use Rattle.cfn_machine.specs.Steps.{PoolReturns, PoolRecalls, PoolSweeps, PoolNotes, PoolMeets, PoolGives, IsNotOut, IsOut}
+use Rattle.cfn_leaves.specs.Value.{Holding as Leaves, pool_of}
+use Rattle.cfn_low.specs.Holding.{Holding as Part}
+use Rattle.cfn_low.specs.Steps.{IsReached}
+use Rattle.cfn_pool.specs.Views.{Held, pool, view_of, IsHeld}
+use Rattle.cfn_pool.proofs.Kept.{held, kept_by_step, cheaper_is, fits_is}
+use Rattle.cfn_task.specs.Values.{PieceValue, piece_of}
+use Rattle.cfn_machine.specs.Pool.{IsPiece}
+use Rattle.cfn_leaves.specs.Given.{Gives as LeavesGive}
+use Rattle.cfn_pool.specs.Answers.{IsGiven}
+use Rattle.cfn_pool.proofs.pool.Pool.give.Goals as goal
+
+-- where a note was heeded, the piece is in its leaf's place
+given : (old new : Leaves) (before after : Part) (piece : PieceValue) (word : ℕ) → after ≡ record before { seen = word } →
+    ((view : View) (word : ℕ) → PoolGives (pool_of old view) word (piece_of piece) (pool_of new (record view { seen = word }))) → PoolGives (pool (held old before)) word (piece_of piece) (pool (held new after))
+given old new before after piece word heeded gives =
+    subst (λ (part : Part). PoolGives (pool (held old before)) word (piece_of piece) (pool (held new part))) (sym heeded) (gives (view_of before) word)
+
+pub invariant_of-self : goal.invariant_of-self
+invariant_of-self g c =
+    let part = c.self.inside.holder in
+    let now = c.heed.new.holder in
+    let below = c.heed.ensures.below in
+    kept_by_step g.M.Incumbent.network (held c.self.inside.leaves part) (held c.give.new.self now) c.heed.result (steps.Gives (piece_of c.args.piece)) c.kept-2.ensures.reached (c.in-Done.ensures.network ∙ c.self.invariant.own) c.self.invariant
+    (subst (λ (Q : Network). IsPiece Q (piece_of c.args.piece)) c.requires.own c.kept.ensures.piece, omega (arith, below, c.requires.seen), c.heed.ensures.falls)
+    (given c.self.inside.leaves c.give.new.self part now c.args.piece c.heed.result c.heed.ensures.seen c.in-Done.ensures.gives)
+
+pub returns-in-Done : goal.returns-in-Done
+returns-in-Done g c =
+    let part = c.self.inside.holder in
+    let now = c.heed.new.holder in
+    record {
+      gives = subst (λ (old : Held). IsGiven (pool old) c.args.piece c.args.note (pool (held c.give.new.self now))) c.self.view_is (record {
+        word = c.heed.result;
+        falls = c.heed.ensures.falls;
+        noted = c.heed.ensures.below;
+        gives = given c.self.inside.leaves c.give.new.self part now c.args.piece c.heed.result c.heed.ensures.seen c.in-Done.ensures.gives;
+      });
+    }
+
+pub returns-in-Gone : goal.returns-in-Gone
+returns-in-Gone g c =
+    let part = c.self.inside.holder in
+    record {
+      gives = (
+        c.in-Gone.ensures.gives.0,
+        refl,
+        ap (λ (l : Leaves). held l part) c.in-Gone.ensures.gives.1 ∙ c.self.view_is,
+        subst (λ (old : Held). IsOut (pool old) c.args.piece.task → ⊥) c.self.view_is (c.in-Gone.ensures.gives.2 (view_of part)),
+      );
+    }

@@ -1,0 +1,110 @@
+//! The pool's steps.
+
+ghost use Rattle.std.specs.Prelude.{◌≡◌, ◌+◌, ◌≤◌, IsTrue, IsFalse};
+ghost use Rattle.cfn_machine.specs.Steps.{PoolRecalls, PoolReturns, PoolMeets, PoolNotes, IsNotOut};
+ghost use Rattle.cfn_machine.specs.Word.{all_shares};
+ghost use Rattle.cfn_pool.specs.Views.{pool, view_of};
+ghost use Rattle.cfn_pool.specs.Answers.{Takes, Gives, Sweeps};
+
+use crate::pool::Pool;
+use cfn_leaves as leaves;
+use cfn_leaves::Taken;
+use cfn_low::{Holder, Incumbent, Low, Note};
+use cfn_net::Network;
+use cfn_task::{Piece, Task};
+
+/// The answer to a piece that is given.
+#[derive(Drop)]
+pub enum Handed<M: Incumbent> {
+    /// It has taken the place of its leaf, and the note was heeded.
+    Done,
+    /// Its leaf is not out to its task's worker with the task's grant, or has another path.
+    Gone { piece: Piece, note: Note<M> },
+    /// There is no memory for it, or no number for a node, a leaf or a floor.
+    Memory { piece: Piece, note: Note<M> },
+}
+
+impl<M: Incumbent> Pool<M> {
+    /// Hands out a free leaf of least floor, the one of least number among those, to a worker that wants to make at most
+    /// `want` nodes below it, at least 1. The grant is that, or less where the budget has less left. Where it hands out
+    /// nothing, nothing changes.
+    pub fn take(&mut self, network: &Network, worker: u32, want: u64) -> Taken
+        requires own { network.now ≡ M.network }
+        requires wants { 1 ≤ want }
+        ensures takes { Takes M.network self.old worker want result self.new }
+    {
+        self.holder.kept();
+        self.leaves.take(network, worker, want)
+    }
+
+    /// Heeds a note of what a piece's worker has seen, and puts the piece in the place of its task's leaf: its open leaves
+    /// are free, with the next numbers in the order of the piece's text, and its nodes are counted. Where it can't, piece and
+    /// note are given back, and nothing changes.
+    pub fn give(&mut self, low: &Low<M>, piece: Piece, note: Note<M>) -> Handed<M>
+        requires own { piece.network ≡ M.network }
+        requires seen { note ≤ piece.threshold }
+        ensures gives { Gives self.old piece note result self.new }
+    {
+        piece.kept();
+        self.holder.kept();
+        match self.leaves.give(piece) {
+            leaves::Handed::Done => {
+                low.heed(&mut self.holder, note);
+                Handed::Done
+            }
+            leaves::Handed::Gone { piece } => Handed::Gone { piece, note },
+            leaves::Handed::Memory { piece } => Handed::Memory { piece, note },
+        }
+    }
+
+    /// Frees a task's leaf, where it is out to the task's worker with the task's grant, and answers whether it was. If it
+    /// was not, nothing changes. It takes no memory.
+    pub fn back(&mut self, task: &Task) -> bool
+        ensures back { IsTrue result → PoolReturns (pool self.old) task.now.task (pool self.new) }
+        ensures none { IsFalse result → IsNotOut (pool self.old) task.now.task }
+        ensures same { IsFalse result → self.new ≡ self.old }
+    {
+        self.holder.kept();
+        self.leaves.back(task)
+    }
+
+    /// Frees every leaf that is out. It takes no memory.
+    pub fn recall(&mut self)
+        ensures { PoolRecalls (pool self.old) (pool self.new) }
+    {
+        self.holder.kept();
+        self.leaves.recall();
+    }
+
+    /// Reads the word, and closes each free leaf whose floor is at least that. It takes no memory.
+    pub fn sweep(&mut self, low: &Low<M>)
+        ensures { Sweeps M.network (pool self.old) (pool self.new) }
+    {
+        self.holder.kept();
+        self.holder.best().priced();
+        let word = low.look(&mut self.holder);
+        self.leaves.sweep(word);
+    }
+
+    /// Joins a part of the word into the pool's. It takes no memory.
+    pub fn meet(&mut self, low: &Low<M>, other: Holder<M>)
+        requires shares { (pool self.old).view.shares + other.shares ≤ all_shares }
+        ensures { PoolMeets M.network (pool self.old) (view_of other) (pool self.new) }
+    {
+        self.holder.kept();
+        self.holder.best().priced();
+        other.best().priced();
+        low.meet(&mut self.holder, other);
+    }
+
+    /// Notes a row of the bounds that hold now, where it differs from the last one and there are fewer than 256. It takes no
+    /// memory.
+    pub fn note(&mut self, network: &Network)
+        requires own { network.now ≡ M.network }
+        ensures { PoolNotes M.network (pool self.old) (pool self.new) }
+    {
+        network.limits();
+        self.holder.kept();
+        self.leaves.note(network, self.holder.seen());
+    }
+}
