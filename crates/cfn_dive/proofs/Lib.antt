@@ -1,0 +1,7 @@
+pub mod Stacks
+pub mod Going
+pub mod Trees
+pub mod States
+pub mod Falling
+pub mod Onwards
+pub mod Makings

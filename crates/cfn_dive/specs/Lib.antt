@@ -1,0 +1,5 @@
+pub mod Backtracks
+pub mod Stack
+pub mod Growing
+pub mod Diving
+pub mod Making

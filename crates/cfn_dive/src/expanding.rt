@@ -1,0 +1,283 @@
+//! One leaf is expanded: it is closed, or split in two.
+
+ghost use Rattle.std.specs.Prelude.{◌≡◌, true, ◌+◌, ◌*◌, ◌<◌, ◌≤◌, ◌^◌, [], ◌∷◌, length, Some, IfOk, IfSome, OnOk};
+ghost use Rattle.cfn_model.specs.Sums.{floor};
+ghost use Rattle.cfn_model.specs.Tree.{CanClose};
+ghost use Rattle.cfn_store.specs.Standing.{history};
+ghost use Rattle.cfn_store.specs.Marking.{IsBehind};
+ghost use Rattle.cfn_trim.specs.Trimming.{IsBegin};
+ghost use Rattle.cfn_branch.specs.Choosing.{AllDecided, IsOpen};
+ghost use Rattle.cfn_edac.specs.Settling.{IsBehindSettled};
+ghost use Rattle.cfn_node.specs.Limit.{step_limit};
+ghost use Rattle.cfn_node.specs.Enforcing.{Finds, IsSpent};
+ghost use Rattle.cfn_dive.specs.Diving.{IsOf, HasFallen, IsWaiting, IsDiving, IsExpanding, IsExpanded, IsClosing, IsSettledOrSpent, IsSameDive, place_of};
+
+use crate::growth::{Growth, Leaf};
+use crate::parts::{Parts, Waiting};
+use cfn_branch::choose;
+use cfn_close::shut;
+use cfn_low::{Holder, Incumbent, Low};
+use cfn_model::{Decision, Event};
+use cfn_nc::Settling;
+use cfn_net::{Network, Scored};
+use cfn_node::{Around, Asked, enforce, first_value, since, take_values};
+use cfn_proof::{Block, NodeId, Tree};
+use cfn_store::Mark;
+use cfn_trim::block_stays_tame;
+use std::alloc::{AllocError, Global};
+
+impl<'n> Parts<'n> {
+    /// Expands the current leaf: it is closed or split, and counted. At a leaf whose floor is below the threshold it enforces
+    /// first. An `Err` is want of memory, after which the tree says nothing.
+    pub fn expand<M: Incumbent>(
+        &mut self,
+        alloc: Global,
+        network: &Network,
+        growth: &mut Growth,
+        leaf: Leaf,
+        low: &Low<M>,
+        holder: &mut Holder<M>,
+    ) -> Result<(), AllocError>
+        requires network { network.now ≡ self.old.store.network }
+        requires word { M.network ≡ self.old.store.network }
+        requires diving { IsDiving self.old.store.network self.old growth.old }
+        requires current { growth.old.current ≡ Some leaf }
+        requires threshold { growth.old.threshold ≡ holder.old.seen }
+        requires left { 1 ≤ growth.old.left }
+        requires few { growth.old.nodes + 1 < 2 ^ 64 }
+        ensures falls { HasFallen M.network holder.old holder.new }
+        ensures expanded { OnOk result (IsExpanded self.old.store.network growth.old growth.new self.new) }
+        ensures threshold { growth.new.threshold ≡ holder.new.seen }
+        ensures dive { IsSameDive growth.old growth.new }
+        ensures of { IsOf self.old.store.network self.new }
+    {
+        growth.threshold = low.look(holder);
+        holder.kept();
+        if leaf.floor >= u128::from(growth.threshold) {
+            block_stays_tame(&self.store);
+            self.close(growth, leaf.id, Block::new(alloc));
+            return Ok(());
+        }
+        let mark = self.store.mark();
+        let settled = match self.enforce(alloc, network, growth, leaf)? {
+            Settling::Dead => return self.close_dead(alloc, growth, leaf.id, &mark),
+            Settling::Settled => true,
+            Settling::Spent => false,
+        };
+        match choose(&self.weights, &self.incidence, &self.store) {
+            Some(x) => self.divide(alloc, growth, leaf.id, x, settled, holder.best()),
+            None => self.conclude(alloc, network, growth, leaf.id, low, holder),
+        }
+    }
+
+    /// Enforces where the store stands, at the current leaf, with room for what closes a leaf. An `Err` is want of memory.
+    fn enforce(
+        &mut self,
+        alloc: Global,
+        network: &Network,
+        growth: &Growth,
+        leaf: Leaf,
+    ) -> Result<Settling, AllocError>
+        requires network { network.now ≡ self.old.store.network }
+        requires diving { IsDiving self.old.store.network self.old growth.now }
+        requires current { growth.now.current ≡ Some leaf }
+        requires threshold { growth.now.threshold ≤ network.now.upper }
+        requires left { 1 ≤ growth.now.left }
+        requires few { growth.now.nodes + 1 < 2 ^ 64 }
+        ensures expanding { OnOk result (IsExpanding self.old.store.network self.new growth.now leaf.id) }
+        ensures finds { IfOk result (Finds self.new.store.network (history self.new.store) growth.now.threshold) }
+        ensures spent { IfOk result (IsSpent (step_limit network.now) self.new.store) }
+        ensures room { OnOk result (length network.now.sizes + 2 * length network.now.functions + 1 ≤ self.new.store.spare) }
+        ensures begins { IsBegin self.old.store self.new.store }
+        ensures of { IsOf self.old.store.network self.new }
+    {
+        network.limits();
+        let asked = Asked {
+            threshold: growth.threshold,
+            steps: self.steps,
+            since: leaf.since,
+        };
+        let around = Around {
+            more: network.variables() as usize + 2 * network.functions() as usize + 1,
+            is_root: growth.at_root && leaf.id == Tree::ROOT,
+        };
+        enforce(
+            alloc,
+            &mut self.enforcer,
+            &mut self.store,
+            &self.incidence,
+            asked,
+            around,
+        )
+    }
+
+    /// Blames the function by which a leaf was found dead, where there is one, and closes the leaf by those steps of the store's
+    /// block that its closing needs. An `Err` is want of memory.
+    fn close_dead(
+        &mut self,
+        alloc: Global,
+        growth: &mut Growth,
+        leaf: NodeId,
+        mark: &Mark<'n>,
+    ) -> Result<(), AllocError>
+        requires begins { IsBegin mark.now self.old.store }
+        requires expanding { IsExpanding self.old.store.network self.old growth.old leaf }
+        requires closes { CanClose self.old.store.network (history self.old.store) growth.old.threshold }
+        ensures expanded { OnOk result (IsExpanded self.old.store.network growth.old growth.new self.new) }
+        ensures threshold { growth.new.threshold ≡ growth.old.threshold }
+        ensures dive { IsSameDive growth.old growth.new }
+        ensures of { IsOf self.old.store.network self.new }
+    {
+        if let Some(f) = self.enforcer.blamed() {
+            self.weights.blame(f);
+        }
+        let block = self
+            .trimmer
+            .closing_block(alloc, &mut self.store, mark, growth.threshold)?;
+        self.close(growth, leaf, block);
+        Ok(())
+    }
+
+    /// Splits a leaf behind the store's block, on a live value of a variable that has another one. The first child is current
+    /// then, and the second waits. An `Err` is want of memory.
+    fn divide(
+        &mut self,
+        alloc: Global,
+        growth: &mut Growth,
+        leaf: NodeId,
+        x: u32,
+        settled: bool,
+        best: &Scored,
+    ) -> Result<(), AllocError>
+        requires expanding { IsExpanding self.old.store.network self.old growth.old leaf }
+        requires undecided { IsOpen self.old.store x }
+        requires settled { IsSettledOrSpent settled self.old.store growth.old.threshold }
+        requires threshold { growth.old.threshold ≤ self.old.store.network.upper }
+        requires best { best.now.network ≡ self.old.store.network }
+        requires room { 0 < self.old.store.spare }
+        ensures expanded { OnOk result (IsExpanded self.old.store.network growth.old growth.new self.new) }
+        ensures threshold { growth.new.threshold ≡ growth.old.threshold }
+        ensures dive { IsSameDive growth.old growth.new }
+        ensures of { IsOf self.old.store.network self.new }
+    {
+        let value = first_value(best, &mut self.enforcer, &self.store, &self.incidence, x);
+        let decision = Decision::Is { variable: x, value };
+        self.waiting.reserve(1)?;
+        let block = self.store.block(alloc)?;
+        growth.tree.linked();
+        let (first, second) = growth.tree.split_behind(leaf, block, decision)?;
+        growth.tree.linked();
+        growth.nodes += 1;
+        block_stays_tame(&self.store);
+        let floor = self.store.floor();
+        self.waiting.push_reserved(Waiting {
+            leaf: second,
+            mark: self.store.mark(),
+            decision,
+            floor,
+            settled,
+        });
+        self.store.take(decision);
+        growth.current = Some(Leaf {
+            id: first,
+            floor,
+            since: since(settled, Event::Took(decision)),
+        });
+        Ok(())
+    }
+
+    /// Offers the one assignment that is left at a leaf, lowers the word to its price, and closes the leaf. An `Err` is want of
+    /// memory.
+    fn conclude<M: Incumbent>(
+        &mut self,
+        alloc: Global,
+        network: &Network,
+        growth: &mut Growth,
+        leaf: NodeId,
+        low: &Low<M>,
+        holder: &mut Holder<M>,
+    ) -> Result<(), AllocError>
+        requires network { network.now ≡ self.old.store.network }
+        requires word { M.network ≡ self.old.store.network }
+        requires expanding { IsExpanding self.old.store.network self.old growth.old leaf }
+        requires decided { AllDecided self.old.store }
+        requires alive { CanClose self.old.store.network (history self.old.store) growth.old.threshold → ⊥ }
+        requires threshold { growth.old.threshold ≡ holder.old.seen }
+        requires room { length network.now.sizes + 2 * length network.now.functions ≤ self.old.store.spare }
+        ensures falls { HasFallen M.network holder.old holder.new }
+        ensures expanded { OnOk result (IsExpanded self.old.store.network growth.old growth.new self.new) }
+        ensures threshold { growth.new.threshold ≡ holder.new.seen }
+        ensures dive { IsSameDive growth.old growth.new }
+        ensures of { IsOf self.old.store.network self.new }
+    {
+        take_values(&self.store, &mut self.values);
+        self.offer.fill(network, &self.values);
+        growth.threshold = low.lower(holder, &self.offer);
+        holder.kept();
+        shut(&mut self.store, growth.threshold);
+        self.close_here(alloc, growth, leaf)
+    }
+
+    /// Closes a leaf behind the store's block. An `Err` is want of memory.
+    fn close_here(
+        &mut self,
+        alloc: Global,
+        growth: &mut Growth,
+        leaf: NodeId,
+    ) -> Result<(), AllocError>
+        requires expanding { IsExpanding self.old.store.network self.old growth.old leaf }
+        requires closes { CanClose self.old.store.network (history self.old.store) growth.old.threshold }
+        ensures expanded { OnOk result (IsExpanded self.old.store.network growth.old growth.new self.new) }
+        ensures threshold { growth.new.threshold ≡ growth.old.threshold }
+        ensures dive { IsSameDive growth.old growth.new }
+        ensures of { IsOf self.old.store.network self.new }
+    {
+        block_stays_tame(&self.store);
+        let block = self.store.block(alloc)?;
+        self.close(growth, leaf, block);
+        Ok(())
+    }
+
+    /// Closes a leaf behind a block, counts it, and goes back to the newest leaf that waits, where there is one: that is a
+    /// backtrack. It takes no memory.
+    fn close(&mut self, growth: &mut Growth, leaf: NodeId, block: Block)
+        requires closing { IsClosing self.old.store.network self.old growth.old leaf block }
+        ensures expanded { IsExpanded self.old.store.network growth.old growth.new self.new }
+        ensures threshold { growth.new.threshold ≡ growth.old.threshold }
+        ensures dive { IsSameDive growth.old growth.new }
+    {
+        growth.tree.linked();
+        growth.tree.close(leaf, block);
+        growth.tree.linked();
+        growth.nodes += 1;
+        match self.waiting.pop() {
+            None => growth.current = None,
+            Some(newest) => {
+                growth.current = Some(self.go_back(newest));
+                growth.left -= 1;
+            }
+        }
+    }
+
+    /// Goes back to the mark of a leaf that waited, and stands at the leaf. It takes no memory.
+    fn go_back(&mut self, waiting: Waiting<'n>) -> Leaf
+        requires behind { IsBehind waiting.mark self.old.store }
+        requires longer { length (history waiting.mark) < length (history self.old.store) }
+        requires waits { IsWaiting self.old.store.network waiting }
+        ensures same { self.new ≡ record self.old { store = self.new.store } }
+        ensures base { self.new.store.base ≡ (place_of waiting.entry).path }
+        ensures block { self.new.store.block ≡ [] }
+        ensures network { self.new.store.network ≡ self.old.store.network }
+        ensures leaf { result.id ≡ waiting.entry.leaf }
+        ensures floor { result.floor ≡ floor self.new.store.network self.new.store.base }
+        ensures since { IfSome result.since (IsBehindSettled self.new.store) }
+    {
+        self.store.undo(&waiting.mark);
+        self.store.refuse(waiting.decision);
+        Leaf {
+            id: waiting.leaf,
+            floor: waiting.floor,
+            since: since(waiting.settled, Event::Refused(waiting.decision)),
+        }
+    }
+}

@@ -1,0 +1,23 @@
+//! The dive of hybrid best-first search: the tree below one leaf, made depth first (Allouche et al. 2015).
+//!
+//! - `diver.rt`: `Diver`, what a worker has for its dives, and what it makes of a task, a piece;
+//! - `growing.rt`: a dive from its beginning to its end;
+//! - `expanding.rt`: one leaf is expanded: closed or split;
+//! - `parts.rt`: what a diver is made of, and the leaves that wait;
+//! - `growth.rt`: the tree that a dive makes.
+//!
+//! A dive begins at the leaf of its task and expands the first child of a split next. The second child waits with a mark of
+//! where the store stood. Behind a closed leaf the store goes back to the newest mark, and refuses the decision there: that is
+//! a backtrack, of which a dive makes only so many. A leaf whose floor reaches the threshold is closed at once.
+//!
+//! The threshold is what the worker has seen of the incumbent's price. It is read again at each leaf, and a cheaper assignment
+//! lowers it for all workers.
+#![tactic(auto)]
+
+mod diver;
+mod expanding;
+mod growing;
+mod growth;
+mod parts;
+
+pub use diver::{Dived, Diver};

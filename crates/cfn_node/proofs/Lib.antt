@@ -1,0 +1,6 @@
+pub mod Rounds
+pub mod Alive
+pub mod Strict
+pub mod Sides
+pub mod Leaves
+pub mod CallerLemmas

@@ -1,0 +1,46 @@
+-- What a search asks of propagation.
+use Rattle.std.specs.Prelude.{◌≡◌, ℕ, ◌<◌, ◌≤◌, Bool, true, false, List, ◌++◌, length, slice_index, Option, Some, None, IsTrue}
+use Rattle.cfn_model.specs.declared.step.Step.{Step}
+use Rattle.cfn_model.specs.declared.step.Event.{Event}
+use Rattle.cfn_model.specs.Network.{Network}
+use Rattle.cfn_model.specs.Sums.{is_live}
+use Rattle.cfn_model.specs.Steps.{IsValue, Run}
+use Rattle.cfn_model.specs.Tree.{CanClose}
+use Rattle.cfn_consistency.specs.Consistency.{AreFullyConsistent}
+use Rattle.cfn_nc.specs.declared.settling.Settling.{Settling}
+use Rattle.cfn_nc.specs.declared.settling.Settling.TheVariants.{Settled, Dead, Spent}
+use Rattle.cfn_store.specs.Standing.{Standing, history}
+
+-- Between two standings there are steps alone, which run at k.
+pub record GoesOn (before now : Standing) (k : ℕ) : Type 0 where
+  pub network : now.network ≡ before.network
+  pub base : now.base ≡ before.base
+  pub steps : List Step
+  pub block : now.block ≡ before.block ++ steps
+  pub runs : Run before.network (history before) steps k
+
+-- The one live value of each variable is an assignment's.
+pub record OnlyOf (P : Network) (history : List Event) (values : List ℕ) : Type 0 where
+  pub live : (x : ℕ) → x < length P.sizes → IsTrue (is_live history x (slice_index values x))
+  pub each : (x a : ℕ) → IsValue P x a → IsTrue (is_live history x a) → a ≡ slice_index values x
+
+-- What is found at a leaf: it is dead; or it is fully consistent, and not dead; or it is not dead.
+abbrev pub Finds : Network → List Event → ℕ → Settling → Type 0
+Finds P history k Settled = AreFullyConsistent P history k × (CanClose P history k → ⊥)
+Finds P history k Dead = CanClose P history k
+Finds P history k Spent = CanClose P history k → ⊥
+
+-- Where it is neither, the block has at least so many steps.
+abbrev pub IsSpent : ℕ → Standing → Settling → Type 0
+IsSpent steps s Settled = Unit {0}
+IsSpent steps s Dead = Unit {0}
+IsSpent steps s Spent = steps ≤ length s.block
+
+-- At a place the network was fully consistent at some threshold.
+abbrev pub IsSettledAt : Network → List Event → Type 0
+IsSettledAt P history = (k : ℕ) × AreFullyConsistent P history k
+
+-- The side of a split that leads on from such a place, if it is one.
+abbrev pub since_of : Bool → Event → Option Event
+since_of true side = Some side
+since_of false side = None
