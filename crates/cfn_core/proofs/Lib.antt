@@ -8,12 +8,8 @@ pub mod Always
 pub mod Thresholds
 pub mod Examples
 pub mod Tasks
-pub mod Making
-pub mod Pieces
-pub mod Holding
-pub mod Marking
+pub mod Letting
+pub mod Pools
 pub mod Insides
 pub mod Machines
 pub mod Seating
-pub mod Changing
-pub mod Listing

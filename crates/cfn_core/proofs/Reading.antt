@@ -1,13 +1,13 @@
 -- The word of a world, as the rule of a word in memory.
-use Rattle.std.proofs.Common.{◌≡◌, ℕ, zero, suc, ◌+◌, ◌≤◌, List, [], ◌∷◌, ◌++◌, map, refl, sym, ap, ◌∙◌, subst, arith}
+use Rattle.std.proofs.Common.{◌≡◌, ℕ, suc, ◌+◌, ◌≤◌, List, [], ◌∷◌, ◌++◌, map, refl, arith}
 use Rattle.std.specs.Prelude.{min, Option, Some, None}
 use Rattle.std.specs.List.{AllByRecursion}
-use Rattle.cfn_model.specs.Network.{Network, cost}
+use Rattle.cfn_model.specs.Network.{Network}
 use Rattle.cfn_machine.specs.declared.sight.Sight.{Sight}
 use Rattle.cfn_machine.specs.Pool.{View, price}
-use Rattle.cfn_machine.specs.Word.{HasWord, IsSight, least_best, shares_in}
+use Rattle.cfn_machine.specs.Word.{IsSight, least_best, shares_in}
 use Rattle.cfn_machine.proofs.CallerLemmas.{best_top}
-use Rattle.cfn_core.specs.World.{World, HasWordRule, IsView, view_at, note_at, least_price, price_of, shares_of, idle_sight, sight_of, view_sight, note_sight, sights_of}
+use Rattle.cfn_core.specs.World.{IsView, view_at, note_at, least_price, shares_of, idle_sight, sight_of, view_sight, note_sight}
 use Rattle.cfn_core.specs.Laws.{ReadsAsWord}
 
 price_top : (P : Network) (best : Option (List ℕ)) → price P best ≤ P.upper

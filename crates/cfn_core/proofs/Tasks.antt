@@ -1,14 +1,6 @@
--- A task that is handed out keeps what a task keeps, and a piece may begin with a split at its leaf.
-use Rattle.std.proofs.Common.{◌≡◌, ℕ, ◌≤◌, List, [], ◌∷◌, sym, subst}
-use Rattle.std.specs.Prelude.{None}
-use Rattle.cfn_model.specs.declared.step.Decision.TheVariants.{Is}
-use Rattle.cfn_model.specs.declared.step.Event.{Event}
-use Rattle.cfn_model.specs.Network.{Network}
-use Rattle.cfn_model.specs.Paths.{HasSmallCosts, Tame, TameAlong}
+-- A task that is handed out keeps what a task keeps.
+use Rattle.std.proofs.Common.{◌≡◌, ◌≤◌, sym, subst}
 use Rattle.cfn_machine.specs.Pool.{Task, IsTask}
-use Rattle.cfn_model.proofs.CallerLemmas.{small_took, small_refused}
-use Rattle.cfn_proof.specs.Nodes as nodes
-use Rattle.cfn_proof.specs.Nodes.{open_node, split_at}
 use Rattle.cfn_machine.specs.Steps.{Lack, NoneOpen, AllSpent, AllOut}
 use Rattle.cfn_machine.proofs.CallerLemmas as machine
 use Rattle.cfn_core.specs.Actions.{Idle, Given, none_reply, take_idle, take_none, take_task}
@@ -31,11 +23,3 @@ hands_out P w new worker want task world (take_none lack c h answers) = none_giv
 hands_out P w new worker want task world (take_task made pool c takes answers) =
     let out = machine.hands_out P w.pool pool worker want made world.sound takes in
     subst (λ (t : Task). IsTask P t × (t.worker ≡ worker) × (t.grant ≤ want)) (sym (is_given answers.reply)) (out.0, out.1, out.2)
-
--- costs stay small at the end of a path, and where a leaf there is split
-at_end : (P : Network) (path : List Event) → TameAlong P path → HasSmallCosts P path
-at_end P [] tame = tame
-at_end P (event ∷ path) tame = tame.0
-
-pub half_tame : (P : Network) (path : List Event) (x : ℕ) → TameAlong P path → Tame P path (nodes.tree_of (split_at (open_node None ∷ []) 0 (Is x 0)))
-half_tame P path x tame = (at_end P path tame, small_took P path (Is x 0) (at_end P path tame), small_refused P path (Is x 0) (at_end P path tame))

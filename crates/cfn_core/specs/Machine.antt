@@ -1,14 +1,11 @@
--- What contracts see of the machine that runs: its network, and the world as the definitions have it, with the pool's
--- tree as the list of its nodes.
-use Rattle.std.specs.Prelude.{◌≡◌, ℕ, ◌+◌, ◌*◌, ◌<◌, ◌≤◌, List, [], ◌∷◌, length, slice_index_or, Option, Some, None, if◌then◌else◌}
+-- What contracts see of the machine that runs: its network, and the world as the definitions have it, with the pool as
+-- its leaves and a view.
+use Rattle.std.specs.Prelude.{◌≡◌, ℕ, ◌<◌, List, length, slice_index_or, Option, Some, None, if◌then◌else◌}
 use Rattle.std.specs.List.{AllByRecursion}
-use Rattle.cfn_model.specs.declared.limits.TheConstants.{GREATEST}
 use Rattle.cfn_model.specs.Certificate.{Solution}
 use Rattle.cfn_model.specs.Network.{Network, IsNetwork}
-use Rattle.cfn_model.specs.Tree.{Open}
 use Rattle.cfn_net.specs.Scoring.{Scoring}
-use Rattle.cfn_machine.specs.Pool.{row_of, Task, View, cheaper, AreNumbered}
-use Rattle.cfn_core.specs.declared.node.Node.{Node}
+use Rattle.cfn_machine.specs.Pool.{Task, View, cheaper, AreNumbered}
 use Rattle.cfn_core.specs.declared.seat.Seat.{Seat}
 use Rattle.cfn_core.specs.declared.action.Action.{Action}
 use Rattle.cfn_core.specs.declared.action.Action.TheVariants.{Look, Lower, Note, Meet, Take, Give, Back, Recall, Sweep}
@@ -17,17 +14,13 @@ use Rattle.cfn_core.specs.declared.action.Reply.TheVariants.{Idle, Seen, Noted, 
 use Rattle.cfn_core.specs.World.{World}
 use Rattle.cfn_core.specs.Actions as actions
 use Rattle.cfn_core.specs.Laws.{IsWorld, IsHanded}
-use Rattle.cfn_core.specs.Nodes.{pool_tree, IsListed}
+use Rattle.cfn_leaves.specs.Value.{Holding as Leaves, pool_of}
 use Rattle.cfn_task.specs.Values.{piece_of}
 
--- The network, the nodes of the pool's tree and what else the pool keeps, the word, the views of it, the notes and the
--- tasks in hand.
+-- The network, the pool's leaves and its view, the word, the views of it, the notes and the tasks in hand.
 pub record Machine : Type 0 where
   pub network : Network
-  pub nodes : List Node
-  pub next : ℕ
-  pub budget : ℕ
-  pub spent : ℕ
+  pub leaves : Leaves
   pub view : View
   pub word : ℕ
   pub views : List (Option View)
@@ -37,7 +30,7 @@ pub record Machine : Type 0 where
 -- The world that it is in.
 abbrev pub world_of : Machine → World
 world_of m = record {
-  pool = record { tree = pool_tree m.nodes; next = m.next; budget = m.budget; begun = 0; nodes = m.spent; rows = row_of m.network (Open []) m.network.upper ∷ []; view = m.view };
+  pool = pool_of m.leaves m.view;
   word = m.word;
   views = m.views;
   notes = m.notes;
@@ -113,15 +106,13 @@ IsReplyOf P Gone = Unit {0}
 IsReplyOf P NotOut = Unit {0}
 IsReplyOf P Done = Unit {0}
 
--- A machine keeps what every world keeps, its nodes are those of a tree, and the numbers of its leaves fit.
+-- A machine keeps what every world keeps, and its leaves are of its network.
 pub record IsMachine (m : Machine) : Type 0 where
   pub network : IsNetwork m.network
+  pub leaves : m.leaves.network ≡ m.network
   pub world : IsWorld m.network (world_of m)
   pub numbered : AreNumbered (world_of m).pool
   pub handed : IsHanded m.network (world_of m)
-  pub listed : IsListed m.network m.nodes
-  pub budget : m.budget ≤ GREATEST
-  pub next : m.next ≤ 1 + 2 * m.spent
 
 -- The assignments that are kept are of the network.
 abbrev pub IsSeatOf : Network → Seat → Type 0

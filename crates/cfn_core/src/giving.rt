@@ -3,16 +3,14 @@
 ghost use Rattle.std.specs.Prelude.{◌≡◌, ◌↔◌, ◌≤◌, MatchOption, IfOk, OnErr, IsTrue};
 ghost use Rattle.cfn_core.specs.World.{note_at};
 ghost use Rattle.cfn_core.specs.Actions.{Acts, CanGive, Give};
-ghost use Rattle.cfn_core.specs.Finding.{IsOutAt};
 ghost use Rattle.cfn_core.specs.Machine.{IsReplyOf, reply_of, world_of};
 ghost use Rattle.cfn_task.specs.Values.{piece_of};
 
 use crate::action::Reply;
-use crate::editing::{lead, put};
-use crate::finding::{open_count, place_out};
+use crate::copying::piece_copy;
 use crate::hands::let_go;
-use crate::walk::piece_nodes;
 use crate::world::World;
+use cfn_leaves::Handed;
 use cfn_task::Piece;
 use std::alloc::AllocError;
 
@@ -31,39 +29,30 @@ impl World<'_> {
         if !can_heed(self.notes.as_slice(), note, piece.threshold()) {
             return Ok(Reply::Idle);
         }
-        match place_out(self.nodes.as_slice(), piece.task()) {
-            Some(place) => self.put_piece(place, piece, note),
-            None => Ok(Reply::Gone),
-        }
+        self.put_piece(piece, note)
     }
 
-    /// Puts a piece in the place of its leaf, heeds its note, and counts its nodes. An `Err`, want of memory, leaves the
-    /// world as it was.
-    fn put_piece(&mut self, place: usize, piece: &Piece, note: u64) -> Result<Reply, AllocError>
+    /// Puts a piece in the place of its leaf, and heeds its note. An `Err`, want of memory, leaves the world as it was.
+    fn put_piece(&mut self, piece: &Piece, note: u64) -> Result<Reply, AllocError>
         requires network { piece.now.network ≡ self.old.network }
         requires can { CanGive (world_of self.old) (piece_of piece.now) note }
-        requires out { IsOutAt self.old.nodes place piece.now.task }
         ensures network { self.new.network ≡ self.old.network }
         ensures acts { IfOk result (λ reply. Acts self.old.network (world_of self.old) (Give (piece_of piece.now) note) (reply_of reply) (world_of self.new)) }
         ensures of { IfOk result (IsReplyOf self.old.network) }
         ensures err { OnErr result (self.new ≡ self.old) }
     {
         piece.kept();
-        let alloc = *self.nodes.allocator();
-        let network = self.network;
-        let task = piece.task();
-        let mut made = piece_nodes(alloc, network, task.path(), piece.tree(), self.next)?;
-        let size = made.len() as u64;
-        let opened = open_count(made.as_slice());
-        let node = &self.nodes[place];
-        lead(alloc, &mut made, &node.block)?;
-        put(&mut self.nodes, place, made)?;
-        self.next += opened;
-        self.spent += size - opened;
-        self.seen = self.word;
-        self.notes[note as usize] = None;
-        let_go(&mut self.hands, task.leaf());
-        Ok(Reply::Done)
+        let given = piece_copy(*self.notes.allocator(), self.network, piece)?;
+        match self.leaves.give(given) {
+            Handed::Done => {
+                self.seen = self.word;
+                self.notes[note as usize] = None;
+                let_go(&mut self.hands, piece.task().leaf());
+                Ok(Reply::Done)
+            }
+            Handed::Gone { .. } => Ok(Reply::Gone),
+            Handed::Memory { .. } => Err(AllocError),
+        }
     }
 }
 

@@ -1,26 +1,52 @@
 //! The tasks in hand.
 
-ghost use Rattle.std.specs.Prelude.{◌≡◌, map};
-ghost use Rattle.cfn_core.specs.declared.node.End.TheVariants.{OutLeaf};
+ghost use Rattle.std.specs.Prelude.{◌≡◌, reverse};
 ghost use Rattle.cfn_core.specs.Actions.{without};
 
-use crate::node::End;
 use cfn_task::Task;
+use std::marker::Model;
+use std::snapshot::Snapshot;
 
-/// The end of a leaf that is out to a task's worker with its grant.
-pub(crate) fn out_end(task: &Task) -> End
-    ensures { result ≡ OutLeaf task.now.task.leaf task.now.task.worker task.now.task.grant }
-{
-    End::OutLeaf {
-        number: task.leaf(),
-        worker: task.worker(),
-        grant: task.grant(),
+/// A task in hand, kept by the number of its leaf. Contracts see the task.
+#[derive(Drop)]
+pub(crate) struct Hand {
+    leaf: u64,
+    task: Snapshot<Task>,
+}
+
+impl Model for Hand {
+    ghost use Rattle.std.specs.Prelude.{◌≡◌};
+    ghost use Rattle.cfn_machine.specs.Pool.{Task};
+
+    ghost Value = { Task };
+
+    ghost view = { λ h. h.task.value.task };
+
+    ghost invariant = { λ h. h.leaf ≡ h.task.value.task.leaf };
+}
+
+impl Hand {
+    /// A task in hand. It takes no memory.
+    pub(crate) fn of(task: &Task) -> Hand
+        ensures { result ≡ task.now.task }
+    {
+        Hand {
+            leaf: task.leaf(),
+            task: Snapshot::of(task),
+        }
+    }
+
+    /// The number of the task's leaf.
+    fn leaf(&self) -> u64
+        ensures { result ≡ self.now.leaf }
+    {
+        self.leaf
     }
 }
 
-/// Takes the tasks of a leaf out of the hands. It takes no memory.
-pub(crate) fn let_go(hands: &mut Vec<Task>, leaf: u64)
-    ensures { map (λ t. t.task) hands.new.items ≡ without leaf (map (λ t. t.task) hands.old.items) }
+/// Takes the tasks of a leaf out of the hands, the newest of which is last. It takes no memory.
+pub(crate) fn let_go(hands: &mut Vec<Hand>, leaf: u64)
+    ensures { reverse hands.new.items ≡ without leaf (reverse hands.old.items) }
 {
-    hands.retain(|task| task.leaf() != leaf);
+    hands.retain(|hand| hand.leaf() != leaf);
 }

@@ -1,18 +1,14 @@
-//! What the workers do with the pool's leaves: they take one, give back what they made of it or the leaf itself, and the
-//! pool calls leaves back and closes them.
+//! What the workers do with the pool's leaves: they take one, or give one back, and the pool calls leaves back and closes
+//! them. Each is a call on the leaves (cfn_leaves).
 
-ghost use Rattle.std.specs.Prelude.{◌≡◌, ◌≢◌, ◌↔◌, ◌+◌, ◌-◌, ◌<◌, ◌≤◌, length, map, min, IfOk, OnErr, IsTrue};
-ghost use Rattle.cfn_core.specs.Actions.{Acts, IsThere, CanTake, Take, Give, Back, Recall, Sweep, without};
-ghost use Rattle.cfn_core.specs.Finding.{IsFirstFree, granted_in};
+ghost use Rattle.std.specs.Prelude.{◌≡◌, ◌↔◌, IfOk, OnErr, IsTrue};
+ghost use Rattle.cfn_core.specs.Actions.{Acts, CanTake, IsThere, Take, Back, Recall, Sweep};
 ghost use Rattle.cfn_core.specs.Machine.{IsReplyOf, reply_of, world_of};
-ghost use Rattle.cfn_task.specs.Values.{piece_of};
 
 use crate::action::Reply;
-use crate::editing::{recall, set_end, sweep};
-use crate::finding::{First, first_free, granted, has_open, place_of};
-use crate::hands::{let_go, out_end};
-use crate::node::End;
+use crate::hands::{Hand, let_go};
 use crate::world::World;
+use cfn_leaves::Taken;
 use cfn_task::Task;
 use std::alloc::AllocError;
 
@@ -27,20 +23,7 @@ impl World<'_> {
         if !self.has_worker(worker) || want == 0 {
             return Ok(Reply::Idle);
         }
-        if !has_open(self.nodes.as_slice()) {
-            return Ok(Reply::Empty);
-        }
-        if self.spent == self.budget {
-            return Ok(Reply::Spent);
-        }
-        let left = self.left();
-        if left == 0 {
-            return Ok(Reply::Again);
-        }
-        match first_free(self.nodes.as_slice()) {
-            Some(first) => self.hand_out(first, worker, want, left),
-            None => Ok(Reply::Again),
-        }
+        self.take_leaf(worker, want)
     }
 
     /// Whether a worker is there. One whose view was met is there too.
@@ -50,48 +33,25 @@ impl World<'_> {
         (worker as usize) < self.seats.len()
     }
 
-    /// How many nodes the budget has left beside those that are made and those that are granted.
-    fn left(&self) -> u64
-        ensures value { result + (self.now.spent + granted_in self.now.nodes) ≡ self.now.budget }
-    {
-        self.budget - (self.spent + granted(self.nodes.as_slice()))
-    }
-
-    /// Hands a free leaf out. An `Err`, want of memory, leaves the world as it was.
-    fn hand_out(
-        &mut self,
-        first: First,
-        worker: u32,
-        want: u64,
-        left: u64,
-    ) -> Result<Reply, AllocError>
-        requires can { CanTake (world_of self.old) worker want }
-        requires unspent { self.old.spent ≢ self.old.budget }
-        requires left { left + (self.old.spent + granted_in self.old.nodes) ≡ self.old.budget }
-        requires some { 0 < left }
-        requires first { IsFirstFree self.old.nodes (length self.old.nodes) first }
+    /// A worker that is there asks for a leaf, to make nodes below it. An `Err`, want of memory, leaves the world as it was.
+    fn take_leaf(&mut self, worker: u32, want: u64) -> Result<Reply, AllocError>
+        requires { CanTake (world_of self.old) worker want }
         ensures network { self.new.network ≡ self.old.network }
         ensures acts { IfOk result (λ reply. Acts self.old.network (world_of self.old) (Take worker want) (reply_of reply) (world_of self.new)) }
         ensures of { IfOk result (IsReplyOf self.old.network) }
         ensures err { OnErr result (self.new ≡ self.old) }
     {
-        let alloc = *self.nodes.allocator();
-        let network = self.network;
-        let number = first.number;
-        let grant = want.min(left);
-        let node = &self.nodes[first.place];
-        let path = node.path.copy(alloc)?;
-        let kept = node.path.copy(alloc)?;
-        let task = Task::of(network, number, worker, grant, first.floor, path);
-        let hand = Task::of(network, number, worker, grant, first.floor, kept);
-        self.hands.insert(0, hand)?;
-        let end = End::OutLeaf {
-            number,
-            worker,
-            grant,
-        };
-        set_end(&mut self.nodes, first.place, end);
-        Ok(Reply::Given { task })
+        self.hands.reserve(1)?;
+        match self.leaves.take(self.network, worker, want) {
+            Taken::Given { task } => {
+                self.hands.push_reserved(Hand::of(&task));
+                Ok(Reply::Given { task })
+            }
+            Taken::Empty => Ok(Reply::Empty),
+            Taken::Spent => Ok(Reply::Spent),
+            Taken::Again => Ok(Reply::Again),
+            Taken::Memory => Err(AllocError),
+        }
     }
 
     /// A worker gives a task back. It takes no memory.
@@ -103,13 +63,10 @@ impl World<'_> {
         if !self.has_worker(task.worker()) {
             return Reply::Idle;
         }
-        let number = task.leaf();
-        let out = out_end(task);
-        let Some(place) = place_of(self.nodes.as_slice(), out) else {
+        if !self.leaves.back(task) {
             return Reply::NotOut;
-        };
-        set_end(&mut self.nodes, place, End::FreeLeaf { number });
-        let_go(&mut self.hands, number);
+        }
+        let_go(&mut self.hands, task.leaf());
         Reply::Done
     }
 
@@ -119,7 +76,7 @@ impl World<'_> {
         ensures acts { Acts self.old.network (world_of self.old) Recall (reply_of result) (world_of self.new) }
         ensures of { IsReplyOf self.old.network result }
     {
-        recall(&mut self.nodes);
+        self.leaves.recall();
         Reply::Done
     }
 
@@ -129,9 +86,8 @@ impl World<'_> {
         ensures acts { Acts self.old.network (world_of self.old) Sweep (reply_of result) (world_of self.new) }
         ensures of { IsReplyOf self.old.network result }
     {
-        let word = self.word;
-        sweep(&mut self.nodes, word);
-        self.seen = word;
+        self.leaves.sweep(self.word);
+        self.seen = self.word;
         Reply::Done
     }
 }

@@ -6,24 +6,18 @@
 //!   what workers do and are answered, `Task` a leaf that is handed out, `Piece` what is made of one.
 //! - `laws` says what holds after every list of actions, so whatever the order in which the workers act.
 //!
-//! The tree is a list of its nodes in the order of its text. `finding` reads it, `editing` changes it, and `walk` makes
-//! the nodes of a piece, with a `trail` of the paths that it has still to go on from. `node` is a node of the list, and
-//! `floor` the floor at the end of a path. `word` has the actions on the word, `leaves` and `giving` those on the tree;
-//! `seat` is what a worker has seen and keeps, and `hands` has the tasks in hand.
+//! The pool's tree with its open leaves is cfn_leaves' `Leaves`, the code that the pool under the lock runs too (cfn_pool).
+//! `word` has the actions on the word, `leaves` and `giving` those on the tree, each a call on the leaves; `copying` copies
+//! the piece that is given. `seat` is what a worker has seen and keeps, and `hands` has the tasks in hand.
 #![tactic(auto)]
 
 mod action;
-mod editing;
-mod finding;
-mod floor;
+mod copying;
 mod giving;
 mod hands;
 pub mod laws;
 mod leaves;
-mod node;
 mod seat;
-mod trail;
-mod walk;
 mod word;
 mod world;
 

@@ -5,11 +5,9 @@ ghost use Rattle.cfn_model.specs.Decisions.{variable_of, keeps};
 ghost use Rattle.std.specs.List.{AllByRecursion};
 ghost use Rattle.cfn_model.specs.declared.limits.TheConstants.{GREATEST};
 ghost use Rattle.cfn_model.specs.Sums.{is_live, removes};
-ghost use Rattle.cfn_core.specs.Machine.{IsOf};
 ghost use Rattle.cfn_task.specs.Values.{IsTaskOf};
 
 use super::*;
-use crate::node::End;
 use cfn_net::{Builder, Fit, Network, Scored};
 use cfn_proof::{Decision, Event, Path, Step, Tree};
 use std::alloc::{AllocError, Global};
@@ -163,29 +161,64 @@ fn split_root(
     }
 }
 
+/// Whether one leaf is open and free, and no node is made.
+fn is_free_root(world: &World<'_>) -> bool {
+    let leaves = &world.leaves;
+    leaves.open_leaves() == 1 && leaves.nodes() == 0 && leaves.left() == leaves.budget()
+}
+
+/// Whether a piece that is given spends the budget.
+fn spends(world: &mut World<'_>, piece: Piece) -> Result<bool, AllocError>
+    requires { piece.network ≡ world.old.network }
+{
+    let noted = is_noted(world, 0)?;
+    let taken = is_taken(world, piece)?;
+    let spent = is_spent(world)?;
+    Ok(noted && taken && spent)
+}
+
+/// Whether the root, taken and split, spends a budget of 1.
+fn split_spends(alloc: Global, network: &Network) -> Result<bool, AllocError> {
+    let mut world = opened(alloc, network, 1)?;
+    match split_root(alloc, network, &mut world)? {
+        Some(piece) => spends(&mut world, piece),
+        None => Ok(false),
+    }
+}
+
 #[test]
 fn split_spends_the_budget(rt: HostRuntime) -> Result<(), Fail> {
     let alloc = rt.alloc();
     let network = tri(alloc)?;
-    let mut world = opened(alloc, &network, 1)?;
-    let piece = split_root(alloc, &network, &mut world)?.ok_or("a piece")?;
-    assert!(rt; is_noted(&mut world, 0)?);
-    assert!(rt; is_taken(&mut world, piece)?);
-    assert!(rt; is_spent(&mut world)?);
+    assert!(rt; split_spends(alloc, &network)?);
     Ok(())
+}
+
+/// Whether a piece of a leaf that is called back is refused, and the leaf handed out again.
+fn calls_back(world: &mut World<'_>, piece: Piece) -> Result<bool, AllocError>
+    requires { piece.network ≡ world.old.network }
+{
+    let noted = is_noted(world, 0)?;
+    let gone = is_gone(world, piece)?;
+    let free = is_free_root(world);
+    let again = task_for(world, 0)?;
+    Ok(noted && gone && free && again.is_some())
+}
+
+/// Whether the root, taken and called back, is handed out again.
+fn root_comes_back(alloc: Global, network: &Network) -> Result<bool, AllocError> {
+    let mut world = opened(alloc, network, 2)?;
+    match split_root(alloc, network, &mut world)? {
+        Some(piece) => calls_back(&mut world, piece),
+        None => Ok(false),
+    }
 }
 
 #[test]
 fn called_back_leaf_is_handed_out_again(rt: HostRuntime) -> Result<(), Fail> {
     let alloc = rt.alloc();
     let network = tri(alloc)?;
-    let mut world = opened(alloc, &network, 2)?;
-    let piece = split_root(alloc, &network, &mut world)?.ok_or("a piece")?;
-    assert!(rt; is_noted(&mut world, 0)?);
-    assert!(rt; is_gone(&mut world, piece)?);
-    assert!(rt; is_free_root(&world));
-    let again = task_for(&mut world, 0)?;
-    assert!(rt; again.is_some());
+    assert!(rt; root_comes_back(alloc, &network)?);
     Ok(())
 }
 
@@ -197,43 +230,74 @@ fn task_elsewhere(alloc: Global, network: &Network) -> Result<Option<Task>, Allo
     task_for(&mut many, 5)
 }
 
-/// Whether an action is answered `Idle`.
-fn is_idle(world: &mut World<'_>, action: &Action) -> Result<bool, AllocError>
-    requires { IsOf world.old.network action.now }
+/// That task split at the value 0 of the variable 0, if all goes well.
+fn piece_elsewhere(alloc: Global, network: &Network) -> Result<Option<Piece>, AllocError>
+    ensures { IfOk result (λ half. IfSome half (λ piece. piece.network ≡ network.now)) }
+{
+    match task_elsewhere(alloc, network)? {
+        Some(task) => halved(alloc, network, task, 0),
+        None => Ok(None),
+    }
+}
+
+/// Whether a task that is given back is answered `Idle`.
+fn is_idle_task(world: &mut World<'_>, task: Task) -> Result<bool, AllocError>
     ensures { world.new.network ≡ world.old.network }
 {
-    Ok(matches!(world.step(action)?, Reply::Idle))
+    Ok(matches!(world.step(&Action::Back { task })?, Reply::Idle))
+}
+
+/// Whether a piece that is given with the note 0 is answered `Idle`.
+fn is_idle_piece(world: &mut World<'_>, piece: Piece) -> Result<bool, AllocError>
+    requires { piece.network ≡ world.old.network }
+    ensures { world.new.network ≡ world.old.network }
+{
+    Ok(matches!(world.step(&Action::Give { piece, note: 0 })?, Reply::Idle))
+}
+
+/// Whether a worker that is not there gives no task back.
+fn task_stays_elsewhere(alloc: Global, network: &Network) -> Result<bool, AllocError> {
+    let mut world = opened(alloc, network, 2)?;
+    let idle = match task_elsewhere(alloc, network)? {
+        Some(task) => is_idle_task(&mut world, task)?,
+        None => false,
+    };
+    Ok(idle && is_free_root(&world))
 }
 
 #[test]
 fn task_of_a_worker_that_is_not_there_is_not_given_back(rt: HostRuntime) -> Result<(), Fail> {
     let alloc = rt.alloc();
     let network = tri(alloc)?;
-    let mut world = opened(alloc, &network, 2)?;
-    let task = task_elsewhere(alloc, &network)?.ok_or("a task")?;
-    assert!(rt; is_idle(&mut world, &Action::Back { task })?);
-    assert!(rt; is_free_root(&world));
+    assert!(rt; task_stays_elsewhere(alloc, &network)?);
     Ok(())
+}
+
+/// Whether a worker that is not there gives no piece.
+fn piece_stays_elsewhere(alloc: Global, network: &Network) -> Result<bool, AllocError> {
+    let mut world = opened(alloc, network, 2)?;
+    let noted = is_noted(&mut world, 0)?;
+    let idle = match piece_elsewhere(alloc, network)? {
+        Some(piece) => is_idle_piece(&mut world, piece)?,
+        None => false,
+    };
+    Ok(noted && idle && is_free_root(&world))
 }
 
 #[test]
 fn piece_of_a_worker_that_is_not_there_is_not_given(rt: HostRuntime) -> Result<(), Fail> {
     let alloc = rt.alloc();
     let network = tri(alloc)?;
-    let mut world = opened(alloc, &network, 2)?;
-    let task = task_elsewhere(alloc, &network)?.ok_or("a task")?;
-    let piece = halved(alloc, &network, task, 0)?.ok_or("a piece")?;
-    assert!(rt; is_noted(&mut world, 0)?);
-    assert!(rt; is_idle(&mut world, &Action::Give { piece, note: 0 })?);
-    assert!(rt; is_free_root(&world));
+    assert!(rt; piece_stays_elsewhere(alloc, &network)?);
     Ok(())
 }
 
-/// Whether the tree is one free leaf with the number 0.
-fn is_free_root(world: &World<'_>) -> bool {
-    match world.nodes.first() {
-        Some(root) => world.nodes.len() == 1 && root.end == End::FreeLeaf { number: 0 },
-        None => false,
+/// Whether the root, taken and split, is given and spends a budget of 1 in a list of actions.
+fn list_spends(alloc: Global, network: &Network) -> Result<bool, AllocError> {
+    let mut world = opened(alloc, network, 1)?;
+    match split_root(alloc, network, &mut world)? {
+        Some(piece) => Ok(spends_in_a_list(&mut world, piece)),
+        None => Ok(false),
     }
 }
 
@@ -241,9 +305,7 @@ fn is_free_root(world: &World<'_>) -> bool {
 fn list_gives_and_takes(rt: HostRuntime) -> Result<(), Fail> {
     let alloc = rt.alloc();
     let network = tri(alloc)?;
-    let mut world = opened(alloc, &network, 1)?;
-    let piece = split_root(alloc, &network, &mut world)?.ok_or("a piece")?;
-    assert!(rt; spends_in_a_list(&mut world, piece));
+    assert!(rt; list_spends(alloc, &network)?);
     Ok(())
 }
 
@@ -382,40 +444,19 @@ fn word_is_least(network: &Network, world: &World<'_>) -> bool {
     world.word == least
 }
 
-/// Whether the nodes that are made and those that are granted keep to the budget.
+/// Whether the nodes that are made and what is left keep to the budget.
 fn budget_is_kept(world: &World<'_>) -> bool {
-    let mut sum = world.spent;
-    for node in &world.nodes {
-        if let End::OutLeaf { grant, .. } = node.end {
-            sum = sum.saturating_add(grant);
-        }
-    }
-    sum <= world.budget
+    let sum = world.leaves.nodes().saturating_add(world.leaves.left());
+    sum <= world.leaves.budget()
 }
 
-/// Whether the open leaves have numbers of their own.
-fn numbers_differ(world: &World<'_>) -> bool {
-    for (place, node) in world.nodes.iter().enumerate() {
-        let number = number_of(node.end);
-        for other in &world.nodes[..place] {
-            if number.is_some() && number == number_of(other.end) {
-                return false;
-            }
-        }
-    }
-    true
+/// Whether the bound at the word is at most the least cost.
+fn bound_is_kept(world: &World<'_>, least: u64) -> bool {
+    world.leaves.bound(world.word) <= least
 }
 
-/// The number of an open leaf.
-fn number_of(end: End) -> Option<u64> {
-    match end {
-        End::FreeLeaf { number } | End::OutLeaf { number, .. } => Some(number),
-        End::ShutLeaf | End::Branch { .. } => None,
-    }
-}
-
-/// Two hundred actions of a seed. Answers how many nodes were made.
-fn trial(alloc: Global, network: &Network, seed: u64) -> Result<u64, Fail> {
+/// Two hundred actions of a seed, on a network with this least cost. Answers how many nodes were made.
+fn trial(alloc: Global, network: &Network, least: u64, seed: u64) -> Result<u64, Fail> {
     let mut world = World::start(alloc, network, 3, 12)?;
     let mut tasks = Vec::new(alloc);
     let mut state = seed;
@@ -425,12 +466,12 @@ fn trial(alloc: Global, network: &Network, seed: u64) -> Result<u64, Fail> {
         let is_kept = shares_add_up(&world)
             && word_is_least(network, &world)
             && budget_is_kept(&world)
-            && numbers_differ(&world);
+            && bound_is_kept(&world, least);
         if !is_kept {
             return Err("a rule of the machine".into());
         }
     }
-    Ok(world.spent)
+    Ok(world.leaves.nodes())
 }
 
 #[test]
@@ -440,8 +481,8 @@ fn actions_in_any_order_keep_the_rules(rt: HostRuntime) -> Result<(), Fail> {
     let flat = level(alloc)?;
     let mut made = 0u64;
     for seed in [7, 11, 13, 17, 19] {
-        made = made.saturating_add(trial(alloc, &network, seed)?);
-        made = made.saturating_add(trial(alloc, &flat, seed)?);
+        made = made.saturating_add(trial(alloc, &network, 1, seed)?);
+        made = made.saturating_add(trial(alloc, &flat, 4, seed)?);
     }
     assert!(rt; made > 20);
     Ok(())

@@ -9,27 +9,23 @@ ghost use Rattle.cfn_core.specs.Laws.{Always, AreKept, AreOut, IsKept, IsNoRecal
 ghost use Rattle.cfn_core.specs.Machine.{IsOf, IsReplyOf, action_of, reply_of, world_of};
 
 use crate::action::{Action, Reply};
-use crate::node::{End, Node};
+use crate::hands::Hand;
 use crate::seat::{Seat, new_seats};
+use cfn_leaves::Leaves;
 use cfn_net::{Network, Scored};
-use cfn_proof::{Block, Path};
-use cfn_task::Task;
+use cfn_proof::Tree;
 use std::alloc::{AllocError, Global};
 use std::marker::Model;
 
 /// The pool with its tree, the word, a view of it for each worker, notes of what was seen, and the tasks in hand.
 ///
 /// Contracts see the world of the definitions, for the network that it is of. In every world the pool is sound, the word
-/// keeps its rule, and the task of each leaf that is out is in hand.
+/// keeps its rule, and the task of each leaf that is out is in hand. There are numbers for 4,294,967,296 leaves and as many
+/// nodes: a giving that needs one more, or a floor of 2^128 or more, wants memory.
 #[derive(Drop)]
 pub struct World<'n> {
     pub(crate) network: &'n Network,
-    pub(crate) nodes: Vec<Node>,
-    /// The number of the next open leaf.
-    pub(crate) next: u64,
-    pub(crate) budget: u64,
-    /// How many nodes were made.
-    pub(crate) spent: u64,
+    pub(crate) leaves: Leaves,
     /// The pool's own view of the word.
     pub(crate) best: Scored,
     pub(crate) seen: u64,
@@ -39,8 +35,8 @@ pub struct World<'n> {
     pub(crate) seats: Vec<Seat>,
     /// What each note has seen, where it is not heeded yet.
     pub(crate) notes: Vec<Option<u64>>,
-    /// The tasks in hand, the newest first.
-    pub(crate) hands: Vec<Task>,
+    /// The tasks in hand, the newest last.
+    pub(crate) hands: Vec<Hand>,
 }
 
 /// Want of memory in a list of actions: only the first `done` were done.
@@ -50,35 +46,29 @@ pub struct RunMemory {
 }
 
 impl<'n> Model for World<'n> {
-    ghost use Rattle.std.specs.Prelude.{map};
+    ghost use Rattle.std.specs.Prelude.{map, reverse};
     ghost use Rattle.cfn_core.specs.Machine.{Machine, IsInside, found_of, seat_of};
 
     ghost Value = { Machine };
 
     ghost view = { λ w. record {
       network = w.network.now;
-      nodes = w.nodes.items;
-      next = w.next;
-      budget = w.budget;
-      spent = w.spent;
+      leaves = w.leaves;
       view = record { best = found_of w.best.held; seen = w.seen; shares = w.shares };
       word = w.word;
       views = map seat_of w.seats.items;
       notes = w.notes.items;
-      hands = map (λ t. t.task) w.hands.items;
+      hands = reverse w.hands.items;
     } };
 
     ghost invariant = { λ w. IsInside (record {
       network = w.network.now;
-      nodes = w.nodes.items;
-      next = w.next;
-      budget = w.budget;
-      spent = w.spent;
+      leaves = w.leaves;
       view = record { best = found_of w.best.held; seen = w.seen; shares = w.shares };
       word = w.word;
       views = map seat_of w.seats.items;
       notes = w.notes.items;
-      hands = map (λ t. t.task) w.hands.items;
+      hands = reverse w.hands.items;
     }) w.best w.seats.items };
 }
 
@@ -100,16 +90,11 @@ impl<'n> World<'n> {
         ensures out { IfOk result (λ world. AreOut (world_of world)) }
     {
         network.limits();
-        let end = End::FreeLeaf { number: 0 };
-        let root = Node::at(network, Path::new(alloc), Block::new(alloc), end);
-        let mut nodes = Vec::new(alloc);
-        nodes.push(root)?;
+        let tree = Tree::new(alloc)?;
+        let leaves = Leaves::start(alloc, network, tree, network.ub(), budget)?;
         Ok(World {
             network,
-            nodes,
-            next: 1,
-            budget,
-            spent: 0,
+            leaves,
             best: Scored::empty(alloc, network)?,
             seen: network.ub(),
             shares: 127 - workers,
@@ -177,7 +162,7 @@ impl<'n> World<'n> {
 
     /// The allocator that the world was made with.
     fn alloc(&self) -> Global {
-        *self.nodes.allocator()
+        *self.notes.allocator()
     }
 
     /// Does one action, each by the call that is its own.

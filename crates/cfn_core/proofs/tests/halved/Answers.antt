@@ -2,7 +2,7 @@ use Rattle.std.proofs.Common.{sym, ap, ◌∙◌, subst}
 use Rattle.cfn_model.specs.declared.step.Decision.TheVariants.{Is}
 use Rattle.cfn_proof.specs.Nodes.{split_at, tree_of}
 use Rattle.cfn_model.specs.Paths.{Tame}
-use Rattle.cfn_core.proofs.Tasks.{half_tame}
+use Rattle.cfn_leaves.proofs.CallerLemmas.{half_tame}
 use Rattle.cfn_core.proofs.tests.halved.Goals as goal
 
 pub of-requires-clause-tame : goal.of-requires-clause-tame

@@ -13,7 +13,7 @@ invariant_of-self c =
     let at = seat_in seats c.as_slice.result.now c.args.worker found.0 c.as_slice.ensures.value found.1 in
     let is = c.set_seen.ensures found.0 at in
     let acts = look_acts m seats refl c.args.worker found.0 at found.2 c.set_seen.new.seats.items is in
-    viewed m _ c.self.inside.best c.self.inside.best seats c.set_seen.new.seats.items (Look c.args.worker) (Seen m.word) c.self.invariant tt acts refl refl refl refl refl c.self.invariant.own
+    viewed m _ c.self.inside.best c.self.inside.best seats c.set_seen.new.seats.items (Look c.args.worker) (Seen m.word) c.self.invariant tt acts refl refl c.self.invariant.own
     (subst (λ l. Rattle.std.specs.List.AllByRecursion (Rattle.cfn_core.specs.Machine.IsSeatOf m.network) l) (sym is) (each_set m.network seats c.args.worker _ c.self.invariant.each (each_at m.network seats c.args.worker found.0 c.self.invariant.each at)))
 
 pub returns-clause-acts : goal.returns-clause-acts

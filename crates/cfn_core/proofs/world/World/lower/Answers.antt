@@ -19,7 +19,7 @@ invariant_of-self c =
     let least : c.min-word.result ≡ min m.word (price m.network (found_of scored.held)) = c.min-word.ensures ∙ ap (min m.word) (c.price.ensures ∙ price_is scored.network scored.held c.priced.ensures ∙ ap (λ P. price P (found_of scored.held)) own) in
     let acts = lower_acts m seats refl c.args.worker found.0 at found.2 scored c.min-word.result offered.0 c.offer.new.seats.items own least offered.1 offered.2 in
     viewed m _ c.self.inside.best c.self.inside.best seats c.offer.new.seats.items (Lower c.args.worker (found_of scored.held)) (Seen c.min-word.result) c.self.invariant
-    (brought m.network scored.network scored.held own c.priced.ensures) acts refl refl refl refl refl c.self.invariant.own
+    (brought m.network scored.network scored.held own c.priced.ensures) acts refl refl c.self.invariant.own
     (subst (λ l. AllByRecursion (IsSeatOf m.network) l) (sym offered.1) (each_set m.network seats c.args.worker offered.0 c.self.invariant.each (offered.2.network ∙ each_at m.network seats c.args.worker found.0 c.self.invariant.each at)))
 
 pub returns-clause-acts : goal.returns-clause-acts

@@ -22,7 +22,7 @@ invariant_of-self c =
     let joins : view ≡ record { best = cheaper m.network m.view.best (found_of found.0.best.held); seen = min m.view.seen found.0.seen; shares = m.view.shares + 1 } =
     ap₂ (λ b s. record { best = b; seen = s; shares = m.view.shares + 1 }) best (c.min-self-inside.ensures ∙ ap (λ (s : Seat). min m.view.seen s.seen) same) in
     let acts = meet_acts m seats refl c.args.worker found.0 at found.2 view c.set_met.new.seats.items joins is in
-    viewed m _ c.self.inside.best c.keep_cheaper.new.best seats c.set_met.new.seats.items (Meet c.args.worker) Done c.self.invariant tt acts refl refl refl refl refl (c.keep_cheaper.ensures.network ∙ c.self.invariant.own)
+    viewed m _ c.self.inside.best c.keep_cheaper.new.best seats c.set_met.new.seats.items (Meet c.args.worker) Done c.self.invariant tt acts refl refl (c.keep_cheaper.ensures.network ∙ c.self.invariant.own)
     (subst (λ l. AllByRecursion (IsSeatOf m.network) l) (sym is) (each_set m.network seats c.args.worker _ c.self.invariant.each (each_at m.network seats c.args.worker found.0 c.self.invariant.each at)))
 
 pub returns-clause-acts : goal.returns-clause-acts

@@ -14,4 +14,4 @@ invariant_of-self-2 c =
     let same : c.index.result.now ≡ found.0 = seat_read seats c.args.worker found.0 c.index.result.now at c.index.ensures in
     let notes = c.in_ok-push.ensures.items ∙ ap (λ (s : Seat). m.notes ++ Some s.seen ∷ []) same in
     let acts = note_acts m seats refl c.args.worker found.0 at found.2 c.push.new.self.items notes in
-    viewed m _ c.self.inside.best c.self.inside.best seats seats (Note c.args.worker) (Noted (length m.notes)) c.self.invariant tt acts refl refl refl refl refl c.self.invariant.own c.self.invariant.each
+    viewed m _ c.self.inside.best c.self.inside.best seats seats (Note c.args.worker) (Noted (length m.notes)) c.self.invariant tt acts refl refl c.self.invariant.own c.self.invariant.each
