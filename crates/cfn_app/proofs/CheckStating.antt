@@ -1,15 +1,14 @@
 -- What each status of `check` says, from how a run of it ends.
-use Rattle.std.proofs.Common.{◌≡◌, ◌⊎◌, inl, inr, ℕ, List, refl, sym, ap, ◌∙◌, subst}
-use Rattle.cfn_model.specs.declared.reading.Refusal.{Refusal}
+use Rattle.std.proofs.Common.{◌≡◌, ◌⊎◌, inl, inr, ℕ, List, refl, subst}
+use Rattle.cfn_wcnf.specs.declared.fault.Unread.{Unread as FirstUnread}
 use Rattle.cfn_model.specs.Network.{Network}
 use Rattle.cfn_model.specs.Certificate.{Certificate, Good}
 use Rattle.cfn_model.specs.Text.{Spells}
 use Rattle.cfn_fault.specs.declared.kind.FaultKind.{FaultKind}
 use Rattle.cfn_fault.specs.Fault as faulty
 use Rattle.cfn_fault.proofs.CallerLemmas.{no_fault_where_good}
-use Rattle.cfn_desk.specs.Outside.{Outside, Call, IsIdle, faults, written}
+use Rattle.cfn_desk.specs.Outside.{Outside, Call, IsIdle, written}
 use Rattle.cfn_cli.specs.Request.{CheckRequest}
-use Rattle.cfn_app.specs.declared.format.Format.TheVariants.{Wcsp}
 use Rattle.cfn_app.specs.declared.status.Status.{Status}
 use Rattle.cfn_app.specs.declared.status.Status.TheVariants.{Done, Refused, Disproved}
 use Rattle.cfn_app.specs.Endings.{Ending, Ends, IsHindered}
@@ -22,24 +21,24 @@ use Rattle.cfn_app.proofs.Files.{same_bytes, read_refused, read_one}
 use Rattle.cfn_app.proofs.Pairing.{unpaired_by, unpaired_refused, unpaired_hindered, unpaired_counts, unpaired_idle, pair_faults, pair_idle}
 
 module _ (ask : CheckRequest) (old new : Outside) (status : Status) (same : new.files ≡ old.files) where
-  says_judged : (P : Network) (text : List ℕ) (middle : Outside) → Paired ask.file ask.certificate old P text middle → Judges P text middle.calls new.calls status → CheckSays ask old new status
+  says_judged : (P : Network) (text : List ℕ) (middle : Outside) → Paired ask.format ask.file ask.certificate old P text middle → Judges P text middle.calls new.calls status → CheckSays ask old new status
   says_judged P text middle paired (checking.verified c verifies ends) = by (CheckSays ask old new) _ new.calls status ends (λ calls. (P, text, c, middle, paired, verifies, (calls, same))) tt
   says_judged P text middle paired (checking.disproved l kind fault ends) = by (CheckSays ask old new) _ new.calls status ends (λ calls. (P, text, l, kind, middle, paired, fault, (calls, same))) tt
   says_judged P text middle paired (checking.no_memory ends) = by (CheckSays ask old new) _ new.calls status ends (λ calls. (_, (calls, same))) tt
 
   says_check : Checks ask old new.calls status → CheckSays ask old new status
   says_check (checking.unpaired unpaired) =
-      unpaired_by ask.file ask.certificate old new.calls status (CheckSays ask old new) tt (λ calls is. (calls, (is, same)))
+      unpaired_by ask.format ask.file ask.certificate old new.calls status (CheckSays ask old new) tt (λ calls is. (calls, (is, same)))
       (λ bytes text refusal has certified refuses is. (text, certified, (bytes, refusal, has, refuses, (is, same)))) unpaired
   says_check (checking.judged P text middle paired judges) = says_judged P text middle paired judges
 
   by_refusal : (wanted : Status) (due : Ending) → Ends due new.calls status → (due.status ≡ wanted) ⊎ IsHindered due.status → (status ≡ wanted) ⊎ IsHindered status
   by_refusal wanted due ends is = by (λ s. (s ≡ wanted) ⊎ IsHindered s) due new.calls status ends (λ calls. is) (inr (inl refl))
 
-  says_refused : (bytes : List ℕ) (refusal : Refusal) → Tells old ask.file bytes → RefusesAs Wcsp bytes refusal → Checks ask old new.calls status → (status ≡ Refused) ⊎ IsHindered status
-  says_refused bytes refusal told refuses (checking.unpaired unpaired) = unpaired_refused ask.file ask.certificate old new.calls status unpaired
+  says_refused : (bytes : List ℕ) (refusal : FirstUnread) → Tells old ask.file bytes → RefusesAs ask.format bytes refusal → Checks ask old new.calls status → (status ≡ Refused) ⊎ IsHindered status
+  says_refused bytes refusal told refuses (checking.unpaired unpaired) = unpaired_refused ask.format ask.file ask.certificate old new.calls status unpaired
   says_refused bytes refusal told refuses (checking.judged P text middle paired judges) =
-      absurd (read_refused paired.bytes bytes P refusal (same_bytes old ask.file paired.bytes bytes told paired.has) paired.reads refuses)
+      absurd (read_refused ask.format paired.bytes bytes P refusal (same_bytes old ask.file paired.bytes bytes told paired.has) paired.reads refuses)
 
   -- a good certificate
   judged_verified : (P Q : Network) (text words : List ℕ) (c : Certificate) (calls : List Call) → Q ≡ P → words ≡ text → Spells c text → Good P c → Judges Q words calls new.calls status → (status ≡ Done) ⊎ IsHindered status
@@ -48,10 +47,10 @@ module _ (ask : CheckRequest) (old new : Outside) (status : Status) (same : new.
       absurd (no_fault_where_good P text c l kind spells good (subst (λ N. faulty.Fault N text l kind) is (subst (λ w. faulty.Fault Q w l kind) at fault)))
   judged_verified P Q text words c calls is at spells good (checking.no_memory ends) = by_refusal Done _ ends (inr (inr refl))
 
-  says_verified : (bytes text : List ℕ) (P : Network) (c : Certificate) → Tells old ask.file bytes → Tells old ask.certificate text → ReadsAs Wcsp bytes P → Spells c text → Good P c → Checks ask old new.calls status → (status ≡ Done) ⊎ IsHindered status
-  says_verified bytes text P c told written reads spells good (checking.unpaired unpaired) = unpaired_hindered ask.file ask.certificate old new.calls status Done bytes P told reads unpaired
+  says_verified : (bytes text : List ℕ) (P : Network) (c : Certificate) → Tells old ask.file bytes → Tells old ask.certificate text → ReadsAs ask.format bytes P → Spells c text → Good P c → Checks ask old new.calls status → (status ≡ Done) ⊎ IsHindered status
+  says_verified bytes text P c told written reads spells good (checking.unpaired unpaired) = unpaired_hindered ask.format ask.file ask.certificate old new.calls status Done bytes P told reads unpaired
   says_verified bytes text P c told written reads spells good (checking.judged Q words middle paired judges) =
-      judged_verified P Q text words c _ (read_one paired.bytes bytes Q P (same_bytes old ask.file paired.bytes bytes told paired.has) paired.reads reads) (same_bytes old ask.certificate words text written paired.certified) spells good judges
+      judged_verified P Q text words c _ (read_one ask.format paired.bytes bytes Q P (same_bytes old ask.file paired.bytes bytes told paired.has) paired.reads reads) (same_bytes old ask.certificate words text written paired.certified) spells good judges
 
   -- a certificate with a fault
   judged_refuted : (P Q : Network) (text words : List ℕ) (l : ℕ) (kind : FaultKind) (calls : List Call) → Q ≡ P → words ≡ text → faulty.Fault P text l kind → Judges Q words calls new.calls status → (status ≡ Disproved) ⊎ IsHindered status
@@ -60,10 +59,10 @@ module _ (ask : CheckRequest) (old new : Outside) (status : Status) (same : new.
   judged_refuted P Q text words l kind calls is at fault (checking.disproved m other also ends) = by_refusal Disproved _ ends (inl refl)
   judged_refuted P Q text words l kind calls is at fault (checking.no_memory ends) = by_refusal Disproved _ ends (inr (inr refl))
 
-  says_refuted : (bytes text : List ℕ) (P : Network) (l : ℕ) (kind : FaultKind) → Tells old ask.file bytes → Tells old ask.certificate text → ReadsAs Wcsp bytes P → faulty.Fault P text l kind → Checks ask old new.calls status → (status ≡ Disproved) ⊎ IsHindered status
-  says_refuted bytes text P l kind told written reads fault (checking.unpaired unpaired) = unpaired_hindered ask.file ask.certificate old new.calls status Disproved bytes P told reads unpaired
+  says_refuted : (bytes text : List ℕ) (P : Network) (l : ℕ) (kind : FaultKind) → Tells old ask.file bytes → Tells old ask.certificate text → ReadsAs ask.format bytes P → faulty.Fault P text l kind → Checks ask old new.calls status → (status ≡ Disproved) ⊎ IsHindered status
+  says_refuted bytes text P l kind told written reads fault (checking.unpaired unpaired) = unpaired_hindered ask.format ask.file ask.certificate old new.calls status Disproved bytes P told reads unpaired
   says_refuted bytes text P l kind told written reads fault (checking.judged Q words middle paired judges) =
-      judged_refuted P Q text words l kind _ (read_one paired.bytes bytes Q P (same_bytes old ask.file paired.bytes bytes told paired.has) paired.reads reads) (same_bytes old ask.certificate words text written paired.certified) fault judges
+      judged_refuted P Q text words l kind _ (read_one ask.format paired.bytes bytes Q P (same_bytes old ask.file paired.bytes bytes told paired.has) paired.reads reads) (same_bytes old ask.certificate words text written paired.certified) fault judges
 
   pub check_status : Checks ask old new.calls status → CheckStatus ask old new status
   check_status checks = record {
@@ -74,13 +73,13 @@ module _ (ask : CheckRequest) (old new : Outside) (status : Status) (same : new.
   }
 
   pub check_counts : Checks ask old new.calls status → Counts old.calls new.calls status
-  check_counts (checking.unpaired unpaired) = unpaired_counts ask.file ask.certificate old new.calls status unpaired
-  check_counts (checking.judged P text middle paired (checking.verified c verifies ends)) = counted old.calls _ new.calls status ends (pair_faults ask.file ask.certificate old P text middle paired)
-  check_counts (checking.judged P text middle paired (checking.disproved l kind fault ends)) = counted old.calls _ new.calls status ends (pair_faults ask.file ask.certificate old P text middle paired)
-  check_counts (checking.judged P text middle paired (checking.no_memory ends)) = counted old.calls _ new.calls status ends (pair_faults ask.file ask.certificate old P text middle paired)
+  check_counts (checking.unpaired unpaired) = unpaired_counts ask.format ask.file ask.certificate old new.calls status unpaired
+  check_counts (checking.judged P text middle paired (checking.verified c verifies ends)) = counted old.calls _ new.calls status ends (pair_faults ask.format ask.file ask.certificate old P text middle paired)
+  check_counts (checking.judged P text middle paired (checking.disproved l kind fault ends)) = counted old.calls _ new.calls status ends (pair_faults ask.format ask.file ask.certificate old P text middle paired)
+  check_counts (checking.judged P text middle paired (checking.no_memory ends)) = counted old.calls _ new.calls status ends (pair_faults ask.format ask.file ask.certificate old P text middle paired)
 
   pub check_idle : Checks ask old new.calls status → IsIdle old.calls → IsIdle new.calls
-  check_idle (checking.unpaired unpaired) idle = unpaired_idle ask.file ask.certificate old new.calls status unpaired idle
-  check_idle (checking.judged P text middle paired (checking.verified c verifies ends)) idle = ends_idle _ new.calls status ends (pair_idle ask.file ask.certificate old P text middle paired idle)
-  check_idle (checking.judged P text middle paired (checking.disproved l kind fault ends)) idle = ends_idle _ new.calls status ends (pair_idle ask.file ask.certificate old P text middle paired idle)
-  check_idle (checking.judged P text middle paired (checking.no_memory ends)) idle = ends_idle _ new.calls status ends (pair_idle ask.file ask.certificate old P text middle paired idle)
+  check_idle (checking.unpaired unpaired) idle = unpaired_idle ask.format ask.file ask.certificate old new.calls status unpaired idle
+  check_idle (checking.judged P text middle paired (checking.verified c verifies ends)) idle = ends_idle _ new.calls status ends (pair_idle ask.format ask.file ask.certificate old P text middle paired idle)
+  check_idle (checking.judged P text middle paired (checking.disproved l kind fault ends)) idle = ends_idle _ new.calls status ends (pair_idle ask.format ask.file ask.certificate old P text middle paired idle)
+  check_idle (checking.judged P text middle paired (checking.no_memory ends)) idle = ends_idle _ new.calls status ends (pair_idle ask.format ask.file ask.certificate old P text middle paired idle)

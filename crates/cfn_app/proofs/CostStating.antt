@@ -1,10 +1,9 @@
 -- What each status of `cost` says, from how a run of it ends.
 use Rattle.std.proofs.Common.{◌≡◌, ◌⊎◌, inl, inr, ℕ, suc, ◌<◌, List, refl, sym, subst, arith}
-use Rattle.cfn_model.specs.declared.reading.Refusal.{Refusal}
+use Rattle.cfn_wcnf.specs.declared.fault.Unread.{Unread as FirstUnread}
 use Rattle.cfn_model.specs.Network.{Network, Fits}
 use Rattle.cfn_desk.specs.Outside.{Outside, Call, HasFile, IsIdle, faults}
 use Rattle.cfn_cli.specs.Request.{CostRequest}
-use Rattle.cfn_app.specs.declared.format.Format.TheVariants.{Wcsp}
 use Rattle.cfn_app.specs.declared.status.Status.{Status}
 use Rattle.cfn_app.specs.declared.status.Status.TheVariants.{Done, Refused}
 use Rattle.cfn_app.specs.Endings.{Ending, Ends, IsHindered}
@@ -17,7 +16,7 @@ use Rattle.cfn_app.proofs.Counting.{by, counted, ends_idle}
 use Rattle.cfn_app.proofs.Files.{same_bytes, read_refused, read_one, fits_length, misfit_fits}
 
 module _ (ask : CostRequest) (old new : Outside) (status : Status) (same : new.files ≡ old.files) where
-  says_priced : (bytes : List ℕ) (P : Network) → HasFile old ask.file bytes → ReadsAs Wcsp bytes P → Prices P ask.values (loaded ask.file bytes old.calls) new.calls status → CostSays ask old new status
+  says_priced : (bytes : List ℕ) (P : Network) → HasFile old ask.file bytes → ReadsAs ask.format bytes P → Prices P ask.values (loaded ask.file bytes old.calls) new.calls status → CostSays ask old new status
   says_priced bytes P has reads (costing.costs fits ends) = by (CostSays ask old new) _ new.calls status ends (λ calls. (bytes, P, has, reads, fits, (calls, same))) tt
   says_priced bytes P has reads (costing.wrong_number other ends) = by (CostSays ask old new) _ new.calls status ends (λ calls. inr (bytes, P, has, reads, inl (other, (calls, same)))) tt
   says_priced bytes P has reads (costing.wrong_value x misfit ends) = by (CostSays ask old new) _ new.calls status ends (λ calls. inr (bytes, P, has, reads, inr (x, misfit, (calls, same)))) tt
@@ -32,13 +31,13 @@ module _ (ask : CostRequest) (old new : Outside) (status : Status) (same : new.f
   by_due : (wanted : Status) (due : Ending) → Ends due new.calls status → (due.status ≡ wanted) ⊎ IsHindered due.status → (status ≡ wanted) ⊎ IsHindered status
   by_due wanted due ends is = by (λ s. (s ≡ wanted) ⊎ IsHindered s) due new.calls status ends (λ calls. is) (inr (inl refl))
 
-  says_refused : (bytes : List ℕ) (refusal : Refusal) → Tells old ask.file bytes → RefusesAs Wcsp bytes refusal → Costs ask old new.calls status → (status ≡ Refused) ⊎ IsHindered status
+  says_refused : (bytes : List ℕ) (refusal : FirstUnread) → Tells old ask.file bytes → RefusesAs ask.format bytes refusal → Costs ask old new.calls status → (status ≡ Refused) ⊎ IsHindered status
   says_refused bytes refusal told refuses (costing.unloaded (loading.unread ends)) = by_due Refused _ ends (inr (inl refl))
   says_refused bytes refusal told refuses (costing.unloaded (loading.no_memory ends)) = by_due Refused _ ends (inr (inr refl))
   says_refused bytes refusal told refuses (costing.unread other has (loading.refused r also ends)) = by_due Refused _ ends (inl refl)
   says_refused bytes refusal told refuses (costing.unread other has (loading.no_memory ends)) = by_due Refused _ ends (inr (inr refl))
   says_refused bytes refusal told refuses (costing.priced other P has reads prices) =
-      absurd (read_refused other bytes P refusal (same_bytes old ask.file other bytes told has) reads refuses)
+      absurd (read_refused ask.format other bytes P refusal (same_bytes old ask.file other bytes told has) reads refuses)
 
   -- an assignment that fits, and one that does not
   fitting : (P Q : Network) (calls : List Call) → Q ≡ P → Fits P.sizes ask.values → Prices Q ask.values calls new.calls status → (status ≡ Done) ⊎ IsHindered status
@@ -51,14 +50,14 @@ module _ (ask : CostRequest) (old new : Outside) (status : Status) (same : new.f
   misfitting P Q calls is misfits (costing.wrong_number other ends) = by_due Refused _ ends (inl refl)
   misfitting P Q calls is misfits (costing.wrong_value x misfit ends) = by_due Refused _ ends (inl refl)
 
-  module _ (wanted : Status) (bytes : List ℕ) (P : Network) (told : Tells old ask.file bytes) (reads : ReadsAs Wcsp bytes P) (priced : (Q : Network) (calls : List Call) → Q ≡ P → Prices Q ask.values calls new.calls status → (status ≡ wanted) ⊎ IsHindered status) where
+  module _ (wanted : Status) (bytes : List ℕ) (P : Network) (told : Tells old ask.file bytes) (reads : ReadsAs ask.format bytes P) (priced : (Q : Network) (calls : List Call) → Q ≡ P → Prices Q ask.values calls new.calls status → (status ≡ wanted) ⊎ IsHindered status) where
     says_judged : Costs ask old new.calls status → (status ≡ wanted) ⊎ IsHindered status
     says_judged (costing.unloaded (loading.unread ends)) = by_due wanted _ ends (inr (inl refl))
     says_judged (costing.unloaded (loading.no_memory ends)) = by_due wanted _ ends (inr (inr refl))
     says_judged (costing.unread other has (loading.refused refusal refuses ends)) =
-        absurd (read_refused bytes other P refusal (sym (same_bytes old ask.file other bytes told has)) reads refuses)
+        absurd (read_refused ask.format bytes other P refusal (sym (same_bytes old ask.file other bytes told has)) reads refuses)
     says_judged (costing.unread other has (loading.no_memory ends)) = by_due wanted _ ends (inr (inr refl))
-    says_judged (costing.priced other Q has also prices) = priced Q _ (read_one other bytes Q P (same_bytes old ask.file other bytes told has) also reads) prices
+    says_judged (costing.priced other Q has also prices) = priced Q _ (read_one ask.format other bytes Q P (same_bytes old ask.file other bytes told has) also reads) prices
 
   pub cost_status : Costs ask old new.calls status → CostStatus ask old new status
   cost_status costs = record {

@@ -1,6 +1,8 @@
 -- How a run ends, from what its parts did.
 use Rattle.std.proofs.Common.{◌≡◌, ℕ, true, false, List, ◌∷◌, refl, ap, ◌∙◌, subst}
 use Rattle.std.specs.Prelude.{Result, Ok, Err, IsErr, OnOk, OnErr, is_ok, is_err, if◌then◌else◌, length}
+use Rattle.cfn_wcnf.specs.declared.fault.Unread.{Unread as FirstUnread}
+use Rattle.cfn_wcnf.specs.declared.fault.Unread.TheVariants.{Header, Word}
 use Rattle.cfn_model.specs.declared.reading.Refusal.{Refusal}
 use Rattle.cfn_model.specs.declared.report.Row.{Row}
 use Rattle.cfn_model.specs.declared.report.ResultWord.{ResultWord}
@@ -13,16 +15,17 @@ use Rattle.cfn_desk.specs.Outside.{Outside, Call, Load, Open, Bytes, Discard, Ha
 use Rattle.cfn_line.specs.Appending.{Appends, IsCut}
 use Rattle.cfn_line.specs.declared.channel.Channel.TheVariants.{File, Screen}
 use Rattle.cfn_cli.specs.Request.{SolveRequest, CostRequest, NormalRequest, TrialRequest}
-use Rattle.cfn_app.specs.declared.format.Format.TheVariants.{Wcsp}
-use Rattle.cfn_wcsp.specs.Giving.{Fails}
-use Rattle.cfn_wcsp.specs.declared.fault.ReadFault.{ReadFault}
-use Rattle.cfn_wcsp.specs.declared.fault.ReadFault.TheVariants as faults
-use Rattle.cfn_app.specs.declared.format.Format.{Format}
+use Rattle.cfn_cli.specs.declared.format.Format.TheVariants.{Wcsp, Wcnf}
+use Rattle.cfn_wcnf.specs.Giving.{Fails}
+use Rattle.cfn_wcnf.specs.Reading.{in_words}
+use Rattle.cfn_wcnf.specs.declared.fault.ReadFault.{ReadFault}
+use Rattle.cfn_wcnf.specs.declared.fault.ReadFault.TheVariants as faults
+use Rattle.cfn_cli.specs.declared.format.Format.{Format}
 use Rattle.cfn_app.specs.declared.status.Status.{Status}
 use Rattle.cfn_app.specs.declared.status.Status.TheVariants.{Done, Fault}
 use Rattle.cfn_app.specs.Endings.{Ends, said, cut}
 use Rattle.cfn_app.specs.Headline.{Promise}
-use Rattle.cfn_app.specs.Loading.{ReadsAs, RefusesAs, SaysUnread, Unloaded, Unread, loaded}
+use Rattle.cfn_app.specs.Loading.{ReadsAs, RefusesAs, SaysUnread, read_as, Unloaded, Unread, loaded}
 use Rattle.cfn_app.specs.Loading as loading
 use Rattle.cfn_wcspwrite.specs.Canonical.{canonical}
 use Rattle.cfn_app.specs.Normalizing.{Normalizes}
@@ -49,12 +52,30 @@ not_written text old mid new (Err e) failed one at =
     solving.dropped mid.calls one.cut (at ∙ ap (λ files. record { calls = Discard ∷ mid.calls; files = files }) one.files)
 
 -- bytes that the reader does not take
-refuses_as : (format : Format) (bytes : List ℕ) (refusal : Refusal) → reading bytes ≡ Err refusal → RefusesAs format bytes refusal
-refuses_as Wcsp bytes refusal refuses = refuses
+refuses_as : (format : Format) (bytes : List ℕ) (refusal : FirstUnread) → read_as format bytes ≡ Err refusal → RefusesAs format bytes refusal
+refuses_as Wcsp bytes (Header ordinal) refuses = word_only (reading bytes) ordinal refuses
+  where
+    word_only : (r : Result Network Refusal) (ordinal : ℕ) → in_words r ≡ Err (Header ordinal) → ⊥
+    word_only (Ok P) ordinal e = absurd cc
+    word_only (Err r) ordinal e = absurd cc
+refuses_as Wcsp bytes (Word refusal) refuses = word_of (reading bytes) refusal refuses
+  where
+    word_of : (r : Result Network Refusal) (refusal : Refusal) → in_words r ≡ Err (Word refusal) → r ≡ Err refusal
+    word_of (Ok P) refusal e = absurd cc
+    word_of (Err r) refusal e = let same : r ≡ refusal = cc in ap (λ r. Err r) same
+refuses_as Wcnf bytes refusal refuses = refuses
 
-pub unread_by : (format : Format) (bytes : List ℕ) (fault : ReadFault) (calls now : List Call) (status : Status) → Fails fault (reading bytes) → SaysUnread fault calls now status → Unread format bytes calls now status
-unread_by format bytes (faults.Refused refusal) calls now status fails says = loading.refused refusal (refuses_as format bytes refusal fails) says
+pub unread_by : (format : Format) (bytes : List ℕ) (fault : ReadFault) (calls now : List Call) (status : Status) → Fails fault (read_as format bytes) → SaysUnread fault calls now status → Unread format bytes calls now status
+unread_by format bytes (faults.Unread first) calls now status fails says = loading.refused first (refuses_as format bytes first fails) says
 unread_by format bytes faults.Memory calls now status fails says = loading.no_memory says
+
+pub reads_as : (format : Format) (bytes : List ℕ) (P : Network) → read_as format bytes ≡ Ok P → ReadsAs format bytes P
+reads_as Wcsp bytes P reads = word_read (reading bytes) reads
+  where
+    word_read : (r : Result Network Refusal) → in_words r ≡ Ok P → r ≡ Ok P
+    word_read (Ok Q) e = let same : Q ≡ P = cc in ap (λ Q. Ok Q) same
+    word_read (Err r) e = absurd cc
+reads_as Wcnf bytes P reads = reads
 
 -- the report is said behind a certificate that was written, and else that it was not
 pub outputs_unwritten : {T E U F : Type 0} (text said_text : List ℕ) (due : Status) (old middle new : Outside) (result : Result T E) (said : Result U F) (status : Status) → is_err result ≡ true → OnErr result (NotWritten text old middle) → Appends Screen middle write_fault_text said new → status ≡ (if is_ok said then Fault else Fault) → Outputs text said_text due old new status
@@ -86,30 +107,30 @@ module _ (old : Outside) (now : List Call) (status : Status) where
   once middle last file bytes at same = ap (λ o. o.calls) same ∙ ap (λ o. o.calls) at
 
   -- the cost of an assignment was asked for
-  pub costs_priced : (middle last : Outside) (ask : CostRequest) (bytes : List ℕ) (P : Network) → HasFile old ask.file bytes → middle ≡ after (Load ask.file (Bytes bytes)) old → ReadsAs Wcsp bytes P → last ≡ middle → Prices P ask.values last.calls now status → Costs ask old now status
+  pub costs_priced : (middle last : Outside) (ask : CostRequest) (bytes : List ℕ) (P : Network) → HasFile old ask.file bytes → middle ≡ after (Load ask.file (Bytes bytes)) old → ReadsAs ask.format bytes P → last ≡ middle → Prices P ask.values last.calls now status → Costs ask old now status
   costs_priced middle last ask bytes P has at reads same prices =
       costing.priced bytes P has reads (subst (λ (cs : List Call). Prices P ask.values cs now status) (once middle last ask.file bytes at same) prices)
 
-  pub costs_unread : (middle : Outside) (ask : CostRequest) (bytes : List ℕ) → HasFile old ask.file bytes → middle ≡ after (Load ask.file (Bytes bytes)) old → Unread Wcsp bytes middle.calls now status → Costs ask old now status
+  pub costs_unread : (middle : Outside) (ask : CostRequest) (bytes : List ℕ) → HasFile old ask.file bytes → middle ≡ after (Load ask.file (Bytes bytes)) old → Unread ask.format bytes middle.calls now status → Costs ask old now status
   costs_unread middle ask bytes has at unread =
-      costing.unread bytes has (subst (λ (cs : List Call). Unread Wcsp bytes cs now status) (ap (λ o. o.calls) at) unread)
+      costing.unread bytes has (subst (λ (cs : List Call). Unread ask.format bytes cs now status) (ap (λ o. o.calls) at) unread)
 
   -- the canonical text was asked for
-  pub normalizes_read : (middle last : Outside) (ask : NormalRequest) (bytes : List ℕ) (P : Network) → HasFile old ask.file bytes → middle ≡ after (Load ask.file (Bytes bytes)) old → ReadsAs Wcsp bytes P → ReadsAs Wcsp (canonical P) P → last ≡ middle → Ends (record { calls = last.calls; text = canonical P; status = Done }) now status → Normalizes ask old now status
+  pub normalizes_read : (middle last : Outside) (ask : NormalRequest) (bytes : List ℕ) (P : Network) → HasFile old ask.file bytes → middle ≡ after (Load ask.file (Bytes bytes)) old → ReadsAs ask.format bytes P → ReadsAs Wcsp (canonical P) P → last ≡ middle → Ends (record { calls = last.calls; text = canonical P; status = Done }) now status → Normalizes ask old now status
   normalizes_read middle last ask bytes P has at reads again same ends =
       normalizing.normalized bytes P has reads again (subst (λ (cs : List Call). Ends (record { calls = cs; text = canonical P; status = Done }) now status) (once middle last ask.file bytes at same) ends)
 
-  pub normalizes_unread : (middle : Outside) (ask : NormalRequest) (bytes : List ℕ) → HasFile old ask.file bytes → middle ≡ after (Load ask.file (Bytes bytes)) old → Unread Wcsp bytes middle.calls now status → Normalizes ask old now status
+  pub normalizes_unread : (middle : Outside) (ask : NormalRequest) (bytes : List ℕ) → HasFile old ask.file bytes → middle ≡ after (Load ask.file (Bytes bytes)) old → Unread ask.format bytes middle.calls now status → Normalizes ask old now status
   normalizes_unread middle ask bytes has at unread =
-      normalizing.unread bytes has (subst (λ (cs : List Call). Unread Wcsp bytes cs now status) (ap (λ o. o.calls) at) unread)
+      normalizing.unread bytes has (subst (λ (cs : List Call). Unread ask.format bytes cs now status) (ap (λ o. o.calls) at) unread)
 
 module _ (old new : Outside) (status : Status) where
   -- a network was to be searched
-  pub solves_unread : (middle : Outside) (ask : SolveRequest) (bytes : List ℕ) → HasFile old ask.file bytes → middle ≡ after (Load ask.file (Bytes bytes)) old → new.files ≡ middle.files → Unread Wcsp bytes middle.calls new.calls status → Solves ask old new status
+  pub solves_unread : (middle : Outside) (ask : SolveRequest) (bytes : List ℕ) → HasFile old ask.file bytes → middle ≡ after (Load ask.file (Bytes bytes)) old → new.files ≡ middle.files → Unread ask.format bytes middle.calls new.calls status → Solves ask old new status
   solves_unread middle ask bytes has at same unread =
-      solving.unread bytes has (same ∙ ap (λ o. o.files) at) (subst (λ (cs : List Call). Unread Wcsp bytes cs new.calls status) (ap (λ o. o.calls) at) unread)
+      solving.unread bytes has (same ∙ ap (λ o. o.files) at) (subst (λ (cs : List Call). Unread ask.format bytes cs new.calls status) (ap (λ o. o.calls) at) unread)
 
-  pub solves_read : (middle last : Outside) (ask : SolveRequest) (bytes : List ℕ) (P : Network) → HasFile old ask.file bytes → middle ≡ after (Load ask.file (Bytes bytes)) old → ReadsAs Wcsp bytes P → last ≡ middle → Searches P ask last new status → Solves ask old new status
+  pub solves_read : (middle last : Outside) (ask : SolveRequest) (bytes : List ℕ) (P : Network) → HasFile old ask.file bytes → middle ≡ after (Load ask.file (Bytes bytes)) old → ReadsAs ask.format bytes P → last ≡ middle → Searches P ask last new status → Solves ask old new status
   solves_read middle last ask bytes P has at reads same searches =
       solving.read bytes P has reads (subst (λ o. Searches P ask o new status) (same ∙ at) searches)
 

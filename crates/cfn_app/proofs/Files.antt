@@ -1,12 +1,16 @@
 -- What a file holds is one, and so is what it reads as.
 use Rattle.std.proofs.Common.{◌≡◌, ℕ, zero, suc, ◌<◌, List, [], ◌∷◌, refl, sym, ap, ◌∙◌, arith}
 use Rattle.std.specs.Prelude.{Option, Some, None, IfSome, IsSomeAnd, Result, Ok, Err, length, slice_index}
-use Rattle.cfn_model.specs.declared.reading.Refusal.{Refusal}
+use Rattle.cfn_wcnf.specs.declared.fault.Unread.{Unread as FirstUnread}
+use Rattle.cfn_wcnf.specs.declared.fault.Unread.TheVariants.{Header, Word}
+use Rattle.cfn_wcnf.specs.Reading as wcnf
+use Rattle.cfn_cli.specs.declared.format.Format.{Format}
+use Rattle.cfn_cli.specs.declared.format.Format.TheVariants.{Wcsp, Wcnf}
 use Rattle.cfn_model.specs.Network.{Network, Fits}
 use Rattle.cfn_model.specs.Reading.{reading}
 use Rattle.cfn_net.specs.Fitting.{IsFirstMisfit}
 use Rattle.cfn_desk.specs.Outside.{Files, Outside, HasFile}
-use Rattle.cfn_app.specs.Loading.{Tells}
+use Rattle.cfn_app.specs.Loading.{ReadsAs, RefusesAs, Tells}
 
 same_some : (bytes other : List ℕ) → Some bytes ≡ Some other → bytes ≡ other
 same_some bytes other e = cc
@@ -19,18 +23,21 @@ told_same (Some f) name bytes other told has = same_some bytes other (sym has �
 pub same_bytes : (old : Outside) (name bytes other : List ℕ) → Tells old name other → HasFile old name bytes → bytes ≡ other
 same_bytes old name bytes other told has = told_same old.files name bytes other told has
 
-result_refused : (r : Result Network Refusal) (P : Network) (refusal : Refusal) → r ≡ Ok P → r ≡ Err refusal → ⊥
-result_refused r P refusal ok err = cc
+ok_or_err : {A E : Type 0} (r : Result A E) (x : A) (e : E) → r ≡ Ok x → r ≡ Err e → ⊥
+ok_or_err r x e ok err = cc
 
-result_one : (r : Result Network Refusal) (P Q : Network) → r ≡ Ok P → r ≡ Ok Q → P ≡ Q
-result_one r P Q p q = cc
+ok_one : {A E : Type 0} (r : Result A E) (x y : A) → r ≡ Ok x → r ≡ Ok y → x ≡ y
+ok_one r x y p q = cc
 
 -- bytes that read as a network are not refused, and read as no other one
-pub read_refused : (bytes other : List ℕ) (P : Network) (refusal : Refusal) → bytes ≡ other → reading bytes ≡ Ok P → reading other ≡ Err refusal → ⊥
-read_refused bytes other P refusal same ok err = result_refused (reading bytes) P refusal ok (ap reading same ∙ err)
+pub read_refused : (format : Format) (bytes other : List ℕ) (P : Network) (refusal : FirstUnread) → bytes ≡ other → ReadsAs format bytes P → RefusesAs format other refusal → ⊥
+read_refused Wcsp bytes other P (Header ordinal) same ok err = err
+read_refused Wcsp bytes other P (Word refusal) same ok err = ok_or_err (reading bytes) P refusal ok (ap reading same ∙ err)
+read_refused Wcnf bytes other P refusal same ok err = ok_or_err (wcnf.reading bytes) P refusal ok (ap wcnf.reading same ∙ err)
 
-pub read_one : (bytes other : List ℕ) (P Q : Network) → bytes ≡ other → reading bytes ≡ Ok P → reading other ≡ Ok Q → P ≡ Q
-read_one bytes other P Q same p q = result_one (reading bytes) P Q p (ap reading same ∙ q)
+pub read_one : (format : Format) (bytes other : List ℕ) (P Q : Network) → bytes ≡ other → ReadsAs format bytes P → ReadsAs format other Q → P ≡ Q
+read_one Wcsp bytes other P Q same p q = ok_one (reading bytes) P Q p (ap reading same ∙ q)
+read_one Wcnf bytes other P Q same p q = ok_one (wcnf.reading bytes) P Q p (ap wcnf.reading same ∙ q)
 
 pub fits_length : (sizes values : List ℕ) → Fits sizes values → length values ≡ length sizes
 fits_length [] [] h = refl

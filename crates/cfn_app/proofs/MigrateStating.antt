@@ -1,6 +1,6 @@
 -- What each status of `migrate` says, from how a run of it ends.
-use Rattle.std.proofs.Common.{◌≡◌, ◌⊎◌, inl, inr, ℕ, suc, ◌<◌, true, List, ◌∷◌, refl, sym, ap, ◌∙◌, subst, arith}
-use Rattle.cfn_model.specs.declared.reading.Refusal.{Refusal}
+use Rattle.std.proofs.Common.{◌≡◌, ◌⊎◌, inl, inr, ℕ, suc, ◌<◌, List, refl, ap, ◌∙◌, subst, arith}
+use Rattle.cfn_wcnf.specs.declared.fault.Unread.{Unread as FirstUnread}
 use Rattle.cfn_model.specs.Network.{Network}
 use Rattle.cfn_model.specs.Certificate.{Certificate, Good, in_second}
 use Rattle.cfn_model.specs.Text.{Spells, spelling}
@@ -9,9 +9,9 @@ use Rattle.cfn_fault.specs.declared.kind.FaultKind.{FaultKind}
 use Rattle.cfn_fault.specs.Fault as faulty
 use Rattle.cfn_fault.proofs.CallerLemmas.{no_fault_where_good}
 use Rattle.cfn_report.specs.Texts.{migrated_text}
-use Rattle.cfn_desk.specs.Outside.{Outside, Call, Open, IsIdle, Stored, Writing, after, faults, says}
+use Rattle.cfn_desk.specs.Outside.{Outside, IsIdle, Stored, Writing, faults, says}
 use Rattle.cfn_cli.specs.Request.{MigrateRequest}
-use Rattle.cfn_app.specs.declared.format.Format.TheVariants.{Wcsp}
+use Rattle.cfn_cli.specs.declared.format.Format.TheVariants.{Wcsp}
 use Rattle.cfn_app.specs.declared.status.Status.{Status}
 use Rattle.cfn_app.specs.declared.status.Status.TheVariants.{Done, Refused, Disproved}
 use Rattle.cfn_app.specs.Endings.{Ending, Ends, IsHindered}
@@ -27,7 +27,7 @@ use Rattle.cfn_app.proofs.Pairing.{unpaired_by, unpaired_refused, unpaired_hinde
 use Rattle.cfn_app.proofs.Writing.{stored_at, output_counts, output_idle}
 
 module _ (ask : MigrateRequest) (old new : Outside) (status : Status) where
-  says_upgraded : (P : Network) (text : List ℕ) (middle : Outside) → Paired ask.file ask.certificate old P text middle → (c : Certificate) → Verifies P text c → Rewrites (spelling (in_second c)) ask.out middle new status → MigrateSays ask old new status
+  says_upgraded : (P : Network) (text : List ℕ) (middle : Outside) → Paired Wcsp ask.file ask.certificate old P text middle → (c : Certificate) → Verifies P text c → Rewrites (spelling (in_second c)) ask.out middle new status → MigrateSays ask old new status
   says_upgraded P text middle paired c verifies (migrating.unopened same ends) = by (MigrateSays ask old new) _ new.calls status ends (λ calls. tt) tt
   says_upgraded P text middle paired c verifies (migrating.put_out (solving.unwritten last not same ends)) = by (MigrateSays ask old new) _ new.calls status ends (λ calls. tt) tt
   says_upgraded P text middle paired c verifies (migrating.put_out (solving.wrote last wrote same ends)) = by (MigrateSays ask old new) _ new.calls status ends (λ calls. record {
@@ -43,24 +43,24 @@ module _ (ask : MigrateRequest) (old new : Outside) (status : Status) where
     calls = calls ∙ ap (says migrated_text) wrote.calls;
   }) tt
 
-  says_judged : (P : Network) (text : List ℕ) (middle : Outside) → Paired ask.file ask.certificate old P text middle → Upgrades P text ask.out middle new status → MigrateSays ask old new status
+  says_judged : (P : Network) (text : List ℕ) (middle : Outside) → Paired Wcsp ask.file ask.certificate old P text middle → Upgrades P text ask.out middle new status → MigrateSays ask old new status
   says_judged P text middle paired (migrating.disproved l kind fault same ends) = by (MigrateSays ask old new) _ new.calls status ends (λ calls. (P, text, l, kind, middle, paired, fault, (calls, same ∙ paired.files))) tt
   says_judged P text middle paired (migrating.no_memory same ends) = by (MigrateSays ask old new) _ new.calls status ends (λ calls. (_, (calls, same ∙ paired.files))) tt
   says_judged P text middle paired (migrating.upgraded c verifies rewrites) = says_upgraded P text middle paired c verifies rewrites
 
   says_migrate : Migrates ask old new status → MigrateSays ask old new status
   says_migrate (migrating.unpaired same unpaired) =
-      unpaired_by ask.file ask.certificate old new.calls status (MigrateSays ask old new) tt (λ calls is. (calls, (is, same)))
+      unpaired_by Wcsp ask.file ask.certificate old new.calls status (MigrateSays ask old new) tt (λ calls is. (calls, (is, same)))
       (λ bytes text refusal has certified refuses is. (text, certified, (bytes, refusal, has, refuses, (is, same)))) unpaired
   says_migrate (migrating.judged P text middle paired upgrades) = says_judged P text middle paired upgrades
 
   by_due : (wanted : Status) (due : Ending) → Ends due new.calls status → (due.status ≡ wanted) ⊎ IsHindered due.status → (status ≡ wanted) ⊎ IsHindered status
   by_due wanted due ends is = by (λ s. (s ≡ wanted) ⊎ IsHindered s) due new.calls status ends (λ calls. is) (inr (inl refl))
 
-  says_refused : (bytes : List ℕ) (refusal : Refusal) → Tells old ask.file bytes → RefusesAs Wcsp bytes refusal → Migrates ask old new status → (status ≡ Refused) ⊎ IsHindered status
-  says_refused bytes refusal told refuses (migrating.unpaired same unpaired) = unpaired_refused ask.file ask.certificate old new.calls status unpaired
+  says_refused : (bytes : List ℕ) (refusal : FirstUnread) → Tells old ask.file bytes → RefusesAs Wcsp bytes refusal → Migrates ask old new status → (status ≡ Refused) ⊎ IsHindered status
+  says_refused bytes refusal told refuses (migrating.unpaired same unpaired) = unpaired_refused Wcsp ask.file ask.certificate old new.calls status unpaired
   says_refused bytes refusal told refuses (migrating.judged P text middle paired upgrades) =
-      absurd (read_refused paired.bytes bytes P refusal (same_bytes old ask.file paired.bytes bytes told paired.has) paired.reads refuses)
+      absurd (read_refused Wcsp paired.bytes bytes P refusal (same_bytes old ask.file paired.bytes bytes told paired.has) paired.reads refuses)
 
   -- a certificate that is written is good, or the run was hindered
   rewritten : (second : List ℕ) (before : Outside) → Rewrites second ask.out before new status → (status ≡ Done) ⊎ IsHindered status
@@ -76,9 +76,9 @@ module _ (ask : MigrateRequest) (old new : Outside) (status : Status) where
   judged_migrated P Q text words c before is at spells good (migrating.upgraded d verifies rewrites) = rewritten _ before rewrites
 
   says_migrated : (bytes text : List ℕ) (P : Network) (c : Certificate) → Tells old ask.file bytes → Tells old ask.certificate text → ReadsAs Wcsp bytes P → Spells c text → Good P c → Migrates ask old new status → (status ≡ Done) ⊎ IsHindered status
-  says_migrated bytes text P c told written reads spells good (migrating.unpaired same unpaired) = unpaired_hindered ask.file ask.certificate old new.calls status Done bytes P told reads unpaired
+  says_migrated bytes text P c told written reads spells good (migrating.unpaired same unpaired) = unpaired_hindered Wcsp ask.file ask.certificate old new.calls status Done bytes P told reads unpaired
   says_migrated bytes text P c told written reads spells good (migrating.judged Q words middle paired upgrades) =
-      judged_migrated P Q text words c middle (read_one paired.bytes bytes Q P (same_bytes old ask.file paired.bytes bytes told paired.has) paired.reads reads) (same_bytes old ask.certificate words text written paired.certified) spells good upgrades
+      judged_migrated P Q text words c middle (read_one Wcsp paired.bytes bytes Q P (same_bytes old ask.file paired.bytes bytes told paired.has) paired.reads reads) (same_bytes old ask.certificate words text written paired.certified) spells good upgrades
 
   -- a certificate with a fault
   judged_refuted : (P Q : Network) (text words : List ℕ) (l : ℕ) (kind : FaultKind) (before : Outside) → Q ≡ P → words ≡ text → faulty.Fault P text l kind → Upgrades Q words ask.out before new status → (status ≡ Disproved) ⊎ IsHindered status
@@ -88,9 +88,9 @@ module _ (ask : MigrateRequest) (old new : Outside) (status : Status) where
       absurd (no_fault_where_good P text c l kind (subst (λ w. Spells c w) at verifies.spells) (subst (λ N. Good N c) is verifies.good) fault)
 
   says_refuted : (bytes text : List ℕ) (P : Network) (l : ℕ) (kind : FaultKind) → Tells old ask.file bytes → Tells old ask.certificate text → ReadsAs Wcsp bytes P → faulty.Fault P text l kind → Migrates ask old new status → (status ≡ Disproved) ⊎ IsHindered status
-  says_refuted bytes text P l kind told written reads fault (migrating.unpaired same unpaired) = unpaired_hindered ask.file ask.certificate old new.calls status Disproved bytes P told reads unpaired
+  says_refuted bytes text P l kind told written reads fault (migrating.unpaired same unpaired) = unpaired_hindered Wcsp ask.file ask.certificate old new.calls status Disproved bytes P told reads unpaired
   says_refuted bytes text P l kind told written reads fault (migrating.judged Q words middle paired upgrades) =
-      judged_refuted P Q text words l kind middle (read_one paired.bytes bytes Q P (same_bytes old ask.file paired.bytes bytes told paired.has) paired.reads reads) (same_bytes old ask.certificate words text written paired.certified) fault upgrades
+      judged_refuted P Q text words l kind middle (read_one Wcsp paired.bytes bytes Q P (same_bytes old ask.file paired.bytes bytes told paired.has) paired.reads reads) (same_bytes old ask.certificate words text written paired.certified) fault upgrades
 
   pub migrate_status : Migrates ask old new status → MigrateStatus ask old new status
   migrate_status migrates = record {
@@ -105,14 +105,14 @@ module _ (ask : MigrateRequest) (old new : Outside) (status : Status) where
   rewrite_counts second before same (migrating.put_out out) = output_counts _ new second migrated_text Done status old.calls same (λ now is. is) out
 
   pub migrate_counts : Migrates ask old new status → Counts old.calls new.calls status
-  migrate_counts (migrating.unpaired same unpaired) = unpaired_counts ask.file ask.certificate old new.calls status unpaired
-  migrate_counts (migrating.judged P text middle paired (migrating.disproved l kind fault same ends)) = counted old.calls _ new.calls status ends (pair_faults ask.file ask.certificate old P text middle paired)
-  migrate_counts (migrating.judged P text middle paired (migrating.no_memory same ends)) = counted old.calls _ new.calls status ends (pair_faults ask.file ask.certificate old P text middle paired)
-  migrate_counts (migrating.judged P text middle paired (migrating.upgraded c verifies rewrites)) = rewrite_counts _ middle (pair_faults ask.file ask.certificate old P text middle paired) rewrites
+  migrate_counts (migrating.unpaired same unpaired) = unpaired_counts Wcsp ask.file ask.certificate old new.calls status unpaired
+  migrate_counts (migrating.judged P text middle paired (migrating.disproved l kind fault same ends)) = counted old.calls _ new.calls status ends (pair_faults Wcsp ask.file ask.certificate old P text middle paired)
+  migrate_counts (migrating.judged P text middle paired (migrating.no_memory same ends)) = counted old.calls _ new.calls status ends (pair_faults Wcsp ask.file ask.certificate old P text middle paired)
+  migrate_counts (migrating.judged P text middle paired (migrating.upgraded c verifies rewrites)) = rewrite_counts _ middle (pair_faults Wcsp ask.file ask.certificate old P text middle paired) rewrites
 
   pub migrate_idle : Migrates ask old new status → IsIdle old.calls → IsIdle new.calls
-  migrate_idle (migrating.unpaired same unpaired) idle = unpaired_idle ask.file ask.certificate old new.calls status unpaired idle
-  migrate_idle (migrating.judged P text middle paired (migrating.disproved l kind fault same ends)) idle = ends_idle _ new.calls status ends (pair_idle ask.file ask.certificate old P text middle paired idle)
-  migrate_idle (migrating.judged P text middle paired (migrating.no_memory same ends)) idle = ends_idle _ new.calls status ends (pair_idle ask.file ask.certificate old P text middle paired idle)
+  migrate_idle (migrating.unpaired same unpaired) idle = unpaired_idle Wcsp ask.file ask.certificate old new.calls status unpaired idle
+  migrate_idle (migrating.judged P text middle paired (migrating.disproved l kind fault same ends)) idle = ends_idle _ new.calls status ends (pair_idle Wcsp ask.file ask.certificate old P text middle paired idle)
+  migrate_idle (migrating.judged P text middle paired (migrating.no_memory same ends)) idle = ends_idle _ new.calls status ends (pair_idle Wcsp ask.file ask.certificate old P text middle paired idle)
   migrate_idle (migrating.judged P text middle paired (migrating.upgraded c verifies (migrating.unopened same ends))) idle = ends_idle _ new.calls status ends refl
   migrate_idle (migrating.judged P text middle paired (migrating.upgraded c verifies (migrating.put_out out))) idle = output_idle _ new (spelling (in_second c)) migrated_text Done status out

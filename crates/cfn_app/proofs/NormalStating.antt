@@ -1,10 +1,9 @@
 -- What each status of `normal` says, from how a run of it ends.
-use Rattle.std.proofs.Common.{◌≡◌, ◌⊎◌, inl, inr, ℕ, suc, ◌<◌, List, refl, sym, subst, arith}
-use Rattle.cfn_model.specs.declared.reading.Refusal.{Refusal}
+use Rattle.std.proofs.Common.{◌≡◌, ◌⊎◌, inl, inr, ℕ, suc, ◌<◌, List, refl, sym, arith}
+use Rattle.cfn_wcnf.specs.declared.fault.Unread.{Unread as FirstUnread}
 use Rattle.cfn_model.specs.Network.{Network}
-use Rattle.cfn_desk.specs.Outside.{Outside, Call, HasFile, IsIdle, faults}
+use Rattle.cfn_desk.specs.Outside.{Outside, Call, IsIdle, faults}
 use Rattle.cfn_cli.specs.Request.{NormalRequest}
-use Rattle.cfn_app.specs.declared.format.Format.TheVariants.{Wcsp}
 use Rattle.cfn_app.specs.declared.status.Status.{Status}
 use Rattle.cfn_app.specs.declared.status.Status.TheVariants.{Done, Refused}
 use Rattle.cfn_app.specs.Endings.{Ending, Ends, IsHindered}
@@ -27,19 +26,19 @@ module _ (ask : NormalRequest) (old new : Outside) (status : Status) (same : new
   by_due : (wanted : Status) (due : Ending) → Ends due new.calls status → (due.status ≡ wanted) ⊎ IsHindered due.status → (status ≡ wanted) ⊎ IsHindered status
   by_due wanted due ends is = by (λ s. (s ≡ wanted) ⊎ IsHindered s) due new.calls status ends (λ calls. is) (inr (inl refl))
 
-  says_refused : (bytes : List ℕ) (refusal : Refusal) → Tells old ask.file bytes → RefusesAs Wcsp bytes refusal → Normalizes ask old new.calls status → (status ≡ Refused) ⊎ IsHindered status
+  says_refused : (bytes : List ℕ) (refusal : FirstUnread) → Tells old ask.file bytes → RefusesAs ask.format bytes refusal → Normalizes ask old new.calls status → (status ≡ Refused) ⊎ IsHindered status
   says_refused bytes refusal told refuses (normalizing.unloaded (loading.unread ends)) = by_due Refused _ ends (inr (inl refl))
   says_refused bytes refusal told refuses (normalizing.unloaded (loading.no_memory ends)) = by_due Refused _ ends (inr (inr refl))
   says_refused bytes refusal told refuses (normalizing.unread other has (loading.refused r also ends)) = by_due Refused _ ends (inl refl)
   says_refused bytes refusal told refuses (normalizing.unread other has (loading.no_memory ends)) = by_due Refused _ ends (inr (inr refl))
   says_refused bytes refusal told refuses (normalizing.normalized other P has reads again ends) =
-      absurd (read_refused other bytes P refusal (same_bytes old ask.file other bytes told has) reads refuses)
+      absurd (read_refused ask.format other bytes P refusal (same_bytes old ask.file other bytes told has) reads refuses)
 
-  says_text : (bytes : List ℕ) (P : Network) → Tells old ask.file bytes → ReadsAs Wcsp bytes P → Normalizes ask old new.calls status → (status ≡ Done) ⊎ IsHindered status
+  says_text : (bytes : List ℕ) (P : Network) → Tells old ask.file bytes → ReadsAs ask.format bytes P → Normalizes ask old new.calls status → (status ≡ Done) ⊎ IsHindered status
   says_text bytes P told reads (normalizing.unloaded (loading.unread ends)) = by_due Done _ ends (inr (inl refl))
   says_text bytes P told reads (normalizing.unloaded (loading.no_memory ends)) = by_due Done _ ends (inr (inr refl))
   says_text bytes P told reads (normalizing.unread other has (loading.refused refusal refuses ends)) =
-      absurd (read_refused bytes other P refusal (sym (same_bytes old ask.file other bytes told has)) reads refuses)
+      absurd (read_refused ask.format bytes other P refusal (sym (same_bytes old ask.file other bytes told has)) reads refuses)
   says_text bytes P told reads (normalizing.unread other has (loading.no_memory ends)) = by_due Done _ ends (inr (inr refl))
   says_text bytes P told reads (normalizing.normalized other Q has also again ends) = by_due Done _ ends (inl refl)
 

@@ -1,15 +1,14 @@
 -- What each status of `solve` says, from how a run of it ends.
-use Rattle.std.proofs.Common.{◌≡◌, ◌⊎◌, inl, inr, ℕ, suc, ◌<◌, true, List, [], ◌∷◌, refl, sym, ap, ◌∙◌, subst, arith}
+use Rattle.std.proofs.Common.{◌≡◌, ◌⊎◌, inl, inr, ℕ, suc, ◌<◌, true, List, refl, sym, ap, ◌∙◌, arith}
 use Rattle.cfn_model.specs.declared.report.Row.{Row}
 use Rattle.cfn_model.specs.declared.report.ResultWord.{ResultWord}
 use Rattle.cfn_model.specs.declared.report.ResultWord.TheVariants as words
-use Rattle.cfn_model.specs.declared.reading.Refusal.{Refusal}
+use Rattle.cfn_wcnf.specs.declared.fault.Unread.{Unread as FirstUnread}
 use Rattle.cfn_model.specs.Network.{Network}
 use Rattle.cfn_model.specs.Certificate.{Certificate}
 use Rattle.cfn_model.specs.Text.{spelling, report}
 use Rattle.cfn_desk.specs.Outside.{Outside, Call, Load, Open, Bytes, HasFile, IsIdle, after, faults, says}
 use Rattle.cfn_cli.specs.Request.{SolveRequest}
-use Rattle.cfn_app.specs.declared.format.Format.TheVariants.{Wcsp}
 use Rattle.cfn_app.specs.declared.status.Status.{Status}
 use Rattle.cfn_app.specs.declared.status.Status.TheVariants.{Refused}
 use Rattle.cfn_app.specs.Endings.{Ending, Ends, IsHindered}
@@ -31,7 +30,7 @@ module _ (ask : SolveRequest) (old new : Outside) where
   reported words.Memory solved = inr solved
 
   module _ (status : Status) where
-    says_output : (bytes : List ℕ) (P : Network) (nodes : ℕ) (c : Certificate) (rows : List Row) (word : ResultWord) → HasFile old ask.file bytes → ReadsAs Wcsp bytes P → Promise P ask.budget nodes c rows word →
+    says_output : (bytes : List ℕ) (P : Network) (nodes : ℕ) (c : Certificate) (rows : List Row) (word : ResultWord) → HasFile old ask.file bytes → ReadsAs ask.format bytes P → Promise P ask.budget nodes c rows word →
         Outputs (spelling c) (report ask.workers c rows nodes word) (status_of word) (after (Open ask.certificate true) (after (Load ask.file (Bytes bytes)) old)) new status → SolveSays ask old new status
     says_output bytes P nodes c rows word has reads promise (solving.unwritten middle not same ends) = by (SolveSays ask old new) _ new.calls status ends (λ calls. tt) tt
     says_output bytes P nodes c rows word has reads promise (solving.wrote middle wrote same ends) = by (SolveSays ask old new) _ new.calls status ends (λ calls. reported word (record {
@@ -47,7 +46,7 @@ module _ (ask : SolveRequest) (old new : Outside) where
       calls = calls ∙ ap (says (report ask.workers c rows nodes word)) wrote.calls;
     })) tt
 
-    says_search : (bytes : List ℕ) (P : Network) → HasFile old ask.file bytes → ReadsAs Wcsp bytes P → Searches P ask (after (Load ask.file (Bytes bytes)) old) new status → SolveSays ask old new status
+    says_search : (bytes : List ℕ) (P : Network) → HasFile old ask.file bytes → ReadsAs ask.format bytes P → Searches P ask (after (Load ask.file (Bytes bytes)) old) new status → SolveSays ask old new status
     says_search bytes P has reads (solving.unopened same ends) = by (SolveSays ask old new) _ new.calls status ends (λ calls. tt) tt
     says_search bytes P has reads (solving.no_memory same ends) = by (SolveSays ask old new) _ new.calls status ends (λ calls. inl (_, (calls, same))) tt
     says_search bytes P has reads (solving.searched nodes c rows word promise out) = says_output bytes P nodes c rows word has reads promise out
@@ -63,13 +62,13 @@ module _ (ask : SolveRequest) (old new : Outside) where
     by_refusal : (due : Ending) → Ends due new.calls status → (due.status ≡ Refused) ⊎ IsHindered due.status → (status ≡ Refused) ⊎ IsHindered status
     by_refusal due ends is = by (λ s. (s ≡ Refused) ⊎ IsHindered s) due new.calls status ends (λ calls. is) (inr (inl refl))
 
-    says_refused : (bytes : List ℕ) (refusal : Refusal) → Tells old ask.file bytes → RefusesAs Wcsp bytes refusal → Solves ask old new status → (status ≡ Refused) ⊎ IsHindered status
+    says_refused : (bytes : List ℕ) (refusal : FirstUnread) → Tells old ask.file bytes → RefusesAs ask.format bytes refusal → Solves ask old new status → (status ≡ Refused) ⊎ IsHindered status
     says_refused bytes refusal told refuses (solving.unloaded same (loading.unread ends)) = by_refusal _ ends (inr (inl refl))
     says_refused bytes refusal told refuses (solving.unloaded same (loading.no_memory ends)) = by_refusal _ ends (inr (inr refl))
     says_refused bytes refusal told refuses (solving.unread other has same (loading.refused r also ends)) = by_refusal _ ends (inl refl)
     says_refused bytes refusal told refuses (solving.unread other has same (loading.no_memory ends)) = by_refusal _ ends (inr (inr refl))
     says_refused bytes refusal told refuses (solving.read other P has reads search) =
-        absurd (read_refused other bytes P refusal (same_bytes old ask.file other bytes told has) reads refuses)
+        absurd (read_refused ask.format other bytes P refusal (same_bytes old ask.file other bytes told has) reads refuses)
 
     -- a file that reads as a network
     by_result : (due : Ending) → Ends due new.calls status → IsReported due.status ⊎ IsHindered due.status → IsReported status ⊎ IsHindered status
@@ -87,11 +86,11 @@ module _ (ask : SolveRequest) (old new : Outside) where
     search_reported P before (solving.searched nodes c rows word promise (solving.unwritten middle not same ends)) = by_result _ ends (inr (inl refl))
     search_reported P before (solving.searched nodes c rows word promise (solving.wrote middle wrote same ends)) = by_result _ ends (word_reported word)
 
-    says_solved : (bytes : List ℕ) (P : Network) → Tells old ask.file bytes → ReadsAs Wcsp bytes P → Solves ask old new status → IsReported status ⊎ IsHindered status
+    says_solved : (bytes : List ℕ) (P : Network) → Tells old ask.file bytes → ReadsAs ask.format bytes P → Solves ask old new status → IsReported status ⊎ IsHindered status
     says_solved bytes P told reads (solving.unloaded same (loading.unread ends)) = by_result _ ends (inr (inl refl))
     says_solved bytes P told reads (solving.unloaded same (loading.no_memory ends)) = by_result _ ends (inr (inr refl))
     says_solved bytes P told reads (solving.unread other has same (loading.refused refusal refuses ends)) =
-        absurd (read_refused bytes other P refusal (sym (same_bytes old ask.file other bytes told has)) reads refuses)
+        absurd (read_refused ask.format bytes other P refusal (sym (same_bytes old ask.file other bytes told has)) reads refuses)
     says_solved bytes P told reads (solving.unread other has same (loading.no_memory ends)) = by_result _ ends (inr (inr refl))
     says_solved bytes P told reads (solving.read other Q has also search) = search_reported Q _ search
 

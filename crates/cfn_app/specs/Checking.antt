@@ -29,5 +29,5 @@ pub data Judges (P : Network) (text : List ℕ) (calls now : List Call) (status 
 
 -- How a run of `check` ends: both files were not loaded and read, or the certificate is judged.
 pub data Checks (ask : CheckRequest) (old : Outside) (now : List Call) (status : Status) : Type 0 where
-  unpaired : Unpaired ask.file ask.certificate old now status → Checks ask old now status
-  judged : (P : Network) (text : List ℕ) (middle : Outside) → Paired ask.file ask.certificate old P text middle → Judges P text middle.calls now status → Checks ask old now status
+  unpaired : Unpaired ask.format ask.file ask.certificate old now status → Checks ask old now status
+  judged : (P : Network) (text : List ℕ) (middle : Outside) → Paired ask.format ask.file ask.certificate old P text middle → Judges P text middle.calls now status → Checks ask old now status

@@ -5,7 +5,6 @@ use Rattle.cfn_model.specs.Text.{cost_text, values_fault_text, value_fault_text}
 use Rattle.cfn_net.specs.Fitting.{IsFirstMisfit}
 use Rattle.cfn_desk.specs.Outside.{Outside, Call, HasFile}
 use Rattle.cfn_cli.specs.Request.{CostRequest}
-use Rattle.cfn_app.specs.declared.format.Format.TheVariants.{Wcsp}
 use Rattle.cfn_app.specs.declared.status.Status.{Status}
 use Rattle.cfn_app.specs.declared.status.Status.TheVariants.{Done, Refused}
 use Rattle.cfn_app.specs.Endings.{Ends}
@@ -21,5 +20,5 @@ pub data Prices (P : Network) (values : List ℕ) (calls now : List Call) (statu
 -- How a run of `cost` ends: the file is not loaded, or not read, or the assignment is judged.
 pub data Costs (ask : CostRequest) (old : Outside) (now : List Call) (status : Status) : Type 0 where
   unloaded : Unloaded ask.file old.calls now status → Costs ask old now status
-  unread : (bytes : List ℕ) → HasFile old ask.file bytes → Unread Wcsp bytes (loaded ask.file bytes old.calls) now status → Costs ask old now status
-  priced : (bytes : List ℕ) (P : Network) → HasFile old ask.file bytes → ReadsAs Wcsp bytes P → Prices P ask.values (loaded ask.file bytes old.calls) now status → Costs ask old now status
+  unread : (bytes : List ℕ) → HasFile old ask.file bytes → Unread ask.format bytes (loaded ask.file bytes old.calls) now status → Costs ask old now status
+  priced : (bytes : List ℕ) (P : Network) → HasFile old ask.file bytes → ReadsAs ask.format bytes P → Prices P ask.values (loaded ask.file bytes old.calls) now status → Costs ask old now status

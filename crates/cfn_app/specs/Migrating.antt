@@ -10,6 +10,7 @@ use Rattle.cfn_desk.specs.Outside.{Outside, Open, after}
 use Rattle.cfn_cli.specs.Request.{MigrateRequest}
 use Rattle.cfn_app.specs.declared.status.Status.{Status}
 use Rattle.cfn_app.specs.declared.status.Status.TheVariants.{Done, Fault, NoMemory, Disproved}
+use Rattle.cfn_cli.specs.declared.format.Format.TheVariants.{Wcsp}
 use Rattle.cfn_app.specs.Endings.{Ends}
 use Rattle.cfn_app.specs.Loading.{Paired, Unpaired}
 use Rattle.cfn_app.specs.Checking.{Verifies}
@@ -29,5 +30,5 @@ pub data Upgrades (P : Network) (text out : List ℕ) (old new : Outside) (statu
 
 -- How a run of `migrate` ends: both files were not loaded and read, or the certificate is judged and written.
 pub data Migrates (ask : MigrateRequest) (old new : Outside) (status : Status) : Type 0 where
-  unpaired : new.files ≡ old.files → Unpaired ask.file ask.certificate old new.calls status → Migrates ask old new status
-  judged : (P : Network) (text : List ℕ) (middle : Outside) → Paired ask.file ask.certificate old P text middle → Upgrades P text ask.out middle new status → Migrates ask old new status
+  unpaired : new.files ≡ old.files → Unpaired Wcsp ask.file ask.certificate old new.calls status → Migrates ask old new status
+  judged : (P : Network) (text : List ℕ) (middle : Outside) → Paired Wcsp ask.file ask.certificate old P text middle → Upgrades P text ask.out middle new status → Migrates ask old new status

@@ -12,7 +12,6 @@ use Rattle.cfn_line.specs.declared.channel.Channel.TheVariants.{File}
 use Rattle.cfn_proof.specs.declared.outcome.Stop.{Stop}
 use Rattle.cfn_proof.specs.declared.outcome.Stop.TheVariants as stops
 use Rattle.cfn_cli.specs.Request.{SolveRequest}
-use Rattle.cfn_app.specs.declared.format.Format.TheVariants.{Wcsp}
 use Rattle.cfn_app.specs.declared.status.Status.{Status}
 use Rattle.cfn_app.specs.declared.status.Status.TheVariants.{Done, Nothing, BudgetSpent, Fault, NoMemory}
 use Rattle.cfn_app.specs.Endings.{Ends}
@@ -63,5 +62,5 @@ pub data Searches (P : Network) (ask : SolveRequest) (old new : Outside) (status
 -- How a run of `solve` ends: the file is not loaded, or not read, or searched.
 pub data Solves (ask : SolveRequest) (old new : Outside) (status : Status) : Type 0 where
   unloaded : new.files ≡ old.files → Unloaded ask.file old.calls new.calls status → Solves ask old new status
-  unread : (bytes : List ℕ) → HasFile old ask.file bytes → new.files ≡ old.files → Unread Wcsp bytes (loaded ask.file bytes old.calls) new.calls status → Solves ask old new status
-  read : (bytes : List ℕ) (P : Network) → HasFile old ask.file bytes → ReadsAs Wcsp bytes P → Searches P ask (after (Load ask.file (Bytes bytes)) old) new status → Solves ask old new status
+  unread : (bytes : List ℕ) → HasFile old ask.file bytes → new.files ≡ old.files → Unread ask.format bytes (loaded ask.file bytes old.calls) new.calls status → Solves ask old new status
+  read : (bytes : List ℕ) (P : Network) → HasFile old ask.file bytes → ReadsAs ask.format bytes P → Searches P ask (after (Load ask.file (Bytes bytes)) old) new status → Solves ask old new status

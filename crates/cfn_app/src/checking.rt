@@ -18,7 +18,13 @@ pub fn check_file<D: Desk>(alloc: Global, ask: &CheckArguments, desk: &mut D) ->
     ensures ends { Checks (spoken_check ask.now) (D.outside desk.old) (D.outside desk.new).calls result }
     ensures files { (D.outside desk.new).files ≡ (D.outside desk.old).files }
 {
-    match load_pair(alloc, ask.file.as_str(), ask.certificate.as_str(), desk) {
+    match load_pair(
+        alloc,
+        ask.format,
+        ask.file.as_str(),
+        ask.certificate.as_str(),
+        desk,
+    ) {
         Ok(pair) => judge(alloc, &pair.network, &pair.text, desk),
         Err(status) => status,
     }

@@ -4,7 +4,6 @@ ghost use Rattle.std.specs.Prelude.{◌≡◌};
 ghost use Rattle.cfn_cli.specs.Request.{spoken_cost};
 ghost use Rattle.cfn_app.specs.Costing.{Costs, Prices};
 
-use crate::format::Format;
 use crate::loading::{load_bytes, read_bytes};
 use crate::status::{Status, ending};
 use cfn_cli::CostArguments;
@@ -21,7 +20,7 @@ pub fn cost_file<D: Desk>(alloc: Global, ask: &CostArguments, desk: &mut D) -> S
         Ok(bytes) => bytes,
         Err(status) => return status,
     };
-    match read_bytes(alloc, Format::Wcsp, &bytes, desk) {
+    match read_bytes(alloc, ask.format, &bytes, desk) {
         Ok(network) => say_cost(&network, ask.values.as_slice(), desk),
         Err(status) => status,
     }

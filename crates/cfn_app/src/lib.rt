@@ -8,15 +8,13 @@
 //!
 //! - `program` has `run`, and `solving`, `checking`, `costing`, `normalizing`, `trying` and `migrating` have a command each,
 //!   as specs/ has.
-//! - `loading` goes from the names of files to bytes and a network in a `format`, and `output` writes a certificate and
+//! - `loading` goes from the names of files to bytes and a network in a format, and `output` writes a certificate and
 //!   says its report. `status` has the statuses.
-//! - A `Gate` is what the workers of a search pass; one works, and passes none.
+//! - A `Gate` is what the workers of a search pass (`cfn_search`).
 #![tactic(auto)]
 
 mod checking;
 mod costing;
-mod format;
-mod gate;
 mod loading;
 mod migrating;
 mod normalizing;
@@ -26,7 +24,7 @@ mod solving;
 mod status;
 mod trying;
 
-pub use gate::{Gate, OpenGate, Point};
+pub use cfn_search::{Gate, OpenGate, Point};
 pub use program::run;
 pub use status::Status;
 

@@ -2,13 +2,14 @@
 
 ghost use Rattle.std.specs.Prelude.{◌≡◌, IfErr, IfOk};
 ghost use Rattle.cfn_desk.specs.Outside.{HasFile, Load, Bytes, after};
-ghost use Rattle.cfn_app.specs.Loading.{Paired, ReadsAs, SaysUnread, Unloaded, Unpaired, Unread};
+ghost use Rattle.cfn_app.specs.Loading.{Paired, ReadsAs, SaysUnread, Unloaded, Unpaired, Unread, read_as};
+ghost use Rattle.cfn_wcnf.specs.Giving.{Gives};
 
-use crate::format::Format;
 use crate::status::{Status, ending};
+use cfn_cli::Format;
 use cfn_desk::{Desk, LoadFault};
 use cfn_net::Network;
-use cfn_wcsp::ReadFault;
+use cfn_wcnf::{ReadFault, Unread as FirstUnread};
 use std::alloc::Global;
 
 /// The bytes of the file `name`. An `Err` has said why there are none, and is the status that the run ends with.
@@ -44,12 +45,19 @@ pub fn read_bytes<D: Desk>(
         (D.outside desk.new).calls status) }
     ensures files { (D.outside desk.new).files ≡ (D.outside desk.old).files }
 {
-    let read = match format {
-        Format::Wcsp => cfn_wcsp::read(alloc, bytes),
-    };
-    match read {
+    match read_as(alloc, format, bytes) {
         Ok(network) => Ok(network),
         Err(fault) => Err(say_unread(fault, desk)),
+    }
+}
+
+/// The network that bytes are in a format.
+fn read_as(alloc: Global, format: Format, bytes: &[u8]) -> Result<Network, ReadFault>
+    ensures { Gives (λ P. P) result (read_as format bytes.now) }
+{
+    match format {
+        Format::Wcsp => Ok(cfn_wcsp::read(alloc, bytes)?),
+        Format::Wcnf => cfn_wcnf::read(alloc, bytes),
     }
 }
 
@@ -64,19 +72,20 @@ pub struct Pair {
 /// status that the run ends with.
 pub fn load_pair<D: Desk>(
     alloc: Global,
+    format: Format,
     file: &str,
     certificate: &str,
     desk: &mut D,
 ) -> Result<Pair, Status>
-    ensures paired { IfOk result (λ pair. Paired file.now certificate.now (D.outside desk.old)
+    ensures paired { IfOk result (λ pair. Paired format file.now certificate.now (D.outside desk.old)
         pair.network pair.text.items (D.outside desk.new)) }
-    ensures unpaired { IfErr result (λ status. Unpaired file.now certificate.now (D.outside desk.old)
+    ensures unpaired { IfErr result (λ status. Unpaired format file.now certificate.now (D.outside desk.old)
         (D.outside desk.new).calls status) }
     ensures files { (D.outside desk.new).files ≡ (D.outside desk.old).files }
 {
     let bytes = load_bytes(alloc, file, desk)?;
     let text = load_bytes(alloc, certificate, desk)?;
-    let network = read_bytes(alloc, Format::Wcsp, &bytes, desk)?;
+    let network = read_bytes(alloc, format, &bytes, desk)?;
     Ok(Pair { network, text })
 }
 
@@ -86,7 +95,11 @@ fn say_unread<D: Desk>(fault: ReadFault, desk: &mut D) -> Status
     ensures files { (D.outside desk.new).files ≡ (D.outside desk.old).files }
 {
     match fault {
-        ReadFault::Refused(refusal) => {
+        ReadFault::Unread(FirstUnread::Header(ordinal)) => ending(
+            cfn_report::write_header_fault(ordinal, desk),
+            Status::Refused,
+        ),
+        ReadFault::Unread(FirstUnread::Word(refusal)) => {
             ending(cfn_report::write_refusal(&refusal, desk), Status::Refused)
         }
         ReadFault::Memory => ending(cfn_report::write_memory_fault(desk), Status::NoMemory),

@@ -12,7 +12,7 @@ ghost use Rattle.cfn_app.specs.Migrating.{Migrates, Rewrites, Upgrades};
 use crate::loading::load_pair;
 use crate::status::{Status, ending};
 use cfn_check::{Check, check};
-use cfn_cli::MigrateArguments;
+use cfn_cli::{Format, MigrateArguments};
 use cfn_desk::{Desk, Failed};
 use cfn_net::Network;
 use std::alloc::{AllocError, Global};
@@ -23,7 +23,13 @@ pub fn migrate_file<D: Desk>(alloc: Global, ask: &MigrateArguments, desk: &mut D
     requires { IsIdle (D.outside desk.old).calls }
     ensures { Migrates (spoken_migrate ask.now) (D.outside desk.old) (D.outside desk.new) result }
 {
-    match load_pair(alloc, ask.file.as_str(), ask.certificate.as_str(), desk) {
+    match load_pair(
+        alloc,
+        Format::Wcsp,
+        ask.file.as_str(),
+        ask.certificate.as_str(),
+        desk,
+    ) {
         Ok(pair) => judge_and_write(alloc, &pair.network, &pair.text, ask.out.as_str(), desk),
         Err(status) => status,
     }

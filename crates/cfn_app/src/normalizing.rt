@@ -8,7 +8,6 @@ ghost use Rattle.cfn_app.specs.Endings.{Ends};
 ghost use Rattle.cfn_app.specs.declared.status.Status.TheVariants.{Done};
 ghost use Rattle.cfn_app.specs.Normalizing.{Normalizes};
 
-use crate::format::Format;
 use crate::loading::{load_bytes, read_bytes};
 use crate::status::{Status, ending};
 use cfn_cli::NormalArguments;
@@ -26,7 +25,7 @@ pub fn normalize_file<D: Desk>(alloc: Global, ask: &NormalArguments, desk: &mut 
         Ok(bytes) => bytes,
         Err(status) => return status,
     };
-    match read_bytes(alloc, Format::Wcsp, &bytes, desk) {
+    match read_bytes(alloc, ask.format, &bytes, desk) {
         Ok(network) => say_normal(&network, desk),
         Err(status) => status,
     }

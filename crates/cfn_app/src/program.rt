@@ -8,7 +8,6 @@ ghost use Rattle.cfn_app.specs.Statuses.{Statuses};
 
 use crate::checking::check_file;
 use crate::costing::cost_file;
-use crate::gate::Gate;
 use crate::migrating::migrate_file;
 use crate::normalizing::normalize_file;
 use crate::solving::solve_file;
@@ -16,13 +15,16 @@ use crate::status::{Status, ending};
 use crate::trying::try_drawn;
 use cfn_cli::{CliFault, Command};
 use cfn_desk::Desk;
+use cfn_search::Gate;
 use std::alloc::Global;
+use std::sync::Wait;
+use std::thread::Threads;
 
 /// Does all that the program does, and answers the status that it ends with.
 ///
-/// `words` begins with the program's name. `rt` is the runtime and `gate` the gate that workers pass; all runs on the
-/// calling thread for now.
-pub fn run<R, D: Desk, G: Gate + Sync>(
+/// `words` begins with the program's name. `rt` is the runtime, in whose threads workers search, and `gate` is what these
+/// pass.
+pub fn run<R: Threads + Wait + Sync, D: Desk, G: Gate + Sync>(
     rt: &R,
     alloc: Global,
     words: &[&str],
@@ -41,7 +43,7 @@ pub fn run<R, D: Desk, G: Gate + Sync>(
 }
 
 /// Does what the words ask for.
-fn end_of<R, D: Desk, G: Gate + Sync>(
+fn end_of<R: Threads + Wait + Sync, D: Desk, G: Gate + Sync>(
     rt: &R,
     alloc: Global,
     words: &[&str],
@@ -52,10 +54,8 @@ fn end_of<R, D: Desk, G: Gate + Sync>(
     ensures { Runs (request_of (map (λ w. w.now) words.now))
         (D.outside desk.old) (D.outside desk.new) result }
 {
-    let _ = rt;
-    let _ = gate;
     match cfn_cli::parse(alloc, words) {
-        Ok(Command::Solve(ask)) => solve_file(alloc, &ask, desk),
+        Ok(Command::Solve(ask)) => solve_file(rt, alloc, &ask, desk, gate),
         Ok(Command::Check(ask)) => check_file(alloc, &ask, desk),
         Ok(Command::Cost(ask)) => cost_file(alloc, &ask, desk),
         Ok(Command::Normal(ask)) => normalize_file(alloc, &ask, desk),

@@ -6,20 +6,29 @@ ghost use Rattle.cfn_desk.specs.Outside.{IsIdle};
 ghost use Rattle.cfn_cli.specs.Request.{spoken_solve};
 ghost use Rattle.cfn_app.specs.Solving.{Searches, Solves};
 
-use crate::format::Format;
 use crate::loading::{load_bytes, read_bytes};
 use crate::output::put_out;
 use crate::status::{Status, ending};
 use cfn_cli::SolveArguments;
 use cfn_desk::Desk;
-use cfn_hybrid::solve;
 use cfn_net::Network;
+use cfn_search::{Gate, solve_together};
 use std::alloc::{AllocError, Global};
+use std::sync::Wait;
+use std::thread::Threads;
 
 /// Loads and reads the file that is asked for, opens the certificate's file, searches, writes the certificate and says
 /// the report. The first fault decides; where there is no certificate the file is dropped.
-pub fn solve_file<D: Desk>(alloc: Global, ask: &SolveArguments, desk: &mut D) -> Status
+pub fn solve_file<R: Threads + Wait + Sync, D: Desk, G: Gate + Sync>(
+    rt: &R,
+    alloc: Global,
+    ask: &SolveArguments,
+    desk: &mut D,
+    gate: &G,
+) -> Status
     requires idle { IsIdle (D.outside desk.old).calls }
+    requires some { 1 ≤ ask.now.workers }
+    requires few { ask.now.workers ≤ 64 }
     requires budget { ask.now.budget ≤ GREATEST }
     ensures { Solves (spoken_solve ask.now) (D.outside desk.old) (D.outside desk.new) result }
 {
@@ -27,20 +36,24 @@ pub fn solve_file<D: Desk>(alloc: Global, ask: &SolveArguments, desk: &mut D) ->
         Ok(bytes) => bytes,
         Err(status) => return status,
     };
-    match read_bytes(alloc, Format::Wcsp, &bytes, desk) {
-        Ok(network) => open_and_search(alloc, &network, ask, desk),
+    match read_bytes(alloc, ask.format, &bytes, desk) {
+        Ok(network) => open_and_search(rt, alloc, &network, ask, desk, gate),
         Err(status) => status,
     }
 }
 
 /// Opens the certificate's file, and searches a network as is asked. A file that can't be written costs no search.
-fn open_and_search<D: Desk>(
+fn open_and_search<R: Threads + Wait + Sync, D: Desk, G: Gate + Sync>(
+    rt: &R,
     alloc: Global,
     network: &Network,
     ask: &SolveArguments,
     desk: &mut D,
+    gate: &G,
 ) -> Status
     requires idle { IsIdle (D.outside desk.old).calls }
+    requires some { 1 ≤ ask.now.workers }
+    requires few { ask.now.workers ≤ 64 }
     requires budget { ask.now.budget ≤ GREATEST }
     ensures { Searches network.now (spoken_solve ask.now) (D.outside desk.old) (D.outside desk.new) result }
 {
@@ -48,8 +61,9 @@ fn open_and_search<D: Desk>(
         return ending(cfn_report::write_write_fault(desk), Status::Fault);
     }
     network.limits();
-    match solve(alloc, network, ask.budget) {
-        Ok(outcome) => put_out(&outcome, u32::from(ask.workers), desk),
+    let workers = u32::from(ask.workers);
+    match solve_together(rt, alloc, network, workers, ask.budget, gate) {
+        Ok(outcome) => put_out(&outcome, workers, desk),
         Err(AllocError) => {
             desk.discard_out();
             ending(cfn_report::write_memory_fault(desk), Status::NoMemory)

@@ -9,10 +9,10 @@ use crate::status::{Status, ending};
 use cfn_cli::TrialArguments;
 use cfn_desk::Desk;
 use cfn_gen::{allowing_law, instance};
-use cfn_hybrid::solve;
 use cfn_model::GREATEST;
 use cfn_net::Network;
 use cfn_proof::Stop;
+use cfn_search::solve;
 use std::alloc::{AllocError, Global};
 
 /// Draws the network that is asked for, solves it, and says its least cost, or that memory was refused. It is solved on

@@ -1,8 +1,10 @@
 //! What runs of `check` say of certificates: good ones, ones that differ from a good one by a line, and hostile ones.
 
 use cfn_testing::running::{Run, TINY, TRI, check_answers};
-use std::alloc::{AllocError, Global};
+use std::alloc::{AllocError, AllocGlobal, Global};
+use std::sync::Wait;
 use std::test::Fail;
+use std::thread::Threads;
 
 /// A good certificate of `TINY`, one line each.
 const GOOD: [&str; 10] = [
@@ -120,8 +122,8 @@ const CHANGES: [(usize, usize, &[&str], &[u8]); 37] = [
 ];
 
 /// Whether a certificate of `TINY`, the good one changed at a line, is answered so.
-fn changed_answers(
-    rt: &HostRuntime,
+fn changed_answers<R: AllocGlobal + Threads + Wait + Sync>(
+    rt: &R,
     from: usize,
     taken: usize,
     lines: &[&str],
@@ -194,8 +196,8 @@ const PART: [&str; 13] = [
 ];
 
 /// Whether that certificate with another line in the place of one is answered so.
-fn part_answers(
-    rt: &HostRuntime,
+fn part_answers<R: AllocGlobal + Threads + Wait + Sync>(
+    rt: &R,
     place: usize,
     line: &str,
     said: &[u8],
@@ -259,8 +261,8 @@ const OF_TRI: [&str; 20] = [
 ];
 
 /// Whether the first lines of the certificate of `TRI`, with one line more, are answered so.
-fn tri_answers(
-    rt: &HostRuntime,
+fn tri_answers<R: AllocGlobal + Threads + Wait + Sync>(
+    rt: &R,
     length: usize,
     more: &[&str],
     status: u8,
@@ -333,8 +335,8 @@ fn deep_certificates(rt: HostRuntime) -> Result<(), Fail> {
 }
 
 /// Whether a certificate of 100,000 splits with so many leaves is answered so.
-fn deep_answers(
-    rt: &HostRuntime,
+fn deep_answers<R: AllocGlobal + Threads + Wait + Sync>(
+    rt: &R,
     leaves: usize,
     status: u8,
     said: &[u8],

@@ -1,14 +1,16 @@
 //! Searches of small networks, judged by the plain program, by costs that are known from elsewhere, and by `check`.
 
 use crate::judging::Verdict;
-use cfn_hybrid::solve;
 use cfn_net::Network;
 use cfn_proof::{Outcome, Row, Stop};
+use cfn_search::solve;
 use cfn_testing::drawing::{Dice, MOST, draw, file_of, least_of};
 use cfn_testing::running::{certificate_of, check_answers};
-use std::alloc::{AllocError, Global};
+use std::alloc::{AllocError, AllocGlobal, Global};
 use std::process::Abort;
+use std::sync::Wait;
 use std::test::Fail;
+use std::thread::Threads;
 
 /// A budget that no search of these networks spends.
 const AMPLE: u64 = 1_000_000;
@@ -91,7 +93,7 @@ fn verdict_of(alloc: Global, file: &str, budget: u32) -> Result<Verdict, Fail> {
 }
 
 /// Whether `check` verifies what `solve` writes of a file, with the bounds of the search, whatever the budget.
-fn is_verified(rt: &HostRuntime, file: &str) -> Result<bool, Fail> {
+fn is_verified<R: AllocGlobal + Threads + Wait + Sync>(rt: &R, file: &str) -> Result<bool, Fail> {
     for (budget, word) in BUDGETS {
         let said = verdict_of(rt.alloc(), file, budget)?.said(rt.alloc())?;
         let certificate = certificate_of(rt, file.as_bytes(), word)?;

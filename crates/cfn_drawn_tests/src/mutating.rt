@@ -5,8 +5,10 @@ use crate::judging::{Kind, Verdict, number, verdict_of, words_of};
 use cfn_net::Network;
 use cfn_testing::drawing::{Dice, MOST, draw, file_of};
 use cfn_testing::running::{certificate_of, check_answers};
-use std::alloc::{AllocError, Global};
+use std::alloc::{AllocError, AllocGlobal, Global};
+use std::sync::Wait;
 use std::test::Fail;
+use std::thread::Threads;
 
 /// How many networks are drawn for each upper bound, and how many certificates of each are judged.
 const DRAWN: u64 = 6;
@@ -106,8 +108,8 @@ fn lines_of(alloc: Global, text: &str) -> Result<Vec<&str>, AllocError> {
 }
 
 /// Whether a run of `check` gives this verdict.
-fn is_verdict(
-    rt: &HostRuntime,
+fn is_verdict<R: AllocGlobal + Threads + Wait + Sync>(
+    rt: &R,
     file: &str,
     certificate: &str,
     verdict: Verdict,
@@ -129,8 +131,8 @@ fn plain_verdict(
 
 /// Judges changes of what `solve` writes of a file with this budget, and adds their verdicts. The answer is the first
 /// of which `check` says something else than the plain judge.
-fn judge_changes(
-    rt: &HostRuntime,
+fn judge_changes<R: AllocGlobal + Threads + Wait + Sync>(
+    rt: &R,
     dice: &mut Dice,
     file: &str,
     budget: &str,

@@ -1,23 +1,37 @@
 //! What runs of `normal` say.
 
 use cfn_testing::running::{Run, TINY, TRI};
-use std::alloc::AllocError;
+use std::alloc::{AllocError, AllocGlobal};
+use std::sync::Wait;
 use std::test::Fail;
+use std::thread::Threads;
 
 /// The run of `normal in`, where these calls fail.
-fn normal(rt: &HostRuntime, file: &[u8], failing: &[u64]) -> Result<Run, AllocError> {
+fn normal<R: AllocGlobal + Threads + Wait + Sync>(
+    rt: &R,
+    file: &[u8],
+    failing: &[u64],
+) -> Result<Run, AllocError> {
     Run::of(rt, &["wcspsolve", "normal", "in"], file, failing)
 }
 
 /// Whether `normal` says this text of a file, and of that text the same.
-fn is_normal(rt: &HostRuntime, file: &[u8], text: &[u8]) -> Result<bool, AllocError> {
+fn is_normal<R: AllocGlobal + Threads + Wait + Sync>(
+    rt: &R,
+    file: &[u8],
+    text: &[u8],
+) -> Result<bool, AllocError> {
     let first = normal(rt, file, &[])?;
     let second = normal(rt, first.said(), &[])?;
     Ok(first.status == 0 && first.said() == text && second.status == 0 && second.said() == text)
 }
 
 /// Whether `normal` refuses a file and says so.
-fn is_refused(rt: &HostRuntime, file: &[u8], said: &[u8]) -> Result<bool, AllocError> {
+fn is_refused<R: AllocGlobal + Threads + Wait + Sync>(
+    rt: &R,
+    file: &[u8],
+    said: &[u8],
+) -> Result<bool, AllocError> {
     let run = normal(rt, file, &[])?;
     Ok(run.status == 4 && run.said() == said)
 }
@@ -94,5 +108,38 @@ fn each_call_may_fail(rt: HostRuntime) -> Result<(), Fail> {
     let run = normal(&rt, TINY, &[3])?;
     assert_eq!(rt; run.status, 0);
     assert_eq!(rt; run.said(), TINY);
+    Ok(())
+}
+
+/// A wcnf file, with a comment between the words of a clause, and its network.
+const WCNF: &[u8] = b"c three clauses\np wcnf 2 3 10\n10 1 2 0\n3 -1\nc 1 2 3\n0\n4 -2 0\n";
+
+/// The same network as a file of its own.
+const WCSP: &[u8] = b"wcnf 2 2 3 10\n2 2\n2 0 1 0 1\n0 0 10\n1 0 0 1\n1 3\n1 1 0 1\n1 4\n";
+
+/// Whether `normal --wcnf` ends with this status and says this of a file.
+fn wcnf_answers<R: AllocGlobal + Threads + Wait + Sync>(
+    rt: &R,
+    file: &[u8],
+    status: u8,
+    said: &[u8],
+) -> Result<bool, AllocError> {
+    let run = Run::of(rt, &["wcspsolve", "normal", "--wcnf", "in"], file, &[])?;
+    Ok(run.status == status && run.said() == said)
+}
+
+#[test]
+fn wcnf_is_said_as_wcsp(rt: HostRuntime) -> Result<(), Fail> {
+    assert!(rt; wcnf_answers(&rt, WCNF, 0, WCSP)?);
+    assert!(rt; is_normal(&rt, WCSP, WCSP)?);
+    Ok(())
+}
+
+#[test]
+fn wcnf_is_refused(rt: HostRuntime) -> Result<(), Fail> {
+    let header = b"p cnf 2 3 10\n10 1 2 0\n";
+    assert!(rt; wcnf_answers(&rt, header, 4, b"error header at 2\n")?);
+    let literal = b"p wcnf 2 3 10\n10 1 3 0\n";
+    assert!(rt; wcnf_answers(&rt, literal, 4, b"error variable-out-of-range at 8\n")?);
     Ok(())
 }

@@ -1,11 +1,16 @@
 //! What runs of `trial` say.
 
 use cfn_testing::running::Run;
-use std::alloc::AllocError;
+use std::alloc::{AllocError, AllocGlobal};
+use std::sync::Wait;
 use std::test::Fail;
+use std::thread::Threads;
 
 /// The run of these words, without a file.
-fn trial(rt: &HostRuntime, words: &[&str]) -> Result<Run, AllocError> {
+fn trial<R: AllocGlobal + Threads + Wait + Sync>(
+    rt: &R,
+    words: &[&str],
+) -> Result<Run, AllocError> {
     Run::over(rt, words, &[], &[])
 }
 

@@ -2,7 +2,9 @@
 
 use cfn_app::{OpenGate, run};
 use cfn_desk::MemoryDesk;
-use std::alloc::AllocError;
+use std::alloc::{AllocError, AllocGlobal};
+use std::sync::Wait;
+use std::thread::Threads;
 
 /// One variable with two values, of costs 3 and 1.
 pub const TINY: &[u8] = b"tiny 1 2 1 10\n2\n1 0 3 1\n1 1\n";
@@ -22,8 +24,8 @@ pub struct Run {
 
 impl Run {
     /// The run of these words, over a desk whose file `in` has these bytes and whose calls with these ordinals fail.
-    pub fn of(
-        rt: &HostRuntime,
+    pub fn of<R: AllocGlobal + Threads + Wait + Sync>(
+        rt: &R,
         words: &[&str],
         file: &[u8],
         failing: &[u64],
@@ -32,8 +34,8 @@ impl Run {
     }
 
     /// The run of these words, over a desk with these files, whose calls with these ordinals fail.
-    pub fn over(
-        rt: &HostRuntime,
+    pub fn over<R: AllocGlobal + Threads + Wait + Sync>(
+        rt: &R,
         words: &[&str],
         files: &[(&str, &[u8])],
         failing: &[u64],
@@ -44,7 +46,10 @@ impl Run {
     }
 
     /// The run of `solve in out` where no call fails.
-    pub fn solve(rt: &HostRuntime, file: &[u8]) -> Result<Run, AllocError> {
+    pub fn solve<R: AllocGlobal + Threads + Wait + Sync>(
+        rt: &R,
+        file: &[u8],
+    ) -> Result<Run, AllocError> {
         Run::of(rt, &["wcspsolve", "solve", "in", "out"], file, &[])
     }
 
@@ -74,7 +79,11 @@ impl Run {
 }
 
 /// The certificate that `solve` writes of a file with this budget, or nothing where there is none.
-pub fn certificate_of(rt: &HostRuntime, file: &[u8], budget: &str) -> Result<Vec<u8>, AllocError> {
+pub fn certificate_of<R: AllocGlobal + Threads + Wait + Sync>(
+    rt: &R,
+    file: &[u8],
+    budget: &str,
+) -> Result<Vec<u8>, AllocError> {
     let mut desk = MemoryDesk::make(rt.alloc(), &[("in", file)], 20_000, 2_000, &[])?;
     let words = ["wcspsolve", "solve", "in", "out", "--budget", budget];
     let _status = run(rt, rt.alloc(), &words, &mut desk, &OpenGate);
@@ -82,8 +91,8 @@ pub fn certificate_of(rt: &HostRuntime, file: &[u8], budget: &str) -> Result<Vec
 }
 
 /// Whether `check` ends with this status and says this, where these are the bytes of the two files.
-pub fn check_answers(
-    rt: &HostRuntime,
+pub fn check_answers<R: AllocGlobal + Threads + Wait + Sync>(
+    rt: &R,
     file: &[u8],
     certificate: &[u8],
     status: u8,

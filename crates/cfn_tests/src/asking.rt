@@ -1,7 +1,10 @@
 //! What the words of a command line ask for: `solve` with its options, and `cost`.
 
 use cfn_testing::running::{Run, TINY, TRI, has_front};
+use std::alloc::{AllocError, AllocGlobal};
+use std::sync::Wait;
 use std::test::Fail;
+use std::thread::Threads;
 
 /// A network that is one constant, 4 or 10, below an upper bound of 10.
 const FOUR: &[u8] = b"const 1 2 1 10\n2\n0 4 0\n";
@@ -44,7 +47,7 @@ fn root_lifts_what_all_tuples_cost(rt: HostRuntime) -> Result<(), Fail> {
     let run = Run::of(&rt, &words, ARC, &[])?;
     assert_eq!(rt; run.status, 2);
     let said =
-        b"variables 2\nfunctions 1\nworkers 1\nrow 0 none\nlower 2\nupper none\nnodes 1\nresult budget\n";
+        b"variables 2\nfunctions 1\nworkers 1\nrow 0 none\nrow 2 none\nlower 2\nupper none\nnodes 1\nresult budget\n";
     assert_eq!(rt; run.said(), said.as_slice());
     let certificate =
         b"wcspcert 2\nnetwork 2 1 10\nlower 2\nbest none\ntree\np 0 0 0 2\np 0 0 1 2\nu 0 2\nsplit 0 0\nopen\nopen\nend\n";
@@ -103,16 +106,15 @@ fn closed_root_needs_no_budget(rt: HostRuntime) -> Result<(), Fail> {
     Ok(())
 }
 
-/// On one variable with two values the search takes three nodes, the root and two leaves, so each smaller budget is spent
-/// whole; with two the second leaf is closed when the search stops, since its floor is the price.
+/// On one variable with two values the search takes two nodes, the root and a leaf, so each smaller budget is spent whole; the
+/// second leaf is closed without a node, since its floor is the price.
 #[test]
 fn budget_is_spent_to_its_end(rt: HostRuntime) -> Result<(), Fail> {
-    let rows: [(&str, u8, &[u8]); 5] = [
+    let rows: [(&str, u8, &[u8]); 4] = [
         ("0", 2, b"nodes 0"),
         ("1", 2, b"nodes 1"),
         ("2", 0, b"nodes 2"),
-        ("3", 0, b"nodes 3"),
-        ("4", 0, b"nodes 3"),
+        ("3", 0, b"nodes 2"),
     ];
     for (budget, status, nodes) in rows {
         let words = ["wcspsolve", "solve", "in", "out", "--budget", budget];
@@ -178,7 +180,7 @@ fn options_stand_anywhere(rt: HostRuntime) -> Result<(), Fail> {
     for words in rows {
         let run = Run::of(&rt, words, TINY, &[])?;
         assert_eq!(rt; run.status, 0);
-        assert!(rt; run.says(b"workers 64\nlower 1\nupper 1\nvalues 1\nnodes 3\nresult optimum"));
+        assert!(rt; run.says(b"workers 64\nlower 1\nupper 1\nvalues 1\nresult optimum"));
         assert!(rt; run.certifies(b"network 1 1 10\nlower 1\nbest 1\nvalues 1\n"));
     }
     Ok(())
@@ -216,7 +218,7 @@ fn other_words_are_no_command(rt: HostRuntime) -> Result<(), Fail> {
         let run = Run::of(&rt, words, TINY, &[])?;
         assert_eq!(rt; run.status, 3);
         let said =
-            b"error usage\nwcspsolve solve FILE CERT [--workers W] [--budget B]\nwcspsolve check FILE CERT\nwcspsolve cost FILE VALUES..\nwcspsolve normal FILE\nwcspsolve trial SEED SIZE [--workers W]\nwcspsolve migrate FILE CERT OUT\n";
+            b"error usage\nwcspsolve solve FILE CERT [--workers W] [--budget B] [--wcnf]\nwcspsolve check FILE CERT [--wcnf]\nwcspsolve cost FILE VALUES.. [--wcnf]\nwcspsolve normal FILE [--wcnf]\nwcspsolve trial SEED SIZE [--workers W]\nwcspsolve migrate FILE CERT OUT\n";
         assert_eq!(rt; run.said(), said.as_slice());
         assert_eq!(rt; run.certificate(), b"".as_slice());
     }
@@ -328,5 +330,46 @@ fn first_fault_decides(rt: HostRuntime) -> Result<(), Fail> {
     let run = Run::of(&rt, &["wcspsolve", "solve"], TINY, &[1])?;
     assert_eq!(rt; run.status, 5);
     assert_eq!(rt; run.said(), b"".as_slice());
+    Ok(())
+}
+
+/// A formula whose least falsified weight is 3, by the values 1 0.
+const WCNF: &[u8] = b"p wcnf 2 3 10\n10 1 2 0\n3 -1 0\n4 -2 0\n";
+
+/// The certificate that `solve --wcnf` writes of that formula, where it ends with its optimum and says so, or nothing.
+fn wcnf_certificate<R: AllocGlobal + Threads + Wait + Sync>(rt: &R) -> Result<Vec<u8>, AllocError> {
+    let words = ["wcspsolve", "solve", "--wcnf", "in", "out"];
+    let run = Run::of(rt, &words, WCNF, &[])?;
+    let solved = run.status == 0 && run.says(b"lower 3\nupper 3\nvalues 1 0\nresult optimum");
+    Vec::from_slice(rt.alloc(), if solved { run.certificate() } else { b"" })
+}
+
+/// Whether these words say this of that formula.
+fn wcnf_says<R: AllocGlobal + Threads + Wait + Sync>(
+    rt: &R,
+    words: &[&str],
+    certificate: &[u8],
+    said: &[u8],
+) -> Result<bool, AllocError> {
+    let files = [("in", WCNF), ("cert", certificate)];
+    let run = Run::over(rt, words, &files, &[])?;
+    Ok(run.said() == said)
+}
+
+#[test]
+fn wcnf_is_solved(rt: HostRuntime) -> Result<(), Fail> {
+    let certificate = wcnf_certificate(&rt)?;
+    let words = ["wcspsolve", "check", "in", "cert", "--wcnf"];
+    let said = b"verified lower 3 best 3\n";
+    assert!(rt; wcnf_says(&rt, &words, certificate.as_slice(), said)?);
+    Ok(())
+}
+
+#[test]
+fn wcnf_is_priced(rt: HostRuntime) -> Result<(), Fail> {
+    let words = ["wcspsolve", "cost", "in", "0", "0", "--wcnf"];
+    assert!(rt; wcnf_says(&rt, &words, b"", b"cost 10 forbidden\n")?);
+    let without = ["wcspsolve", "cost", "in", "0", "0"];
+    assert!(rt; wcnf_says(&rt, &without, b"", b"error not-number at 2\n")?);
     Ok(())
 }

@@ -1,22 +1,33 @@
 //! What runs of `migrate` write and say.
 
 use cfn_testing::running::{Run, TINY};
-use std::alloc::AllocError;
+use std::alloc::{AllocError, AllocGlobal};
+use std::sync::Wait;
 use std::test::Fail;
+use std::thread::Threads;
 
 /// A good certificate of `TINY`, in the first version, without its first line.
 const LINES: &[u8] =
     b"network 1 1 10\nlower 1\nbest 1\nvalues 1\ntree\np 0 0 0 3\np 0 0 1 1\nu 0 1\nclosed\nend\n";
 
 /// A first line, and those lines behind it.
-fn certificate(rt: &HostRuntime, first: &[u8], lines: &[u8]) -> Result<Vec<u8>, AllocError> {
+fn certificate<R: AllocGlobal + Threads + Wait + Sync>(
+    rt: &R,
+    first: &[u8],
+    lines: &[u8],
+) -> Result<Vec<u8>, AllocError> {
     let mut text = Vec::from_slice(rt.alloc(), first)?;
     text.extend_from_slice(lines)?;
     Ok(text)
 }
 
 /// A run over the files `in` and `cert`, where these calls fail.
-fn migrated(rt: &HostRuntime, text: &[u8], out: &str, failing: &[u64]) -> Result<Run, AllocError> {
+fn migrated<R: AllocGlobal + Threads + Wait + Sync>(
+    rt: &R,
+    text: &[u8],
+    out: &str,
+    failing: &[u64],
+) -> Result<Run, AllocError> {
     let files = [("in", TINY), ("cert", text)];
     Run::over(
         rt,

@@ -1,6 +1,6 @@
 //! Stores of drawn networks that go on, and back to marks, by the draw, each judged by the plain program.
 
-ghost use Rattle.std.specs.Prelude.{◌≡◌};
+ghost use Rattle.std.specs.Prelude.{◌≡◌, ◌≤◌};
 ghost use Rattle.cfn_store.specs.Marking.{IsBehind};
 
 use crate::going::go_on;
@@ -52,6 +52,20 @@ const KINDS: usize = 8;
 const UNDO: usize = 7;
 
 impl Trail {
+    /// The trail of no walk.
+    fn make(alloc: Global) -> Result<Trail, AllocError> {
+        Ok(Trail {
+            events: Vec::new(alloc),
+            marks: 0,
+            counts: vec![in alloc; 0; KINDS]?,
+        })
+    }
+
+    /// Whether each kind of event was made, and an undo.
+    fn has_each_kind(&self) -> bool {
+        self.counts.iter().all(|count| *count > 0)
+    }
+
     /// Counts one more of a kind.
     fn count(&mut self, kind: usize) {
         if let Some(count) = self.counts.get_mut(kind) {
@@ -197,17 +211,25 @@ fn judge_walk<R: Abort>(
 
 /// Judges walks with four seeds, in which each kind of event is made, and undos are.
 fn judge_walks<R: Abort>(rt: &R, alloc: Global, seeds: [u64; 4], upper: u64) -> Result<(), Fail> {
-    let mut trail = Trail {
-        events: Vec::new(alloc),
-        marks: 0,
-        counts: vec![in alloc; 0; KINDS]?,
-    };
+    let mut trail = Trail::make(alloc)?;
     for seed in seeds {
         judge_walk(rt, alloc, &mut trail, seed, upper)?;
     }
-    for count in &trail.counts {
-        assert!(rt; *count > 0);
-    }
+    assert!(rt; trail.has_each_kind());
+    Ok(())
+}
+
+/// Judges a walk through the network of the generator with seed 7 and so many variables, 1 to 200.
+fn judge_trial<R: Abort>(rt: &R, alloc: Global, trail: &mut Trail, size: u32) -> Result<(), Fail>
+    requires some { 1 ≤ size }
+    requires few { size ≤ 200 }
+{
+    let network = cfn_gen::instance(alloc, 7, size)?;
+    let mut dice = Dice {
+        state: u64::from(size),
+    };
+    let fault = walk_from_root(alloc, &network, trail, &mut dice)?;
+    assert_eq!(rt; fault, None, "with {size} variables");
     Ok(())
 }
 
@@ -224,4 +246,15 @@ fn upper_bound_is_as_dear_as_a_cost(rt: HostRuntime) -> Result<(), Fail> {
 #[test]
 fn upper_bound_is_the_greatest(rt: HostRuntime) -> Result<(), Fail> {
     judge_walks(&rt, rt.alloc(), [9, 10, 11, 12], MOST)
+}
+
+/// Three values of each variable, a function of each, of each two neighbours, and of each two that have one between them.
+#[test]
+fn networks_of_trials(rt: HostRuntime) -> Result<(), Fail> {
+    let mut trail = Trail::make(rt.alloc())?;
+    for size in 1..13 {
+        judge_trial(&rt, rt.alloc(), &mut trail, size)?;
+    }
+    assert!(rt; trail.has_each_kind());
+    Ok(())
 }

@@ -12,6 +12,8 @@ use std::env::{Args, Env};
 use std::fs::Files;
 use std::io::{Eprint, ErrorKind, Print};
 use std::process::{ExitCode, Termination};
+use std::sync::Wait;
+use std::thread::Threads;
 
 /// The number that the program ends with. It keeps that a run ended so.
 #[derive(Drop)]
@@ -38,7 +40,7 @@ fn main(rt: HostRuntime) -> Exit {
 }
 
 /// Runs the program, and answers the number of its status, or 6 where memory was refused before there was a run.
-fn exit_number<R: Env + AllocGlobal + Files + Print + Eprint + Sync>(rt: &R) -> u8
+fn exit_number<R: Env + AllocGlobal + Files + Print + Eprint + Threads + Wait + Sync>(rt: &R) -> u8
     ensures { Ended result }
 {
     match end_of(rt) {
@@ -49,7 +51,7 @@ fn exit_number<R: Env + AllocGlobal + Files + Print + Eprint + Sync>(rt: &R) -> 
 
 /// Runs the program on the words of its command line. Words that are not UTF-8 are no command. An `Err` is want of
 /// memory before there was a run.
-fn end_of<R: Env + AllocGlobal + Files + Print + Eprint + Sync>(
+fn end_of<R: Env + AllocGlobal + Files + Print + Eprint + Threads + Wait + Sync>(
     rt: &R,
 ) -> Result<Status, AllocError>
     ensures { IfOk result (λ status. Ran status) }
@@ -63,7 +65,7 @@ fn end_of<R: Env + AllocGlobal + Files + Print + Eprint + Sync>(
 }
 
 /// Runs the program on words.
-fn run_words<R: AllocGlobal + Files + Print + Eprint + Sync>(
+fn run_words<R: AllocGlobal + Files + Print + Eprint + Threads + Wait + Sync>(
     rt: &R,
     words: Args,
     desk: &mut HostDesk<R>,

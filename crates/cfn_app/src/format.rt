@@ -1,8 +1,0 @@
-//! The formats in which a file may give a network.
-
-/// The format of a file.
-#[derive(Clone, Copy, Debug, PartialEq, Eq)]
-pub enum Format {
-    /// toulbar2's wcsp format, functions in extension.
-    Wcsp,
-}

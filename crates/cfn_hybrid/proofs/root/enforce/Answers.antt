@@ -1,5 +1,0 @@
-use Rattle.cfn_hybrid.proofs.Rounds.{goes_along}
-use Rattle.cfn_hybrid.proofs.root.enforce.Goals as goal
-
-pub returns-then-around-clause-goes : goal.returns-then-around-clause-goes
-returns-then-around-clause-goes c = goes_along _ _ _ _ c.propagate.ensures.goes c.enforce_root.ensures.goes

@@ -1,0 +1,48 @@
+-- Workers may be sent to other threads, and what they share may be shared by those.
+use mathlib.Core.List.{[], ◌∷◌}
+use mir.Syntax.{Sym}
+use denote.RattleType.{RattleType}
+use denote.Ref.{NamedLft}
+use denote.Struct.Field.{row_field}
+use denote.Struct.Tuple.{TupleAt, type_at}
+use denote.Param.Send.{IsSend, IsSync, sendable}
+use denote.Param.SendFields.{as_row_sync, declared_sync}
+use Rattle.std.proofs.Crossing.{crosses}
+use Rattle.atomic_table.proofs.shared.Seat.TheSendSync as seat
+use Rattle.cfn_net.specs.contracts.network.Network as Network
+use Rattle.cfn_low.specs.declared.rule.Incumbent as word
+use Rattle.cfn_low.specs.contracts.holder.Holder as Holder
+use Rattle.cfn_low.specs.contracts.low.Low as Low
+use Rattle.cfn_low.proofs.low.Low.TheSendSync as low
+use Rattle.cfn_pool.specs.contracts.pool.Pool as Pool
+use Rattle.cfn_search.specs.declared.board.Squad as squad
+use Rattle.cfn_search.specs.contracts.worker.Worker as Worker
+use Rattle.cfn_search.specs.contracts.worker.Shared as Shared
+use Rattle.cfn_search.specs.contracts.board.Board as Board
+
+network_sync : IsSync Network.the_row
+network_sync = search (sendable, crosses) depth 40
+
+module _ (M : RattleType) (g : word.Ghosts M.Denot) where
+  holder_send : IsSend (Holder.the_row M g)
+  holder_send = search (sendable, crosses, seat.the_send) depth 40
+
+  low_sync : IsSync (Low.the_row M g)
+  low_sync = low.the_sync M g
+
+  pool_send : IsSend (Pool.the_row M g)
+  pool_send = search (sendable, crosses, holder_send) depth 40
+
+  pub worker_send : IsSend (Worker.the_row M g)
+  worker_send = search (sendable, holder_send) depth 40
+
+  module _ (h : squad.Ghosts M.Denot) where
+    board_send : IsSend (Board.the_row M g h)
+    board_send = search (sendable, pool_send) depth 40
+
+    pub shared_sync : (a : NamedLft) (G : RattleType) → IsSync G → IsSync (Shared.the_row a M G g h)
+    shared_sync a G s = search (sendable, crosses, network_sync, low_sync, board_send) depth 40
+
+-- three that are captured together
+pub captures_sync : (name : Sym) (R S T : RattleType) → IsSync R → IsSync S → IsSync T → IsSync (TupleAt name (R ∷ S ∷ T ∷ []))
+captures_sync name R S T r s t = declared_sync (type_at name (R ∷ S ∷ T ∷ [])) (as_row_sync (row_field R) r, (as_row_sync (row_field S) s, (as_row_sync (row_field T) t, tt)))

@@ -1,0 +1,55 @@
+use Rattle.std.proofs.Common.{◌≡◌, ℕ, ◌∙◌, refl, sym, ap, subst, arith, List, []}
+use Rattle.cfn_model.specs.Network.{Network, IsNetwork}
+use Rattle.cfn_model.specs.declared.report.Row.{Row}
+use Rattle.cfn_model.specs.Tree.{bound, open_leaves}
+use Rattle.cfn_model.proofs.CallerLemmas.{bound_low}
+use Rattle.cfn_model.specs.Certificate.{Certificate}
+use Rattle.cfn_model.specs.declared.version.Version.TheVariants.{Second}
+use Rattle.cfn_proof.specs.Certificates.{solution_of}
+use Rattle.cfn_proof.specs.Nodes as nodes
+use Rattle.cfn_proof.specs.Outcome.{IsSearched}
+use Rattle.cfn_proof.proofs.CallerLemmas.{spelled_law, lines_law}
+use Rattle.cfn_model.specs.Text.{IsSpelledTree, HasTree}
+use Rattle.cfn_machine.specs.Pool.{Pool, tree_of}
+use Rattle.cfn_pool.specs.Views.{pool}
+use Rattle.cfn_search.specs.Searching.{IsStop}
+use Rattle.cfn_search.proofs.Finished.{searched, price_held, best_held}
+use Rattle.cfn_search.proofs.outcome.conclude.Goals as goal
+
+pub invariant_of-result : goal.invariant_of-result
+invariant_of-result g c =
+    let P = g.M.Incumbent.network in
+    let held = pool c.args.held in
+    let upper = c.limits.ensures.upper in
+    let same = ap (λ (Q : Network). Q.upper) c.requires.own in
+    let low = bound_low P [] (tree_of held.tree) held.view.seen in
+    let seen = c.kept.ensures.pool.sound.seen in
+    record {
+      upper_fits = omega (arith, c.ub.ensures, upper);
+      lower_fits = omega (arith, c.bound-lower.ensures, low, seen, same, upper);
+      best_is_held = c.below.ensures.held;
+    }
+
+pub returns : goal.returns
+returns g c =
+    let P = g.M.Incumbent.network in
+    let held = pool c.args.held in
+    let finished = c.finish-finished.result in
+    let network = subst IsNetwork c.requires.own c.limits.ensures in
+    let certificate : Certificate = record { version = Second; variables = c.variables.result; functions = c.functions.result; upper = c.ub.result; best = solution_of c.below.result; lower = c.bound-lower.result; tree = nodes.tree_of finished.tree } in
+    subst (λ (Q : Network). IsSearched Q held.budget finished.nodes certificate finished.rows.items c.stop_of-stop.result) (sym c.requires.own)
+    (subst (λ (rows : List Row). IsSearched P held.budget finished.nodes certificate rows c.stop_of-stop.result) (sym c.finish-finished.ensures.rows)
+    (subst (λ (n : ℕ). IsSearched P held.budget n certificate held.rows c.stop_of-stop.result) (sym c.finish-finished.ensures.nodes)
+    (searched P held network c.kept.ensures.pool c.kept.ensures.rows c.requires.search c.requires.last certificate c.stop_of-stop.result
+    (c.variables.ensures ∙ ap (λ (Q : Network). Rattle.std.proofs.Common.length Q.sizes) c.requires.own)
+    (c.functions.ensures ∙ ap (λ (Q : Network). Rattle.std.proofs.Common.length Q.functions) c.requires.own)
+    (c.ub.ensures ∙ ap (λ (Q : Network). Q.upper) c.requires.own)
+    (best_held P c.end-best.result.0 finished.holder c.below.result c.end-best.ensures.best c.below.ensures.best)
+    (price_held P c.end-best.result.0 finished.holder held.view c.below.result c.end-best.ensures.best c.finish-finished.ensures.view c.requires.last.seen c.below.ensures.priced c.below.ensures.price)
+    c.finish-finished.ensures.tree
+    (spelled_law finished.tree c.linked.ensures)
+    (lines_law finished.tree)
+    c.bound-lower.ensures
+    (subst (λ (b : ℕ). IsStop c.stop_of-stop.result (open_leaves (tree_of held.tree)) held.nodes b) c.budget.ensures
+    (subst (λ (n : ℕ). IsStop c.stop_of-stop.result (open_leaves (tree_of held.tree)) n c.budget.result) c.nodes.ensures
+    (subst (λ (l : ℕ). IsStop c.stop_of-stop.result l c.nodes.result c.budget.result) c.open_leaves.ensures c.stop_of-stop.ensures))))))

@@ -1,0 +1,24 @@
+use Rattle.std.proofs.Common.{◌≡◌, ℕ, ◌∙◌, refl, sym, ap, subst, arith, List, []}
+use Rattle.cfn_model.specs.declared.step.Event.{Event}
+use Rattle.cfn_machine.specs.Pool.{Pool, Out, IsLeaf}
+use Rattle.cfn_machine.specs.Steps.{pool_met, pool_recalled}
+use Rattle.cfn_machine.proofs.CallerLemmas.{recalled_free, sweeps_all}
+use Rattle.cfn_pool.specs.Views.{view_of, pool}
+use Rattle.cfn_search.specs.Searching.{IsLast}
+use Rattle.cfn_search.proofs.outcome.wind_up.Goals as goal
+
+pub returns-clause-last : goal.returns-clause-last
+returns-clause-last g c =
+    let P = g.M.Incumbent.network in
+    let between = pool c.recall.new.self in
+    let new = pool c.sweep.new.self in
+    let sweeps = c.sweep.ensures in
+    let shares : between.view.shares ≡ 128 = ap (λ (p : Pool). p.view.shares) c.recall.ensures ∙ c.requires.shares in
+    let best : new.view.best ≡ between.view.best = ap (λ (p : Pool). p.view.best) sweeps.sweeps in
+    let seen : new.view.seen ≡ sweeps.word = ap (λ (p : Pool). p.view.seen) sweeps.sweeps in
+    record {
+      shares = ap (λ (p : Pool). p.view.shares) sweeps.sweeps ∙ shares;
+      seen = seen ∙ sweeps.whole shares ∙ ap (Rattle.cfn_machine.specs.Pool.price P) (sym best);
+      below = sweeps_all P between new sweeps.word
+          (λ n worker grant path at. recalled_free (pool c.args.held.now).tree n [] worker grant path (subst (λ (p : Pool). IsLeaf p.tree [] n (Out worker grant) path) c.recall.ensures at)) sweeps.sweeps;
+    }

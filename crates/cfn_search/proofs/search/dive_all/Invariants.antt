@@ -1,0 +1,17 @@
+use Rattle.std.proofs.Common.{◌≡◌, ◌-◌, ◌≤◌}
+use Rattle.cfn_pool.specs.Views.{pool}
+use Rattle.cfn_search.specs.Searching.{GoesOn}
+use Rattle.cfn_search.specs.Granting.{IsLimit}
+use Rattle.cfn_search.proofs.search.dive_all.Given as goal
+
+abbrev pub invariant-loop-next : goal.invariant-loop-next
+invariant-loop-next g l = record {
+  goes : GoesOn g.M.Incumbent.network (pool l.fn.held) (pool l.held);
+  within : (pool l.held).nodes ≤ (pool l.held).budget;
+  part : l.part.shares ≡ l.fn.part.shares;
+  diver : l.diver ≡ l.fn.diver;
+  limit : IsLimit l.limit;
+}
+
+abbrev pub decreases-loop-next : goal.decreases-loop-next
+decreases-loop-next g l = (pool l.held).budget - (pool l.held).nodes

@@ -1,0 +1,13 @@
+use denote.Exit.{no}
+use denote.Param.{param}
+use Rattle.std.proofs.Crossing as std
+use denote.Param.Send.{sendable, param_sync, arg_sync, shr_sync}
+use Rattle.cfn_search.proofs.Crossing.{worker_send, shared_sync, captures_sync}
+use Rattle.cfn_search.proofs.team.work_each.Goals as goal
+
+pub for_each_mut-requires-send-T : goal.for_each_mut-requires-send-T
+for_each_mut-requires-send-T g c κs within = search (sendable, worker_send) depth 40
+
+pub for_each_mut-requires-sync-F : goal.for_each_mut-requires-sync-F
+for_each_mut-requires-sync-F g c κs within =
+    param_sync 2 _ (arg_sync _ no _ (captures_sync _ _ _ _ (shr_sync _ _ _ c.type_bounds.sync-R) (shr_sync _ _ _ std.sync) (shr_sync _ _ _ (shared_sync (param 0 g.row.M) g.M.Incumbent g.M.Squad _ _ c.type_bounds.sync-G))))

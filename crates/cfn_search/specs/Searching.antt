@@ -1,0 +1,49 @@
+-- What holds of the pool of a search.
+use Rattle.std.specs.Prelude.{◌≡◌, ◌≢◌, ℕ, ◌<◌, ◌≤◌, List, [], ◌∷◌}
+use Rattle.cfn_model.specs.declared.report.Row.{Row}
+use Rattle.cfn_model.specs.Network.{Network}
+use Rattle.cfn_model.specs.Tree.{OpenBelow}
+use Rattle.cfn_proof.specs.Outcome.{opening}
+use Rattle.cfn_proof.specs.declared.outcome.Stop.{Stop}
+use Rattle.cfn_proof.specs.declared.outcome.Stop.TheVariants.{Done, Budget, Memory}
+use Rattle.cfn_leaves.specs.declared.taking.Taken.{Taken}
+use Rattle.cfn_leaves.specs.declared.taking.Taken.TheVariants as taken
+use Rattle.cfn_machine.specs.Pool.{Pool, tree_of, price}
+use Rattle.cfn_machine.specs.Word.{all_shares}
+
+-- It began with one open leaf, and its rows begin with the opening's.
+pub record IsSearch (P : Network) (pool : Pool) : Type 0 where
+  pub begun_is : pool.begun ≡ 0
+  pub others : List Row
+  pub begin : pool.rows ≡ opening P ∷ others
+
+-- All shares of the word are there, what was seen is the price of what is kept, and each open leaf has a floor below it.
+pub record IsLast (P : Network) (pool : Pool) : Type 0 where
+  pub shares : pool.view.shares ≡ all_shares
+  pub seen : pool.view.seen ≡ price P pool.view.best
+  pub below : OpenBelow P [] (tree_of pool.tree) pool.view.seen
+
+-- Why a search stopped, by what is tested.
+abbrev pub IsStop : Stop → ℕ → ℕ → ℕ → Type 0
+IsStop Done leaves nodes budget = leaves ≡ 0
+IsStop Budget leaves nodes budget = (leaves ≢ 0) × (nodes ≡ budget)
+IsStop Memory leaves nodes budget = (leaves ≢ 0) × (nodes ≢ budget)
+
+-- From one pool of a search to another: the budget and the shares of the word stay.
+pub record GoesOn (P : Network) (old new : Pool) : Type 0 where
+  pub search : IsSearch P new
+  pub budget_is : new.budget ≡ old.budget
+  pub shares_are : new.view.shares ≡ old.view.shares
+
+-- There are more nodes than before, and no more than the budget allows.
+pub record HasMore (old new : Pool) : Type 0 where
+  pub more : old.nodes < new.nodes
+  pub within : new.nodes ≤ new.budget
+
+-- A task that is handed out is of the network.
+abbrev pub IsTaskFor : Network → Taken → Type 0
+IsTaskFor P (taken.Given task) = task.network ≡ P
+IsTaskFor P taken.Empty = Unit {0}
+IsTaskFor P taken.Spent = Unit {0}
+IsTaskFor P taken.Again = Unit {0}
+IsTaskFor P taken.Memory = Unit {0}

@@ -1,0 +1,145 @@
+//! What lies under the lock: the pool, a count of its changes, and whether the search has to stop.
+
+ghost use Rattle.std.specs.Prelude.{◌≡◌, ◌+◌, ◌≤◌, IfSome};
+ghost use Rattle.cfn_machine.specs.Word.{all_shares};
+ghost use Rattle.cfn_pool.specs.Views.{pool};
+ghost use Rattle.cfn_search.specs.Searching.{IsSearch};
+ghost use Rattle.cfn_search.specs.Granting.{IsLimit};
+ghost use Rattle.cfn_search.specs.Boards.{IsBoard, IsOffered};
+
+use crate::grants::wanted;
+use crate::search::hand_in;
+use crate::steps::{back, take};
+use cfn_low::{Holder, Incumbent, Low};
+use cfn_net::Network;
+use cfn_pool::{Pool, Taken};
+use cfn_task::{Piece, Task};
+use std::marker::{Brand, Model};
+
+/// Which search it is: how many nodes may be made, and how many shares of the word its workers have. No value of it is made.
+pub(crate) trait Squad {
+    ghost use Rattle.std.specs.Prelude.{ℕ};
+
+    ghost budget: { ℕ };
+
+    ghost crew: { ℕ };
+}
+
+/// The name that one call picks for a search: at such a call the members are those that the caller says, and these are never
+/// read.
+impl Squad for Brand {
+    ghost budget = { 0 };
+
+    ghost crew = { 0 };
+}
+
+/// The pool of a search, for all its workers.
+#[derive(Drop)]
+pub(crate) struct Board<M: Incumbent + Squad> {
+    held: Pool<M>,
+    /// How often it changed so that there may be a leaf to take, modulo 2^64.
+    changes: u64,
+    /// Whether memory was refused for a piece. Its leaf stays out, and no worker may wait for it: no leaf is handed out any
+    /// more.
+    stopped: bool,
+}
+
+impl<M: Incumbent + Squad> Model for Board<M> {
+    ghost use Rattle.cfn_search.specs.Boards.{IsBoard};
+
+    ghost Value = { Unit {0} };
+
+    ghost view = { λ b. tt };
+
+    ghost invariant = { λ b. IsBoard M.network M.budget M.crew b.held };
+}
+
+/// The answer to a worker that asks for a leaf.
+#[derive(Drop)]
+pub(crate) enum Offer {
+    /// A task.
+    Task { task: Task },
+    /// None now: the count of changes is this.
+    Later { changes: u64 },
+    /// None any more, or no memory for a leaf's path.
+    Over,
+}
+
+impl<M: Incumbent + Squad> Board<M> {
+    /// A pool at the beginning of a search.
+    pub(crate) fn new(held: Pool<M>) -> Board<M>
+        requires { IsBoard M.network M.budget M.crew held }
+    {
+        Board {
+            held,
+            changes: 0,
+            stopped: false,
+        }
+    }
+
+    /// The pool again.
+    pub(crate) fn into_pool(self) -> Pool<M>
+        ensures { IsBoard M.network M.budget M.crew result }
+    {
+        let Board { held, .. } = self;
+        held
+    }
+
+    /// How often it changed.
+    pub(crate) fn changes(&self) -> u64 {
+        self.changes
+    }
+
+    /// Counts a change.
+    pub(crate) fn tell(&mut self) {
+        self.changes = self.changes.wrapping_add(1);
+    }
+
+    /// Asks for a leaf.
+    pub(crate) fn take(&mut self, network: &Network, worker: u32, known: bool, limit: u64) -> Offer
+        requires own { network.now ≡ M.network }
+        requires limit { IsLimit limit }
+        ensures { IsOffered M.network result }
+    {
+        if self.stopped {
+            return Offer::Over;
+        }
+        let want = wanted(self.held.nodes() == 0, known, limit, network.variables());
+        match take(network, &mut self.held, worker, want) {
+            Taken::Given { task } => Offer::Task { task },
+            Taken::Again => Offer::Later {
+                changes: self.changes,
+            },
+            Taken::Empty | Taken::Spent | Taken::Memory => Offer::Over,
+        }
+    }
+
+    /// Puts a piece in its leaf's place, and answers how many backtracks the next dive may make. Where it can't, the answer is
+    /// `None`, and the search stops.
+    pub(crate) fn give(
+        &mut self,
+        network: &Network,
+        low: &Low<M>,
+        part: &mut Holder<M>,
+        piece: Piece,
+        limit: u64,
+    ) -> Option<u64>
+        requires network { network.now ≡ M.network }
+        requires own { piece.network ≡ M.network }
+        requires seen { part.old.seen ≤ piece.threshold }
+        requires limit { IsLimit limit }
+        ensures part { part.new ≡ part.old }
+        ensures next { IfSome result IsLimit }
+    {
+        self.tell();
+        let next = hand_in(network, low, &mut self.held, part, piece, limit);
+        self.stopped = self.stopped || next.is_none();
+        next
+    }
+
+    /// Frees the leaf of a task whose dive was refused memory, for another worker.
+    pub(crate) fn back(&mut self, task: &Task) {
+        self.tell();
+        back(&mut self.held, task);
+    }
+}

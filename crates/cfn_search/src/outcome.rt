@@ -1,0 +1,98 @@
+//! What a search that stopped hands out.
+
+ghost use Rattle.std.specs.Prelude.{◌≡◌, ◌≤◌, ◌+◌, IsTrue, is_some};
+ghost use Rattle.std.specs.Option.{ForSome};
+ghost use Rattle.cfn_model.specs.Certificate.{IsBest, threshold_of};
+ghost use Rattle.cfn_net.specs.Scoring.{IsPriced};
+ghost use Rattle.cfn_proof.specs.Certificates.{solution_of};
+ghost use Rattle.cfn_proof.specs.Outcome.{IsOutcome};
+ghost use Rattle.cfn_machine.specs.Word.{all_shares};
+ghost use Rattle.cfn_pool.specs.Views.{pool};
+ghost use Rattle.cfn_search.specs.Searching.{IsSearch, IsLast, IsStop};
+
+use cfn_low::{Holder, Incumbent, Low};
+use cfn_net::{Network, Scored};
+use cfn_pool::Pool;
+use cfn_proof::{Certificate, Outcome, Stop};
+
+/// Joins a worker's part of the word into the pool's. It takes no memory.
+pub(crate) fn meet<M: Incumbent>(low: &Low<M>, held: &mut Pool<M>, part: Holder<M>)
+    requires search { IsSearch M.network (pool held.old) }
+    requires shares { (pool held.old).view.shares + part.shares ≤ all_shares }
+    ensures search { IsSearch M.network (pool held.new) }
+    ensures budget { (pool held.new).budget ≡ (pool held.old).budget }
+    ensures shares { (pool held.new).view.shares ≡ (pool held.old).view.shares + part.shares }
+{
+    held.meet(low, part);
+}
+
+/// Calls back what is out, and closes what need not be searched, where all parts of the word were met. It takes no memory.
+pub(crate) fn wind_up<M: Incumbent>(low: &Low<M>, held: &mut Pool<M>)
+    requires search { IsSearch M.network (pool held.old) }
+    requires shares { (pool held.old).view.shares ≡ all_shares }
+    ensures search { IsSearch M.network (pool held.new) }
+    ensures budget { (pool held.new).budget ≡ (pool held.old).budget }
+    ensures last { IsLast M.network (pool held.new) }
+{
+    held.recall();
+    held.sweep(low);
+}
+
+/// The outcome of a search that was wound up. It takes no memory.
+pub(crate) fn conclude<M: Incumbent>(network: &Network, low: Low<M>, held: Pool<M>) -> Outcome
+    requires own { network.now ≡ M.network }
+    requires search { IsSearch M.network (pool held) }
+    requires last { IsLast M.network (pool held) }
+    ensures { IsOutcome network.now (pool held).budget result }
+{
+    network.limits();
+    held.kept();
+    let lower = held.bound();
+    let stop = stop_of(held.open_leaves(), held.nodes(), held.budget());
+    let finished = held.finish();
+    finished.tree.linked();
+    let (best, _) = low.end(finished.holder);
+    Outcome {
+        certificate: Certificate {
+            variables: network.variables(),
+            functions: network.functions(),
+            upper: network.ub(),
+            best: below(best, network.ub()),
+            lower,
+            tree: finished.tree,
+        },
+        rows: finished.rows,
+        nodes: finished.nodes,
+        stop,
+    }
+}
+
+/// Why a search stopped.
+fn stop_of(leaves: u64, nodes: u64, budget: u64) -> Stop
+    ensures { IsStop result leaves nodes budget }
+{
+    if leaves == 0 {
+        Stop::Done
+    } else if nodes == budget {
+        Stop::Budget
+    } else {
+        Stop::Memory
+    }
+}
+
+/// A buffer that holds an assignment whose cost is below the upper bound, or nothing. It takes no memory.
+fn below(best: Scored, upper: u64) -> Option<Scored>
+    requires top { upper ≡ best.network.upper }
+    requires most { threshold_of best.network.upper best.held ≤ upper }
+    ensures priced { IsPriced best.network best.held }
+    ensures best { IsBest best.network (solution_of result) }
+    ensures price { threshold_of best.network.upper (solution_of result) ≡ threshold_of best.network.upper best.held }
+    ensures held { ForSome result (λ scored. IsTrue (is_some scored.held)) }
+{
+    best.priced();
+    if best.price() < upper {
+        Some(best)
+    } else {
+        None
+    }
+}

@@ -1,0 +1,106 @@
+ghost use Rattle.std.specs.Prelude.{◌≤◌};
+
+use super::*;
+use cfn_net::{Builder, Network};
+use cfn_proof::{Stop, Tree};
+use std::alloc::{AllocError, AllocGlobal, Global};
+use std::sync::Wait;
+use std::sync::atomic::{AtomicU64, Ordering};
+use std::test::*;
+use std::thread::Threads;
+
+/// One variable with two values, of costs 3 and 1.
+fn tiny(alloc: Global) -> Result<Network, AllocError> {
+    let mut builder = Builder::make(alloc, b"tiny", &[2], 10)?;
+    builder.function(&[0], 3, &[([1].as_slice(), 1)])?;
+    builder.finish()
+}
+
+/// Three variables with two values, of which each two cost 1 where they agree.
+fn tri(alloc: Global) -> Result<Network, AllocError> {
+    let mut builder = Builder::make(alloc, b"tri", &[2, 2, 2], 10)?;
+    let agree = [([0, 0].as_slice(), 1), ([1, 1].as_slice(), 1)];
+    builder.function(&[0, 1], 0, &agree)?;
+    builder.function(&[0, 2], 0, &agree)?;
+    builder.function(&[1, 2], 0, &agree)?;
+    builder.finish()
+}
+
+/// A gate that holds the second task of a run until a third is taken, for at most 100,000,000 turns.
+#[derive(Drop)]
+struct Meeting {
+    /// How many tasks were taken.
+    taken: AtomicU64,
+    /// How many tasks were held to the last turn.
+    missed: AtomicU64,
+}
+
+impl Gate for Meeting {
+    fn pass(&self, _worker: u32, point: Point) {
+        if point == Point::Taken && self.taken.fetch_add(1, Ordering::SeqCst) == 1 {
+            for _ in 0..100_000_000 {
+                if self.taken.load(Ordering::SeqCst) > 2 {
+                    return;
+                }
+            }
+            self.missed.store(1, Ordering::SeqCst);
+        }
+    }
+}
+
+/// The bound that some workers prove of `tri`, and whether they end with an optimum of that cost.
+fn together<R: AllocGlobal + Threads + Wait + Sync, G: Gate + Sync>(
+    rt: &R,
+    workers: u32,
+    gate: &G,
+) -> Result<(u64, bool), AllocError>
+    requires some { 1 ≤ workers }
+    requires few { workers ≤ 64 }
+{
+    let network = tri(rt.alloc())?;
+    let outcome = solve_together(rt, rt.alloc(), &network, workers, 1_000_000, gate)?;
+    let lower = outcome.certificate.lower;
+    let best = outcome.certificate.best.as_ref().map(|best| best.price());
+    Ok((lower, outcome.stop == Stop::Done && best == Some(lower)))
+}
+
+#[test]
+fn four_workers_find_the_optimum(rt: HostRuntime) -> Result<(), Fail> {
+    assert!(rt; together(&rt, 4, &OpenGate)? == (1, true));
+    Ok(())
+}
+
+#[test]
+fn two_workers_are_at_work_at_once(rt: HostRuntime) -> Result<(), Fail> {
+    let gate = Meeting {
+        taken: AtomicU64::new(0),
+        missed: AtomicU64::new(0),
+    };
+    assert!(rt; together(&rt, 2, &gate)? == (1, true));
+    assert_eq!(rt; gate.missed.load(Ordering::SeqCst), 0);
+    Ok(())
+}
+
+#[test]
+fn optimum_of_one_variable(rt: HostRuntime) -> Result<(), Fail> {
+    let network = tiny(rt.alloc())?;
+    let outcome = solve(rt.alloc(), &network, 100)?;
+    assert!(rt; outcome.stop == Stop::Done);
+    assert_eq!(rt; outcome.certificate.lower, 1);
+    let best = outcome.certificate.best.as_ref().ok_or("a best")?;
+    assert_eq!(rt; best.price(), 1);
+    Ok(())
+}
+
+#[test]
+fn budget_is_spent(rt: HostRuntime) -> Result<(), Fail> {
+    let network = tri(rt.alloc())?;
+    let outcome = solve(rt.alloc(), &network, 1)?;
+    assert!(rt; outcome.stop == Stop::Budget);
+    assert_eq!(rt; outcome.nodes, 1);
+    assert_eq!(rt; outcome.certificate.lower, 0);
+    let whole = solve(rt.alloc(), &network, 1000)?;
+    assert!(rt; whole.stop == Stop::Done);
+    assert_eq!(rt; whole.certificate.lower, 1);
+    Ok(())
+}
