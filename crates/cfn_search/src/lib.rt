@@ -1,9 +1,12 @@
-//! Hybrid best-first search (Allouche et al. 2015) over a pool of open leaves, on the caller's own thread.
+//! Hybrid best-first search (Allouche et al. 2015) over a pool of open leaves, on the caller's thread or by several workers.
 //!
-//! `solve` makes the outcome that a report and a certificate are written from. Its contract is the promise of every
-//! search, as `cfn_proof` defines it: a good certificate with its tree's bound, and why the search stopped.
+//! `solve` and `solve_together` make the outcome that a report and a certificate are written from. Their contract is the
+//! promise of every search, as `cfn_proof` defines it: a good certificate with its tree's bound, and why the search stopped.
 //!
-//! - `search.rt`: the search, and one dive of it;
+//! - `search.rt`: the search on one thread, and one dive of it;
+//! - `team.rt`: the search by several workers, from the first share of the word to the last;
+//! - `worker.rt`: one worker, and `board.rt` what all share under a lock;
+//! - `gate.rt`: a gate that workers pass, by which a test can hold them;
 //! - `steps.rt`: leaves are taken from the pool, and pieces are given to it;
 //! - `grants.rt`: how many nodes and backtracks a dive may make;
 //! - `outcome.rt`: what a search that stopped hands out.
