@@ -13,6 +13,3 @@ mod words;
 
 pub use rows::{Found, Row, least_below, least_difference, least_open};
 pub use words::{least, put_on, take_off, zeros};
-
-#[cfg(test)]
-mod tests;

@@ -7,11 +7,10 @@ use Rattle.cfn_model.specs.Sums.{is_live}
 use Rattle.cfn_model.specs.Steps.{IsPlace}
 use Rattle.cfn_net.proofs.CallerLemmas.{get_or-dims}
 use Rattle.cfn_store.specs.declared.scan.Scan.{Scan}
-use Rattle.cfn_store.specs.declared.line.Line.{Line}
 use Rattle.cfn_store.specs.declared.line.Side.{Side}
 use Rattle.cfn_store.specs.Scanning.{IsSpot}
-use Rattle.cfn_store.specs.Reading.{Reads, start}
-use Rattle.cfn_store.specs.Lines.{Way, IsWay, IsRead, IsLine, IsSide, line_of, end_of, other_size}
+use Rattle.cfn_store.specs.Reading.{start}
+use Rattle.cfn_store.specs.Lines.{Way, IsWay, IsRead, IsLine, IsSide, line_of}
 
 value_small : (P : Network) (history : List Event) (f i j : ℕ) (side : Side) (is : IsSide P history f i j side) (p a : ℕ) → IsPlace P f p a → a < slice_index is.scan.sizes.now (slice_index (is.first ∷ is.second ∷ []) p)
 value_small P history f i j side is p a place =

@@ -123,3 +123,9 @@ pub record IsInner (scan : Scan) (x value : ℕ) (spot : Spot) : Type 0 where
   pub scope : List ℕ
   pub spot_is : IsSpot scan (x ∷ scope) spot
   pub value_is : value < slice_index scan.sizes.now x
+
+-- The scope has one variable; all of its values may stand at the place, and the least cost is looked for.
+pub record IsLane (scan : Scan) (scope : List ℕ) (spot : Spot) : Type 0 where
+  pub one : length scope ≡ 1
+  pub least : scan.sense ≡ Least
+  pub stand : (a : ℕ) → a < slice_index scan.sizes.now (slice_index scope 0) → IsTrue (may_stand scan spot.place (slice_index scope 0) a)

@@ -27,6 +27,3 @@ pub use mark::Mark;
 pub use scan::{Extreme, Sense};
 pub use store::Store;
 pub use unaries::Unaries;
-
-#[cfg(test)]
-mod tests;

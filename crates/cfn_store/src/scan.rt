@@ -6,9 +6,10 @@
 //! the places behind it are one step, the same for each of its values, so that a row of a table is read in one plain loop.
 //! The depth is that of the other open variables, of which there are at most 21. What is dead is never gone into.
 
-ghost use Rattle.std.specs.Prelude.{◌≡◌, ℕ, ◌+◌, ◌<◌, ◌≤◌, List, [], ◌∷◌, length, slice_index, drop, Option, MatchOption, IfSome};
-ghost use Rattle.cfn_store.specs.Scanning.{IsSpot, IsInner, AreChoices, NoneMet, IsFound, IsSooner, gone_on, agrees, ended, key, found_in, IsBest, IsTail};
+ghost use Rattle.std.specs.Prelude.{◌≡◌, ℕ, ◌+◌, ◌<◌, ◌≤◌, true, List, [], ◌∷◌, length, slice_index, drop, Option, MatchOption, IfSome};
+ghost use Rattle.cfn_store.specs.Scanning.{IsSpot, IsInner, AreChoices, NoneMet, IsFound, IsSooner, gone_on, agrees, ended, key, found_in, IsBest, IsTail, IsLane};
 
+use cfn_lanes::{Row, least_open};
 use cfn_live::LiveSets;
 use std::slice;
 
@@ -106,6 +107,9 @@ impl<'a> Scan<'a> {
         ensures { MatchOption result (NoneMet self.now scope.now spot) (IsFound self.now scope.now spot) }
     {
         let x = scope[0];
+        if self.is_lane(scope, spot) {
+            return self.lane(x, spot);
+        }
         let mut best = Best {
             key: u64::MAX,
             cell: None,
@@ -118,6 +122,47 @@ impl<'a> Scan<'a> {
             }
         }
         self.found_in(best)
+    }
+
+    /// Whether the values of a scope's one variable are all to be looked at, for the least cost: then they lie together in the
+    /// table, and in the function's row.
+    fn is_lane(&self, scope: &[u32], spot: Spot) -> bool
+        requires some { 0 < length scope.now }
+        requires spot { IsSpot self.now scope.now spot }
+        ensures { result ≡ true → IsLane self.now scope.now spot }
+    {
+        let place = spot.place;
+        if scope.len() > 1 || place == self.one.place || place == self.two.place {
+            return false;
+        }
+        let x = scope[0];
+        match self.sense {
+            Sense::Least => self.live.count(x) == self.sizes[x as usize],
+            Sense::Greatest => false,
+        }
+    }
+
+    /// What stands first of them.
+    fn lane(&self, x: u32, spot: Spot) -> Option<Extreme>
+        requires spot { IsSpot self.now (x ∷ []) spot }
+        requires lane { IsLane self.now (x ∷ []) spot }
+        ensures { MatchOption result (NoneMet self.now (x ∷ []) spot) (IsFound self.now (x ∷ []) spot) }
+    {
+        let size = self.sizes[x as usize];
+        let first = spot.cell * size;
+        let (begin, width) = (first as usize, size as usize);
+        let row = Row {
+            entries: &self.table[begin..begin + width],
+            shifted: &self.shifts[spot.offset..spot.offset + width],
+            cut: &self.flags[begin..begin + width],
+            own: spot.shift,
+            bound: self.upper,
+        };
+        let found = least_open(&row)?;
+        Some(Extreme {
+            cost: found.word,
+            cell: first + found.place as u32,
+        })
     }
 
     /// The tuple that is complete, where it is met and what was found so far does not stand before it.
