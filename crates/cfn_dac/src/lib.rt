@@ -24,6 +24,3 @@ pub use dac::{directional, open_pair};
 pub use open::{Opens, open_places, takes_part};
 pub use pair::{Pair, full_supports};
 pub use plan::least_total;
-
-#[cfg(test)]
-mod tests;

@@ -22,7 +22,7 @@ MovesNothing (Did (CutTuple g c)) = Unit {0}
 MovesNothing (Took d) = Unit {0}
 MovesNothing (Refused d) = Unit {0}
 
-same_unaries : (P : Network) (event : Event) (x a : ℕ) → MovesNothing event → unary_by P event x a ≡ pos 0
+pub same_unaries : (P : Network) (event : Event) (x a : ℕ) → MovesNothing event → unary_by P event x a ≡ pos 0
 same_unaries P (Did (Project g i b m)) x a still = absurd still
 same_unaries P (Did (Extend g i b m)) x a still = absurd still
 same_unaries P (Did (Lift y m)) x a still = absurd still
@@ -31,7 +31,7 @@ same_unaries P (Did (CutTuple g c)) x a still = refl
 same_unaries P (Took d) x a still = refl
 same_unaries P (Refused d) x a still = refl
 
-same_costs : (event : Event) (f : ℕ) (tuple : List ℕ) → MovesNothing event → residual_by event f tuple ≡ pos 0
+pub same_costs : (event : Event) (f : ℕ) (tuple : List ℕ) → MovesNothing event → residual_by event f tuple ≡ pos 0
 same_costs (Did (Project g i b m)) f tuple still = absurd still
 same_costs (Did (Extend g i b m)) f tuple still = absurd still
 same_costs (Did (Lift y m)) f tuple still = absurd still
@@ -49,10 +49,10 @@ record Spares (P : Network) (event : Event) (f : ℕ) : Type 0 where
   pub values : (i : ℕ) → i < arity P f → SparesValues event (variable_at P f i)
   pub tuples : (c : ℕ) → cuts event f c ≡ false
 
-live_same : (event : Event) (history : List Event) (x a : ℕ) → removes event x a ≡ false → is_live (event ∷ history) x a ≡ is_live history x a
+pub live_same : (event : Event) (history : List Event) (x a : ℕ) → removes event x a ≡ false → is_live (event ∷ history) x a ≡ is_live history x a
 live_same event history x a e = ap (λ b. not b && is_live history x a) e
 
-all_same : (event : Event) (history : List Event) (scope tuple : List ℕ) → ((i : ℕ) → i < length scope → SparesValues event (slice_index scope i)) → all_live (event ∷ history) scope tuple ≡ all_live history scope tuple
+pub all_same : (event : Event) (history : List Event) (scope tuple : List ℕ) → ((i : ℕ) → i < length scope → SparesValues event (slice_index scope i)) → all_live (event ∷ history) scope tuple ≡ all_live history scope tuple
 all_same event history [] tuple spares = refl
 all_same event history (x ∷ scope) [] spares = refl
 all_same event history (x ∷ scope) (a ∷ tuple) spares =
@@ -83,7 +83,7 @@ function_agrees P history event f still spares = record {
 }
 
 -- a test on different numbers fails
-first_false : (a b : ℕ) (c : Bool) → (a ≡ b → ⊥) → ((a == b) && c) ≡ false
+pub first_false : (a b : ℕ) (c : Bool) → (a ≡ b → ⊥) → ((a == b) && c) ≡ false
 first_false a b c other = ap (λ t. t && c) (eqb_other a b other)
 
 -- no variable of a function is one that it is not on
@@ -155,3 +155,7 @@ existing_agree P history event x still stays = record {
   unaries = unaries_agree P history event x still;
   functions = λ f i there h is. directed_agree P history event f still (λ goes. stays (existing_goes P event f x still (i, h, is) goes));
 }
+
+-- a tuple of a function with which an event does not go stays live
+pub tuple_stays : (P : Network) (history : List Event) (event : Event) (f : ℕ) (tuple : List ℕ) → MovesNothing event → (GoesDirected P event f → ⊥) → is_live_tuple P (event ∷ history) f tuple ≡ is_live_tuple P history f tuple
+tuple_stays P history event f tuple still stays = tuple_same P history event f tuple (spares_function P event f still (λ goes. stays (directed_goes P event f still goes)))

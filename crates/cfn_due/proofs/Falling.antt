@@ -1,5 +1,5 @@
 -- Where costs are moved supports stay whose costs do not rise, since no cost of what is live is negative.
-use Rattle.std.proofs.Common.{◌≡◌, ℕ, zero, suc, ◌<◌, List, [], ◌∷◌, length, refl, arith}
+use Rattle.std.proofs.Common.{◌≡◌, ℕ, zero, suc, ◌<◌, List, [], ◌∷◌, length, arith}
 use Rattle.std.proofs.lemmas.Bool.{and_parts}
 use Rattle.std.proofs.lemmas.Int.{ints}
 use Rattle.std.specs.Prelude.{ℤ, pos, ◌+ℤ◌, neg_ℤ, ◌≤ℤ◌, Bool, true, false, not, ◌&&◌, nat_lt, slice_index, IsTrue}
@@ -47,14 +47,17 @@ tuple_at P history f j tuple h fits live =
     live_at history P.sizes (scope_at P f) tuple j h fits second.0
 
 -- a support, a full support and a free value stay
-pub support_stays : (P : Network) (history : List Event) (event : Event) (f i a : ℕ) → f < length P.functions → HasNoDebts P (event ∷ history) → CostsFall event f → ((tuple : List ℕ) → IsTrue (is_live_tuple P history f tuple) → IsTrue (is_live_tuple P (event ∷ history) f tuple)) → HasSupport P history f i a → HasSupport P (event ∷ history) f i a
-support_stays P history event f i a there debts falls stays has = record {
+pub support_kept : (P : Network) (history : List Event) (event : Event) (f i a : ℕ) → f < length P.functions → HasNoDebts P (event ∷ history) → CostsFall event f → (has : HasSupport P history f i a) → IsTrue (is_live_tuple P (event ∷ history) f has.tuple) → HasSupport P (event ∷ history) f i a
+support_kept P history event f i a there debts falls has live = record {
   tuple = has.tuple;
   fits = has.fits;
   at = has.at;
-  live = stays has.tuple has.live;
-  free = still_none (residual_by event f has.tuple) (residual P history f has.tuple) (falls has.tuple) has.free (debts.residual f has.tuple there has.fits (stays has.tuple has.live));
+  live = live;
+  free = still_none (residual_by event f has.tuple) (residual P history f has.tuple) (falls has.tuple) has.free (debts.residual f has.tuple there has.fits live);
 }
+
+pub support_stays : (P : Network) (history : List Event) (event : Event) (f i a : ℕ) → f < length P.functions → HasNoDebts P (event ∷ history) → CostsFall event f → ((tuple : List ℕ) → IsTrue (is_live_tuple P history f tuple) → IsTrue (is_live_tuple P (event ∷ history) f tuple)) → HasSupport P history f i a → HasSupport P (event ∷ history) f i a
+support_stays P history event f i a there debts falls stays has = support_kept P history event f i a there debts falls has (stays has.tuple has.live)
 
 pub full_stays : (P : Network) (history : List Event) (event : Event) (f i j a : ℕ) → IsNetwork P → f < length P.functions → j < arity P f → HasNoDebts P (event ∷ history) → CostsFall event f → UnariesFall P event (variable_at P f j) → ((tuple : List ℕ) → IsTrue (is_live_tuple P history f tuple) → IsTrue (is_live_tuple P (event ∷ history) f tuple)) → HasFullSupport P history f i j a → HasFullSupport P (event ∷ history) f i j a
 full_stays P history event f i j a net there place debts falls fall stays has =

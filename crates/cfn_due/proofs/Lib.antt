@@ -5,3 +5,4 @@ pub mod Staying
 pub mod Filling
 pub mod Noting
 pub mod CallerLemmas
+pub mod Siding

@@ -63,7 +63,7 @@ noted_side P event d x old new side at arcs directed existing =
     ]
 
 -- steps, one after another
-goes_split : (Goes : Event → ℕ → Type 0) (steps : List Step) (step : Step) (i : ℕ) → GoesWithOne Goes (steps ++ step ∷ []) i → GoesWithOne Goes steps i ⊎ Goes (Did step) i
+pub goes_split : (Goes : Event → ℕ → Type 0) (steps : List Step) (step : Step) (i : ℕ) → GoesWithOne Goes (steps ++ step ∷ []) i → GoesWithOne Goes steps i ⊎ Goes (Did step) i
 goes_split Goes [] step i (inl goes) = inr goes
 goes_split Goes [] step i (inr none) = absurd none
 goes_split Goes (first ∷ steps) step i (inl goes) = inl (inl goes)
@@ -124,7 +124,7 @@ step_in_range P (first ∷ block) base zero step h all = (here_in_place P block 
 step_in_range P (first ∷ block) base (suc i) step h all = step_in_range P block (Did first ∷ base) i step (omega (arith, h)) all
 
 -- and what was noted of the block holds behind it
-after_joined : (first second : List Step) (base : List Event) → after (first ++ second) base ≡ after second (after first base)
+pub after_joined : (first second : List Step) (base : List Event) → after (first ++ second) base ≡ after second (after first base)
 after_joined [] second base = refl
 after_joined (step ∷ first) second base = after_joined first second (Did step ∷ base)
 

@@ -8,19 +8,19 @@ use Rattle.cfn_model.specs.declared.step.Step.TheVariants.{Project, Extend, Lift
 use Rattle.cfn_model.specs.declared.step.Event.{Event}
 use Rattle.cfn_model.specs.declared.step.Event.TheVariants.{Did, Took, Refused}
 use Rattle.cfn_model.specs.Network.{Network, IsNetwork, arity, variable_at}
-use Rattle.cfn_model.specs.Sums.{when, is_live}
+use Rattle.cfn_model.specs.Sums.{when, is_live, residual_by, unary_by}
 use Rattle.cfn_model.specs.Steps.{after}
 use Rattle.cfn_model.proofs.CallerLemmas.{eqb_other, when_false}
 use Rattle.cfn_store.specs.Exact.{InPlace, HasNoDebts, IsExactAlong}
 use Rattle.cfn_store.proofs.CallerLemmas.{exact_here}
 use Rattle.cfn_consistency.specs.Openness.{count_below, IsActive, TakesPart, HasOpenPair}
-use Rattle.cfn_consistency.specs.Consistency.{IsArcConsistent, IsDirectional, IsFirst, IsExistential}
+use Rattle.cfn_consistency.specs.Consistency.{HasFullSupport, IsArcConsistent, IsDirectional, IsFirst, IsExistential}
 use Rattle.cfn_consistency.proofs.CallerLemmas.{part_is_local, arc_is_local, directional_is_local, existential_is_local}
 use Rattle.cfn_queue.specs.Waiting.{Waiting}
 use Rattle.cfn_due.specs.Dues.{Dues, waits, HasSizes}
 use Rattle.cfn_due.specs.Going.{IsOn, GoesArc, GoesDirected, GoesExisting, ArePut, IsNoted, GoesWithOne}
 use Rattle.cfn_due.specs.Laws.{ArcGoesOn, DirectedGoesOn, ExistingGoesOn, HoldingGoesOn, HoldingGoesAlong, NothingWaitsIsFull}
-use Rattle.cfn_due.proofs.Agreeing.{MovesNothing, arcs_agree, directed_agree, existing_agree}
+use Rattle.cfn_due.proofs.Agreeing.{MovesNothing, same_unaries, same_costs, tuple_stays, arcs_agree, directed_agree, existing_agree}
 use Rattle.cfn_due.proofs.Falling.{takes, CostsFall, UnariesFall, support_stays, full_stays, free_stays}
 
 -- what an event does not add does not rise
@@ -30,7 +30,7 @@ no_rise test m is = let e = when_false test m is in omega (arith, ints, e)
 other_first : (a b : ℕ) (c : Bool) → (a ≡ b → ⊥) → ((a == b) && c) ≡ false
 other_first a b c other = ap (λ t. t && c) (eqb_other a b other)
 
-extend_falls : (f g i a m : ℕ) → (g ≡ f → ⊥) → CostsFall (Did (Extend g i a m)) f
+pub extend_falls : (f g i a m : ℕ) → (g ≡ f → ⊥) → CostsFall (Did (Extend g i a m)) f
 extend_falls f g i a m other tuple = no_rise ((g == f) && (slice_index tuple i == a)) (pos m) (other_first g f (slice_index tuple i == a) other)
 
 project_falls : (P : Network) (g i a m x : ℕ) → (variable_at P g i ≡ x → ⊥) → UnariesFall P (Did (Project g i a m)) x
@@ -115,6 +115,38 @@ directed_goes_on P history (Did (CutTuple g c)) f net at debts stays was = direc
 directed_goes_on P history (Took d) f net at debts stays was = directed_agrees P history (Took d) f tt stays was
 directed_goes_on P history (Refused d) f net at debts stays was = directed_agrees P history (Refused d) f tt stays was
 
+-- one full support
+falls_none : (z : ℤ) → z ≡ pos 0 → z ≤ℤ pos 0
+falls_none z e = omega (arith, ints, e)
+
+full_agrees : (P : Network) (history : List Event) (event : Event) (f i j a : ℕ) → MovesNothing event → IsNetwork P → f < length P.functions → j < arity P f → HasNoDebts P (event ∷ history) → (GoesDirected P event f → ⊥) → HasFullSupport P history f i j a → HasFullSupport P (event ∷ history) f i j a
+full_agrees P history event f i j a still net there place debts stays has =
+    full_stays P history event f i j a net there place debts
+    (λ tuple. falls_none (residual_by event f tuple) (same_costs event f tuple still))
+    (λ b. falls_none (unary_by P event (variable_at P f j) b) (same_unaries P event (variable_at P f j) b still))
+    (λ tuple live. tuple_stays P history event f tuple still stays ∙ live) has
+
+pub full_goes_on : (P : Network) (history : List Event) (event : Event) (f i j a : ℕ) → IsNetwork P → f < length P.functions → j < arity P f → HasNoDebts P (event ∷ history) → (GoesDirected P event f → ⊥) → HasFullSupport P history f i j a → HasFullSupport P (event ∷ history) f i j a
+full_goes_on P history (Did (Project g p b m)) f i j a net there place debts stays has =
+    full_stays P history (Did (Project g p b m)) f i j a net there place debts
+    (λ tuple. takes ((g == f) && (slice_index tuple p == b)) m)
+    (project_falls P g p b m (variable_at P f j) (λ e. stays (j, place, sym e)))
+    (λ tuple l. l) has
+full_goes_on P history (Did (Extend g p b m)) f i j a net there place debts stays has =
+    full_stays P history (Did (Extend g p b m)) f i j a net there place debts
+    (extend_falls f g p b m stays)
+    (λ c. takes ((variable_at P g p == variable_at P f j) && (b == c)) m)
+    (λ tuple l. l) has
+full_goes_on P history (Did (Lift x m)) f i j a net there place debts stays has =
+    full_stays P history (Did (Lift x m)) f i j a net there place debts
+    (λ tuple. omega (arith, ints))
+    (λ c. takes (x == variable_at P f j) m)
+    (λ tuple l. l) has
+full_goes_on P history (Did (CutValue x b)) f i j a net there place debts stays has = full_agrees P history (Did (CutValue x b)) f i j a tt net there place debts stays has
+full_goes_on P history (Did (CutTuple g c)) f i j a net there place debts stays has = full_agrees P history (Did (CutTuple g c)) f i j a tt net there place debts stays has
+full_goes_on P history (Took d) f i j a net there place debts stays has = full_agrees P history (Took d) f i j a tt net there place debts stays has
+full_goes_on P history (Refused d) f i j a net there place debts stays has = full_agrees P history (Refused d) f i j a tt net there place debts stays has
+
 -- existential arc consistency
 existing_agrees : (P : Network) (history : List Event) (event : Event) (x : ℕ) → MovesNothing event → (GoesExisting P event x → ⊥) → IsExistential P history x → IsExistential P (event ∷ history) x
 existing_agrees P history event x still stays was = (existential_is_local P (event ∷ history) history x (existing_agree P history event x still stays)).1 was
@@ -178,7 +210,7 @@ pub exact_after : (P : Network) (history : List Event) (steps : List Step) → I
 exact_after P history [] exact = exact
 exact_after P history (step ∷ steps) exact = (exact_after P (Did step ∷ history) steps exact).1
 
-first_debts : (P : Network) (history : List Event) (step : Step) (steps : List Step) → IsExactAlong P (after steps (Did step ∷ history)) → HasNoDebts P (Did step ∷ history)
+pub first_debts : (P : Network) (history : List Event) (step : Step) (steps : List Step) → IsExactAlong P (after steps (Did step ∷ history)) → HasNoDebts P (Did step ∷ history)
 first_debts P history step steps exact = (exact_here P (Did step ∷ history) (exact_after P (Did step ∷ history) steps exact)).no_debts
 
 first_place : (P : Network) (history : List Event) (step : Step) (steps : List Step) → IsExactAlong P (after steps (Did step ∷ history)) → InPlace P (Did step)
@@ -194,6 +226,12 @@ directed_goes_along P history [] f net exact stays was = was
 directed_goes_along P history (step ∷ steps) f net exact stays was =
     directed_goes_along P (Did step ∷ history) steps f net exact (λ goes. stays (inr goes))
     (directed_goes_on P history (Did step) f net (first_place P history step steps exact) (first_debts P history step steps exact) (λ goes. stays (inl goes)) was)
+
+pub full_goes_along : (P : Network) (history : List Event) (steps : List Step) (f i j a : ℕ) → IsNetwork P → f < length P.functions → j < arity P f → IsExactAlong P (after steps history) → (GoesWithOne (GoesDirected P) steps f → ⊥) → HasFullSupport P history f i j a → HasFullSupport P (after steps history) f i j a
+full_goes_along P history [] f i j a net there place exact stays has = has
+full_goes_along P history (step ∷ steps) f i j a net there place exact stays has =
+    full_goes_along P (Did step ∷ history) steps f i j a net there place exact (λ goes. stays (inr goes))
+    (full_goes_on P history (Did step) f i j a net there place (first_debts P history step steps exact) (λ goes. stays (inl goes)) has)
 
 existing_goes_along : (P : Network) (history : List Event) (steps : List Step) (x : ℕ) → IsNetwork P → IsExactAlong P (after steps history) → (GoesWithOne (GoesExisting P) steps x → ⊥) → IsExistential P history x → IsExistential P (after steps history) x
 existing_goes_along P history [] x net exact stays was = was

@@ -28,6 +28,20 @@ GoesArc P (Did (CutTuple g c)) f = g ≡ f
 GoesArc P (Took d) f = IsOn P (variable_of d) f
 GoesArc P (Refused d) f = IsOn P (variable_of d) f
 
+-- x stands at a place of f other than i.
+abbrev pub IsElsewhere : Network → ℕ → ℕ → ℕ → Type 0
+IsElsewhere P x f i = (j : ℕ) × (j < arity P f) × (variable_at P f j ≡ x) × (j ≡ i → ⊥)
+
+-- Supports of values at place i of f may end: costs of it rise, a tuple of it is cut, or a value of a variable at another place.
+abbrev pub GoesSide : Network → Event → ℕ → ℕ → Type 0
+GoesSide P (Did (Project g p a m)) f i = ⊥
+GoesSide P (Did (Extend g p a m)) f i = g ≡ f
+GoesSide P (Did (Lift x m)) f i = ⊥
+GoesSide P (Did (CutValue x a)) f i = IsElsewhere P x f i
+GoesSide P (Did (CutTuple g c)) f i = g ≡ f
+GoesSide P (Took d) f i = IsElsewhere P (variable_of d) f i
+GoesSide P (Refused d) f i = IsElsewhere P (variable_of d) f i
+
 -- Its directional arc consistency, also where unary costs of a variable of it rise.
 abbrev pub GoesDirected : Network → Event → ℕ → Type 0
 GoesDirected P (Did (Project g i a m)) f = IsOn P (variable_at P g i) f

@@ -12,6 +12,3 @@ mod last;
 pub mod laws;
 
 pub use due::Due;
-
-#[cfg(test)]
-mod tests;

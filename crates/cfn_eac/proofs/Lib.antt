@@ -2,3 +2,4 @@ pub mod Gather
 pub mod Existing
 pub mod Amounts
 pub mod Owing
+pub mod Supporting

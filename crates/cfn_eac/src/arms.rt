@@ -21,8 +21,6 @@ pub struct Arms<'n> {
     pairs: Vec<Pair>,
     /// Which variables are at the other end of an arm, while arms are gathered.
     met: Vec<bool>,
-    /// For each variable the value that asked nothing last. It is looked at first; nothing is promised of it.
-    good: Vec<u32>,
 }
 
 impl<'n> Model for Arms<'n> {
@@ -46,7 +44,6 @@ impl<'n> Arms<'n> {
             network,
             pairs: Vec::with_capacity(alloc, network.functions() as usize)?,
             met: vec![in alloc; false; network.variables() as usize]?,
-            good: vec![in alloc; 0; network.variables() as usize]?,
         })
     }
 
@@ -65,23 +62,6 @@ impl<'n> Arms<'n> {
         match self.pairs.last() {
             Some(pair) => Some(pair.function),
             None => None,
-        }
-    }
-
-    /// The value of a variable that asked nothing last, as far as is known. It may ask something now, or be dead.
-    pub(crate) fn last_good(&self, x: u32) -> u32 {
-        match self.good.get(x as usize) {
-            Some(value) => *value,
-            None => 0,
-        }
-    }
-
-    /// Keeps a value that asks nothing.
-    pub(crate) fn keep_good(&mut self, x: u32, value: u32)
-        ensures { self.new ≡ self.old }
-    {
-        if (x as usize) < self.good.len() {
-            self.good[x as usize] = value;
         }
     }
 

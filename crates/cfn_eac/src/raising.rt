@@ -10,6 +10,7 @@ ghost use Rattle.cfn_gain.specs.Calls.{GoesOn, Does, Shows};
 ghost use Rattle.cfn_gain.specs.Gains.{Gains};
 ghost use Rattle.cfn_eac.specs.Arms.{AreArms, AreOfFunctions, HasGood, IsGood};
 ghost use Rattle.cfn_model.specs.Steps.{IsValue};
+ghost use Rattle.cfn_rest.specs.Resting.{AreSure};
 ghost use Rattle.cfn_eac.specs.Owing.{IsAsked};
 
 use crate::arms::Arms;
@@ -18,12 +19,14 @@ use crate::resting::is_at_rest;
 use cfn_dac::{Pair, full_supports};
 use cfn_gain::{Halt, Limits, lacking, level};
 use cfn_incidence::Incidence;
+use cfn_rest::Rests;
 use cfn_store::Store;
 
 /// Makes a variable existential: where no step was made, a live value of unary cost 0 has a full support in each first
 /// function of the variable and another open one. `moves` is room for an amount for each of its values.
 pub fn existential(
     arms: &mut Arms<'_>,
+    rests: &mut Rests,
     store: &mut Store<'_>,
     incidence: &Incidence,
     limits: Limits,
@@ -31,6 +34,7 @@ pub fn existential(
     moves: &mut [u64],
 ) -> Result<(), Halt>
     requires goes { GoesOn store.old limits }
+    requires sure { AreSure store.old.network (history store.old) rests.old }
     requires network { store.old.network ≡ arms.old.network }
     requires incidence { incidence.now ≡ arms.old.network }
     requires variable { x < length store.old.network.sizes }
@@ -38,18 +42,20 @@ pub fn existential(
     ensures does { Does store.old store.new limits result }
     ensures gains { Gains store.old store.new limits result }
     ensures existential { Shows store.old store.new result (IsExistential store.old.network (history store.old) x) }
+    // Of the store before its steps.
+    ensures sure { AreSure store.old.network (history store.old) rests.new }
     ensures network { arms.new.network ≡ arms.old.network }
     ensures functions { AreOfFunctions arms.new.network arms.new.pairs }
     ensures same { length moves.new ≡ length moves.old }
 {
     store.network().limits();
-    if is_at_rest(store, incidence, x, arms.last_good(x)) {
+    if is_at_rest(rests, store, incidence, x) {
         arms.clear();
         return Ok(());
     }
     arms.gather(store, incidence, x);
-    if let Some(value) = good_value(arms.pairs(), store, x, arms.last_good(x)) {
-        arms.keep_good(x, value);
+    if let Some(value) = good_value(arms.pairs(), store, x, rests.value(x)) {
+        rests.keep(incidence, x, value);
         return Ok(());
     }
     match ask(arms.pairs(), store, limits, x) {

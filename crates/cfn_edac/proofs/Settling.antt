@@ -1,10 +1,19 @@
 -- Where nothing is due and no step was made all is consistent.
 use Rattle.std.proofs.Common.{◌≡◌, ℕ, ◌<◌, ◌≤◌, inl, inr, List, [], ◌∷◌, length, drop, sym, ap, subst, arith, ◌⊎◌}
+use Rattle.std.proofs.lemmas.Bool.{cases_eq}
+use Rattle.std.specs.Prelude.{IsTrue}
 use Rattle.cfn_queue.specs.Waiting.{IsFirst}
-use Rattle.cfn_consistency.specs.Consistency.{IsNodeConsistent, AreFullyConsistent}
+use Rattle.cfn_model.specs.declared.step.Event.{Event}
+use Rattle.cfn_model.specs.Network.{Network, arity, variable_at}
+use Rattle.cfn_model.specs.Sums.{is_live}
+use Rattle.cfn_model.specs.Steps.{IsPlace}
+use Rattle.cfn_consistency.specs.Openness.{TakesPart}
+use Rattle.cfn_consistency.specs.Consistency.{HasSupport, IsNodeConsistent, IsArcConsistent, AreFullyConsistent}
 use Rattle.cfn_store.specs.Standing.{Standing, history}
 use Rattle.cfn_due.specs.Dues.{Dues, NothingWaits, waiting, without_first}
 use Rattle.cfn_due.proofs.CallerLemmas.{nothing_waits_is_full}
+use Rattle.cfn_rest.specs.Siding.{HasSupports}
+use Rattle.cfn_rest.proofs.CallerLemmas.{two_take_part}
 use Rattle.cfn_gain.specs.declared.limits.Limits.{Limits}
 use Rattle.cfn_gain.specs.Calls.{Adds, IsUnchanged, Grows}
 use Rattle.cfn_gain.proofs.CallerLemmas.{unchanged, no_shorter}
@@ -40,3 +49,15 @@ fewer_arcs old new f first taken = let e = ap waiting taken in let d = drops_one
 
 pub fewer_directed : (old new : Dues) (f : ℕ) → IsFirst old.directed.items f → new ≡ record { arcs = old.arcs; directed = without_first old.directed; existing = old.existing } → waiting new < waiting old
 fewer_directed old new f first taken = let e = ap waiting taken in let d = drops_one old.directed.items f first in omega (arith, e, d)
+
+-- both places of a function of two variables
+pub two_sides : (P : Network) (history : List Event) (f : ℕ) → arity P f ≡ 2 → HasSupports P history f 0 → HasSupports P history f 1 → IsArcConsistent P history f
+two_sides P history f two first second i a place live = elim (cases_eq i 0) [
+  | inl e ↦ subst (λ j. IsPlace P f j a → IsTrue (is_live history (variable_at P f j) a) → HasSupport P history f j a) (sym e) (first a) place live
+  | inr other ↦ (let below = place.place in let e : i ≡ 1 = omega (arith, below, two, other) in
+      subst (λ j. IsPlace P f j a → IsTrue (is_live history (variable_at P f j) a) → HasSupport P history f j a) (sym e) (second a) place live)
+]
+
+-- an arc consistent one has supports at both
+pub sides_of : (P : Network) (history : List Event) (f : ℕ) → (TakesPart P history f → IsArcConsistent P history f) → arity P f ≡ 2 → HasSupports P history f 0 × HasSupports P history f 1
+sides_of P history f arcs two = let is = arcs (two_take_part P history f two) in (is 0, is 1)

@@ -12,6 +12,3 @@ mod propagator;
 mod reviser;
 
 pub use enforcer::Enforcer;
-
-#[cfg(test)]
-mod tests;

@@ -1,15 +1,18 @@
 //! What is done to a store where a function or all variables are looked at.
 
 ghost use Rattle.std.specs.Prelude.{◌≡◌, ℕ, ◌<◌, ◌≤◌, length, slice_index};
+ghost use Rattle.cfn_model.specs.Network.{arity};
 ghost use Rattle.cfn_consistency.specs.Openness.{TakesPart};
 ghost use Rattle.cfn_consistency.specs.Consistency.{IsNodeConsistent, IsArcConsistent, IsDirectional};
 ghost use Rattle.cfn_store.specs.Standing.{history};
 ghost use Rattle.cfn_gain.specs.Calls.{GoesOn, Does, Shows};
 ghost use Rattle.cfn_gain.specs.Gains.{Gains};
 ghost use Rattle.cfn_dac.specs.Full.{AreAllBelow};
+ghost use Rattle.cfn_rest.specs.Siding.{HasSupports, AreSupported};
 
 use cfn_dac::{directional, open_pair, takes_part};
-use cfn_gain::{Halt, Limits, level, support_all};
+use cfn_gain::{Halt, Limits, level, support_all, support_at};
+use cfn_rest::Sides;
 use cfn_store::Store;
 
 /// Makes each variable level.
@@ -27,10 +30,12 @@ pub(crate) fn levels(store: &mut Store<'_>, limits: Limits) -> Result<(), Halt>
     Ok(())
 }
 
-/// Makes a function arc consistent, where it takes part, and where that made steps its variables level.
-pub(crate) fn arc(store: &mut Store<'_>, limits: Limits, f: u32) -> Result<(), Halt>
+/// Makes a function arc consistent, where it takes part, and where that made steps its variables level. Of a function of two
+/// variables only places in doubt are looked at.
+pub(crate) fn arc(store: &mut Store<'_>, limits: Limits, f: u32, sides: &Sides) -> Result<(), Halt>
     requires goes { GoesOn store.old limits }
     requires function { f < length store.old.network.functions }
+    requires known { AreSupported store.old.network (history store.old) sides.now }
     ensures does { Does store.old store.new limits result }
     ensures gains { Gains store.old store.new limits result }
     ensures arc { Shows store.old store.new result (TakesPart store.old.network (history store.old) f → IsArcConsistent store.old.network (history store.old) f) }
@@ -39,11 +44,58 @@ pub(crate) fn arc(store: &mut Store<'_>, limits: Limits, f: u32) -> Result<(), H
         return Ok(());
     }
     let before = store.block_len();
-    support_all(store, limits, f)?;
+    support_sides(store, limits, f, sides)?;
     if store.block_len() == before {
         return Ok(());
     }
     levels_of(store, limits, f)
+}
+
+/// Makes the live values of each variable of a function arc consistent in it, or those at one place in doubt.
+fn support_sides(store: &mut Store<'_>, limits: Limits, f: u32, sides: &Sides) -> Result<(), Halt>
+    requires goes { GoesOn store.old limits }
+    requires function { f < length store.old.network.functions }
+    requires part { TakesPart store.old.network (history store.old) f }
+    requires known { AreSupported store.old.network (history store.old) sides.now }
+    ensures does { Does store.old store.new limits result }
+    ensures gains { Gains store.old store.new limits result }
+    ensures supports { Shows store.old store.new result (IsArcConsistent store.old.network (history store.old) f) }
+{
+    store.network().limits();
+    if store.network().scope(f).len() != 2 {
+        return support_all(store, limits, f);
+    }
+    let before = store.block_len();
+    support_side(store, limits, f, 0, sides)?;
+    if store.block_len() > before {
+        return Ok(());
+    }
+    support_side(store, limits, f, 1, sides)
+}
+
+/// Makes the live values at a place of a function of two variables arc consistent, where it is in doubt.
+fn support_side(
+    store: &mut Store<'_>,
+    limits: Limits,
+    f: u32,
+    place: u32,
+    sides: &Sides,
+) -> Result<(), Halt>
+    requires goes { GoesOn store.old limits }
+    requires function { f < length store.old.network.functions }
+    requires part { TakesPart store.old.network (history store.old) f }
+    requires two { arity store.old.network f ≡ 2 }
+    requires place { place < 2 }
+    requires known { AreSupported store.old.network (history store.old) sides.now }
+    ensures does { Does store.old store.new limits result }
+    ensures gains { Gains store.old store.new limits result }
+    ensures supports { Shows store.old store.new result (HasSupports store.old.network (history store.old) f place) }
+{
+    if sides.is_doubted(f, place) {
+        support_at(store, limits, f, place)
+    } else {
+        Ok(())
+    }
 }
 
 /// Where two variables of a function are open, makes its variables level, and then the function directional.

@@ -3,19 +3,22 @@
 //! longer; where it made steps these are noted, and it is looked at again. Where nothing waits all variables are looked at for
 //! node consistency.
 //!
-//! Invariant: what does not wait is consistent in the store as it stands.
+//! Invariant: what does not wait is consistent in the store as it stands, and what is known of resting values and of supports is so there.
 
-ghost use Rattle.std.specs.Prelude.{◌≡◌, ◌<◌, ◌≤◌, ◌+◌, length, IfOk, IfSome, OnOk};
+ghost use Rattle.std.specs.Prelude.{◌≡◌, ◌<◌, ◌≤◌, ◌+◌, length, take, IfOk, IfSome, OnOk};
 ghost use Rattle.cfn_queue.specs.Waiting.{IsFirst};
 ghost use Rattle.cfn_consistency.specs.Consistency.{IsNodeConsistent, AreFullyConsistent};
 ghost use Rattle.cfn_live.specs.Sets.{live_count};
 ghost use Rattle.cfn_store.specs.Rooms.{sets_of};
 ghost use Rattle.cfn_store.specs.Standing.{history};
 ghost use Rattle.cfn_eac.specs.Asking.{IsCheapest};
-ghost use Rattle.cfn_due.specs.Dues.{waiting};
+ghost use Rattle.cfn_model.specs.Steps.{after};
+ghost use Rattle.cfn_due.specs.Dues.{Holds, waiting};
 ghost use Rattle.cfn_gain.specs.Calls.{GoesOn, Does, Shows};
 ghost use Rattle.cfn_gain.specs.Gains.{Gains};
-ghost use Rattle.cfn_edac.specs.Revising.{HoldsIn, IsRevised, IsRunOut};
+ghost use Rattle.cfn_rest.specs.Resting.{AreSure};
+ghost use Rattle.cfn_rest.specs.Siding.{AreSupported};
+ghost use Rattle.cfn_edac.specs.Revising.{HoldsIn, IsSureIn, IsKnownIn, IsRevised, IsRunOut};
 ghost use Rattle.cfn_edac.specs.Settling.{IsBehindSettled};
 
 use crate::looks::{arc, direct, levels};
@@ -25,11 +28,13 @@ use cfn_gain::{Halt, Limits};
 use cfn_incidence::Incidence;
 use cfn_model::{Event, MOST_VALUES};
 use cfn_net::Network;
+use cfn_rest::{Rests, Sides};
 use cfn_store::Store;
 use std::alloc::{AllocError, Global};
 use std::marker::Model;
 
-/// What is due in stores of a network, and the room that it takes to look at it. Contracts see the network and what is due.
+/// What is due in stores of a network, and the room that it takes to look at it. Contracts see the network, what is due and
+/// what is sure.
 #[derive(Drop)]
 pub(crate) struct Reviser<'n> {
     network: &'n Network,
@@ -38,6 +43,10 @@ pub(crate) struct Reviser<'n> {
     moves: Vec<u64>,
     /// Room for the arms of a variable.
     arms: Arms<'n>,
+    /// The values that may rest, and where they are known to.
+    rests: Rests,
+    /// At which places of functions values may lack supports.
+    sides: Sides,
     /// The function that was looked at last, where it was one.
     blamed: Option<u32>,
 }
@@ -50,9 +59,9 @@ impl<'n> Model for Reviser<'n> {
 
     ghost Value = { Revising };
 
-    ghost view = { λ s. record { network = s.network.now; due = s.due } };
+    ghost view = { λ s. record { network = s.network.now; due = s.due; rests = s.rests; sides = s.sides } };
 
-    ghost invariant = { λ s. (s.arms.network ≡ s.network.now) × (length s.moves.items ≡ most_values) × IsBlame s.network.now s.blamed × HasSizes s.network.now s.due };
+    ghost invariant = { λ s. (s.arms.network ≡ s.network.now) × (length s.moves.items ≡ most_values) × IsBlame s.network.now s.blamed × HasSizes s.network.now s.due × (s.sides.size ≡ length s.network.now.functions) };
 }
 
 impl<'n> Reviser<'n> {
@@ -65,6 +74,8 @@ impl<'n> Reviser<'n> {
             due: Due::make(alloc, network)?,
             moves: vec![in alloc; 0; MOST_VALUES as usize]?,
             arms: Arms::make(alloc, network)?,
+            rests: Rests::make(alloc, network)?,
+            sides: Sides::make(alloc, network)?,
             blamed: None,
         })
     }
@@ -102,14 +113,21 @@ impl<'n> Reviser<'n> {
         requires since { IfSome since (IsBehindSettled store.now) }
         ensures network { self.new.network ≡ self.old.network }
         ensures holds { HoldsIn store.now self.new.due }
+        ensures sure { IsSureIn store.now self.new.rests }
+        ensures known { IsKnownIn store.now self.new.sides }
     {
         store.exact();
+        self.rests.forget();
         match since {
             Some(event) => {
                 self.due.clear();
                 self.due.note(self.network, incidence, &event);
+                self.sides.begin_behind(incidence, &event);
             }
-            None => self.due.put_all(self.network),
+            None => {
+                self.due.put_all(self.network);
+                self.sides.doubt_all();
+            }
         }
     }
 
@@ -124,8 +142,12 @@ impl<'n> Reviser<'n> {
         requires incidence { incidence.now ≡ self.old.network }
         requires goes { GoesOn store.old limits }
         requires holds { HoldsIn store.old self.old.due }
+        requires sure { IsSureIn store.old self.old.rests }
+        requires known { IsKnownIn store.old self.old.sides }
         ensures does { Does store.old store.new limits result }
         ensures gains { Gains store.old store.new limits result }
+        ensures sure { OnOk result (IsSureIn store.new self.new.rests) }
+        ensures known { OnOk result (IsKnownIn store.new self.new.sides) }
         ensures settled { OnOk result (AreFullyConsistent store.new.network (history store.new) limits.threshold) }
         ensures network { self.new.network ≡ self.old.network }
     {
@@ -152,9 +174,13 @@ impl<'n> Reviser<'n> {
         requires incidence { incidence.now ≡ self.old.network }
         requires goes { GoesOn store.old limits }
         requires holds { HoldsIn store.old self.old.due }
+        requires sure { IsSureIn store.old self.old.rests }
+        requires known { IsKnownIn store.old self.old.sides }
         ensures does { Does store.old store.new limits result }
         ensures gains { Gains store.old store.new limits result }
         ensures run { OnOk result (IsRunOut store.old store.new self.new.due) }
+        ensures sure { OnOk result (IsSureIn store.new self.new.rests) }
+        ensures known { OnOk result (IsKnownIn store.new self.new.sides) }
         ensures network { self.new.network ≡ self.old.network }
     {
         let before = store.block_len();
@@ -180,10 +206,14 @@ impl<'n> Reviser<'n> {
         requires incidence { incidence.now ≡ self.old.network }
         requires goes { GoesOn store.old limits }
         requires holds { HoldsIn store.old self.old.due }
+        requires sure { IsSureIn store.old self.old.rests }
+        requires known { IsKnownIn store.old self.old.sides }
         requires some { 0 < waiting self.old.due }
         ensures does { Does store.old store.new limits result }
         ensures gains { Gains store.old store.new limits result }
         ensures revised { OnOk result (IsRevised store.old store.new self.old.due self.new.due) }
+        ensures sure { OnOk result (IsSureIn store.new self.new.rests) }
+        ensures known { OnOk result (IsKnownIn store.new self.new.sides) }
         ensures network { self.new.network ≡ self.old.network }
     {
         if let Some(f) = self.due.first_arc() {
@@ -210,20 +240,25 @@ impl<'n> Reviser<'n> {
         requires incidence { incidence.now ≡ self.old.network }
         requires goes { GoesOn store.old limits }
         requires holds { HoldsIn store.old self.old.due }
+        requires sure { IsSureIn store.old self.old.rests }
+        requires known { IsKnownIn store.old self.old.sides }
         requires function { f < self.old.due.arcs.size }
         requires first { IsFirst self.old.due.arcs.items f }
         ensures does { Does store.old store.new limits result }
         ensures gains { Gains store.old store.new limits result }
         ensures revised { OnOk result (IsRevised store.old store.new self.old.due self.new.due) }
+        ensures sure { OnOk result (IsSureIn store.new self.new.rests) }
+        ensures known { OnOk result (IsKnownIn store.new self.new.sides) }
         ensures network { self.new.network ≡ self.old.network }
     {
         let before = store.block_len();
         self.blamed = Some(f);
-        arc(store, limits, f)?;
+        arc(store, limits, f, &self.sides)?;
         if store.block_len() > before {
-            self.due.note_steps(incidence, store, before);
+            self.note_steps(incidence, store, before);
         } else {
             self.due.done_arc();
+            self.sides.trust(f);
         }
         Ok(())
     }
@@ -240,22 +275,34 @@ impl<'n> Reviser<'n> {
         requires incidence { incidence.now ≡ self.old.network }
         requires goes { GoesOn store.old limits }
         requires holds { HoldsIn store.old self.old.due }
+        requires sure { IsSureIn store.old self.old.rests }
+        requires known { IsKnownIn store.old self.old.sides }
         requires variable { x < self.old.due.existing.size }
         requires first { IsFirst self.old.due.existing.items x }
         ensures does { Does store.old store.new limits result }
         ensures gains { Gains store.old store.new limits result }
         ensures revised { OnOk result (IsRevised store.old store.new self.old.due self.new.due) }
+        ensures sure { OnOk result (IsSureIn store.new self.new.rests) }
+        ensures known { OnOk result (IsKnownIn store.new self.new.sides) }
         ensures network { self.new.network ≡ self.old.network }
     {
         self.network.limits();
         let before = store.block_len();
-        let result = existential(&mut self.arms, store, incidence, limits, x, &mut self.moves);
+        let result = existential(
+            &mut self.arms,
+            &mut self.rests,
+            store,
+            incidence,
+            limits,
+            x,
+            &mut self.moves,
+        );
         if result.is_err() {
             self.blamed = self.arms.last_function();
             return result;
         }
         if store.block_len() > before {
-            self.due.note_steps(incidence, store, before);
+            self.note_steps(incidence, store, before);
         } else {
             self.due.done_existing();
         }
@@ -274,11 +321,15 @@ impl<'n> Reviser<'n> {
         requires incidence { incidence.now ≡ self.old.network }
         requires goes { GoesOn store.old limits }
         requires holds { HoldsIn store.old self.old.due }
+        requires sure { IsSureIn store.old self.old.rests }
+        requires known { IsKnownIn store.old self.old.sides }
         requires function { f < self.old.due.directed.size }
         requires first { IsFirst self.old.due.directed.items f }
         ensures does { Does store.old store.new limits result }
         ensures gains { Gains store.old store.new limits result }
         ensures revised { OnOk result (IsRevised store.old store.new self.old.due self.new.due) }
+        ensures sure { OnOk result (IsSureIn store.new self.new.rests) }
+        ensures known { OnOk result (IsKnownIn store.new self.new.sides) }
         ensures network { self.new.network ≡ self.old.network }
     {
         self.network.limits();
@@ -286,7 +337,7 @@ impl<'n> Reviser<'n> {
         self.blamed = Some(f);
         direct(store, limits, f, &mut self.moves)?;
         if store.block_len() > before {
-            self.due.note_steps(incidence, store, before);
+            self.note_steps(incidence, store, before);
         } else {
             self.due.done_directed();
         }
@@ -304,9 +355,13 @@ impl<'n> Reviser<'n> {
         requires incidence { incidence.now ≡ self.old.network }
         requires goes { GoesOn store.old limits }
         requires holds { HoldsIn store.old self.old.due }
+        requires sure { IsSureIn store.old self.old.rests }
+        requires known { IsKnownIn store.old self.old.sides }
         ensures does { Does store.old store.new limits result }
         ensures gains { Gains store.old store.new limits result }
         ensures holds { OnOk result (HoldsIn store.new self.new.due) }
+        ensures sure { OnOk result (IsSureIn store.new self.new.rests) }
+        ensures known { OnOk result (IsKnownIn store.new self.new.sides) }
         ensures nodes { Shows store.old store.new result (IsNodeConsistent store.old.network (history store.old) limits.threshold) }
         ensures still { Shows store.old store.new result (self.new.due ≡ self.old.due) }
         ensures network { self.new.network ≡ self.old.network }
@@ -315,8 +370,23 @@ impl<'n> Reviser<'n> {
         self.blamed = None;
         levels(store, limits)?;
         if store.block_len() > before {
-            self.due.note_steps(incidence, store, before);
+            self.note_steps(incidence, store, before);
         }
         Ok(())
+    }
+
+    /// Puts what the steps of a store's block from a number on may have ended.
+    fn note_steps(&mut self, incidence: &Incidence, store: &Store<'_>, start: usize)
+        requires network { store.now.network ≡ self.old.network }
+        requires incidence { incidence.now ≡ self.old.network }
+        requires start { start ≤ length store.now.block }
+        ensures due { Holds store.now.network (after (take start store.now.block) store.now.base) self.old.due → HoldsIn store.now self.new.due }
+        ensures sure { AreSure store.now.network (after (take start store.now.block) store.now.base) self.old.rests → IsSureIn store.now self.new.rests }
+        ensures known { AreSupported store.now.network (after (take start store.now.block) store.now.base) self.old.sides → IsKnownIn store.now self.new.sides }
+        ensures network { self.new.network ≡ self.old.network }
+    {
+        self.due.note_steps(incidence, store, start);
+        self.rests.note_steps(incidence, store, start);
+        self.sides.note_steps(incidence, store, start);
     }
 }

@@ -2,6 +2,7 @@ use Rattle.std.proofs.Common.{sym, ◌∙◌, subst}
 use Rattle.cfn_model.specs.Network.{IsNetwork}
 use Rattle.cfn_store.specs.Standing.{history}
 use Rattle.cfn_gain.proofs.CallerLemmas.{on_ok, gained_none}
+use Rattle.cfn_rest.specs.Resting.{AreSure}
 use Rattle.cfn_eac.specs.Arms.{AreArms}
 use Rattle.cfn_eac.proofs.Existing.{existential_of}
 use Rattle.cfn_eac.proofs.raising.existential.Goals as goal
@@ -32,3 +33,9 @@ returns-in-None-clause-existential c = λ same.
 
 pub returns-in-None-clause-gains : goal.returns-in-None-clause-gains
 returns-in-None-clause-gains c = gained_none c.args.store.now
+
+pub returns-in-Some-clause-sure : goal.returns-in-Some-clause-sure
+returns-in-Some-clause-sure c =
+    let h = history c.args.store.now in
+    let same = c.requires.incidence ∙ sym c.requires.network in
+    subst (λ P. AreSure P h c.keep.new.self) same (c.keep.ensures h (subst (λ P. AreSure P h c.is_at_rest.new.rests) (sym same) c.is_at_rest.ensures.sure))

@@ -1,4 +1,4 @@
-use Rattle.std.proofs.Common.{◌≡◌, ℕ, ◌-◌, ◌<◌, ◌≤◌, Bool, true, true≢false, inl, inr, refl, sym, ap, ◌∙◌, subst, length, arith}
+use Rattle.std.proofs.Common.{◌≡◌, ℕ, ◌-◌, ◌<◌, ◌≤◌, Bool, true, true≢false, inl, inr, sym, ap, ◌∙◌, subst, length, arith}
 use Rattle.std.proofs.lemmas.Bool.{cases_eq}
 use Rattle.std.specs.Prelude.{List, pos, slice_index, IsTrue}
 use Rattle.cfn_model.specs.declared.step.Event.{Event}
@@ -30,10 +30,14 @@ all_supports P h x a places n are whole rests f i j pair at =
     subst (λ k. HasFullSupport P h f i k a) e (rest.full (subst (λ k. IsTrue (is_open P h (variable_at P f k))) (sym e) pair.other.1))
 
 pub loop-place-preserved : goal.loop-place-preserved
-loop-place-preserved c = λ k l. (elim (cases_eq k c.loop-place.place-index) [
-  | inl e ↦ subst (λ n. RestsOn c.args.store.now.network (history c.args.store.now) (place_at c.places-place-items.result.now n) c.args.value) (sym e) (c.if-not-rests_on.ensures refl)
-  | inr e ↦ c.loop-place.invariant k (omega (arith, l, e))
-])
+loop-place-preserved c = record {
+  rests = λ k l. (elim (cases_eq k c.loop-place.place-index) [
+    | inl e ↦ subst (λ n. RestsOn c.args.store.now.network (history c.args.store.now) (place_at c.places-place-items.result.now n) c.value-value.result) (sym e) (c.rests_on.ensures.rests c.if-not-rests_on.false)
+    | inr e ↦ c.loop-place.invariant.rests k (omega (arith, l, e))
+  ]);
+  sure = c.rests_on.ensures.sure;
+  values = c.rests_on.ensures.values ∙ c.loop-place.invariant.values;
+}
 
 -- a live value without cost of a variable that is not open
 closed_rests : (s : Standing) (x a count : ℕ) → IsFree s.network (history s) x a → count ≡ live_count (sets_of s) x → count < 2 → IsExistential s.network (history s) x
@@ -54,19 +58,19 @@ free_value s x a size cost live variable is below lives lives_is nothing cost_is
       free = sym (cost_is now) ∙ ap pos none;
     }
 
-pub returns-then-count-lt2 : goal.returns-then-count-lt2
-returns-then-count-lt2 c = λ yes.
+pub returns-then-count-lt2-clause-existential : goal.returns-then-count-lt2-clause-existential
+returns-then-count-lt2-clause-existential c = λ yes.
     (let s = c.args.store.now in
-    closed_rests s c.args.x c.args.value c.count.result
-    (free_value s c.args.x c.args.value c.size.result c.unary.result c.is_live.result c.requires.variable (c.size.ensures ∙ ap (λ (P : Network). slice_index P.sizes c.args.x) c.network-2.ensures) c.if-value-size.false c.if-not-is_live.false c.is_live.ensures c.if-unary-gt0.false c.unary.ensures)
+    closed_rests s c.args.x c.value-value.result c.count.result
+    (free_value s c.args.x c.value-value.result c.size.result c.unary.result c.is_live.result c.requires.variable (c.size.ensures ∙ ap (λ (P : Network). slice_index P.sizes c.args.x) c.network-2.ensures) c.if-value-size.false c.if-not-is_live.false c.is_live.ensures c.if-unary-gt0.false c.unary.ensures)
     c.count.ensures c.if-count-lt2.true)
 
-pub returns : goal.returns
-returns c = λ yes.
+pub returns-clause-existential : goal.returns-clause-existential
+returns-clause-existential c = λ yes.
     (let s = c.args.store.now in
-    let free = free_value s c.args.x c.args.value c.size.result c.unary.result c.is_live.result c.requires.variable (c.size.ensures ∙ ap (λ (P : Network). slice_index P.sizes c.args.x) c.network-2.ensures) c.if-value-size.false c.if-not-is_live.false c.is_live.ensures c.if-unary-gt0.false c.unary.ensures in
+    let free = free_value s c.args.x c.value-value.result c.size.result c.unary.result c.is_live.result c.requires.variable (c.size.ensures ∙ ap (λ (P : Network). slice_index P.sizes c.args.x) c.network-2.ensures) c.if-value-size.false c.if-not-is_live.false c.is_live.ensures c.if-unary-gt0.false c.unary.ensures in
     record {
-      value = c.args.value;
+      value = c.value-value.result;
       free = free;
-      supports = λ f i j pair at first. all_supports s.network (history s) c.args.x c.args.value c.places-place-items.result.now c.loop-place.place-index (subst (λ N. ArePlaces N c.args.x c.places-place-items.result.now) c.requires.incidence c.places-place-items.ensures.places) c.loop-place-test.false c.loop-place.invariant f i j pair at;
+      supports = λ f i j pair at first. all_supports s.network (history s) c.args.x c.value-value.result c.places-place-items.result.now c.loop-place.place-index (subst (λ N. ArePlaces N c.args.x c.places-place-items.result.now) c.requires.incidence c.places-place-items.ensures.places) c.loop-place-test.false c.loop-place.invariant.rests f i j pair at;
     })

@@ -31,6 +31,8 @@ loop-store-preserved-else-block_len-before-2 c =
       gained = leads_then c.args.store.now c.revise_until_step.new.store c.level_all.new.store IsBegun (leads_then c.args.store.now c.loop-store.store c.revise_until_step.new.store IsBegun c.loop-store.invariant.gained c.in_ok-revise_until_step.ensures.gains) ensures.gains;
       network = ensures.network ∙ c.in_ok-revise_until_step.ensures.network ∙ c.loop-store.invariant.network;
       holds = ensures.holds;
+      sure = ensures.sure;
+      known = ensures.known;
     }
 
 pub loop-store-preserved : goal.loop-store-preserved
@@ -39,6 +41,8 @@ loop-store-preserved c = record {
   gained = leads_then c.args.store.now c.loop-store.store c.revise_until_step.new.store IsBegun c.loop-store.invariant.gained c.in_ok-revise_until_step.ensures.gains;
   network = c.in_ok-revise_until_step.ensures.network ∙ c.loop-store.invariant.network;
   holds = c.in_ok-revise_until_step.ensures.run.holds;
+  sure = c.in_ok-revise_until_step.ensures.sure;
+  known = c.in_ok-revise_until_step.ensures.known;
 }
 
 pub loop-store-init : goal.loop-store-init
@@ -47,6 +51,8 @@ loop-store-init c = record {
   gained = gained_none c.args.store.now;
   network = refl;
   holds = c.requires.holds;
+  sure = c.requires.sure;
+  known = c.requires.known;
 }
 
 pub returns-in_err-revise_until_step-clause-gains : goal.returns-in_err-revise_until_step-clause-gains

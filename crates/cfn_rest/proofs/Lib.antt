@@ -1,0 +1,3 @@
+pub mod Doubting
+pub mod Siding
+pub mod CallerLemmas
