@@ -17,6 +17,3 @@ mod stage;
 
 pub use event::{DecisionText, Event, Item, StepText, TextFault};
 pub use reader::Reader;
-
-#[cfg(test)]
-mod reader_tests;

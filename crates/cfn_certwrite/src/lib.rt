@@ -15,6 +15,3 @@ mod walk;
 
 pub use certificate::write;
 pub use second::upgrade;
-
-#[cfg(test)]
-mod tests;

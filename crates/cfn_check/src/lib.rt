@@ -30,6 +30,3 @@ pub use answer::Check;
 pub use asked::Judged;
 pub use certificate::check;
 pub use ledger::{Ledger, Mark};
-
-#[cfg(test)]
-mod tests;

@@ -1,4 +1,3 @@
 pub mod Steps
 pub mod Ending
 pub mod Emptying
-mod Single

@@ -9,6 +9,3 @@ mod shutting;
 
 pub use closer::Shifts;
 pub use shutting::shut;
-
-#[cfg(test)]
-mod tests;

@@ -1,5 +1,5 @@
 -- A value is deleted.
-use Rattle.std.proofs.Common.{◌≡◌, ℕ, ◌+◌, ◌<◌, true, false, length, sym, ap, ◌∙◌, subst, inl, inr, arith}
+use Rattle.std.proofs.Common.{◌≡◌, ℕ, ◌<◌, true, false, length, sym, ap, ◌∙◌, subst, inl, inr, arith}
 use Rattle.std.proofs.lemmas.Bool.{cases_eq}
 use Rattle.std.proofs.lemmas.Bool.Decides.{nat_tests}
 use Rattle.std.specs.Prelude.{slice_index, ◌==◌, IsTrue}
@@ -70,12 +70,3 @@ alive_here s d n alive is some x h = elim (cases_eq x d.variable) [
 pub struck_alive : (s t : Standing) (d : Deletion) (n : ℕ) → AllAlive s.network (history s) → t ≡ with_step s (CutValue d.variable d.value) → n ≡ live_count (sets_of t) d.variable → (n == 0) ≡ false → AllAlive t.network (history t)
 struck_alive s t d n alive e is some =
     subst (λ t. AllAlive t.network (history t)) (sym e) (alive_here s d n alive (subst (λ t. n ≡ live_count (sets_of t) d.variable) e is) some)
-
--- a variable more has a live value
-pub alive_next : (s : Standing) (x n : ℕ) → x < length s.network.sizes → n ≡ live_count (sets_of s) x → 0 < n → ((y : ℕ) → y < x → (a : ℕ) × IsValue s.network y a × IsTrue (is_live (history s) y a)) → (y : ℕ) → y < x + 1 → (a : ℕ) × IsValue s.network y a × IsTrue (is_live (history s) y a)
-alive_next s x n there is some before y h = elim (cases_eq y x) [
-  | inl e ↦
-      (let found = some_live (history s) x (slice_index s.network.sizes x) (subst (λ m. 0 < m) is some) in
-      subst (λ z. (a : ℕ) × IsValue s.network z a × IsTrue (is_live (history s) z a)) (sym e) (found.0, record { variable = there; value = found.1 }, found.2))
-  | inr other ↦ before y (omega (arith, h, other))
-]

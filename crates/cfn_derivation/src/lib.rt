@@ -19,6 +19,3 @@ mod work;
 
 pub use bans::Bans;
 pub use deriver::{Derived, Deriver};
-
-#[cfg(test)]
-mod tests;

@@ -39,8 +39,9 @@ impl<S: Storage, W: Write + Drop> Model for FileDesk<S, W> {
 impl<S: Storage, W: Write + Drop> FileDesk<S, W> {
     ghost use Rattle.std.specs.Prelude.{◌≡◌, [], None, IfOk};
 
-    /// A desk over this storage and this writer. It takes all the memory that it will use, but for what a load reads.
-    pub(crate) fn over(alloc: Global, storage: S, output: W) -> Result<FileDesk<S, W>, AllocError>
+    /// A desk over this storage and this writer. It takes all the memory that it will use, but for what a load reads. An
+    /// `Err` is want of it.
+    pub fn over(alloc: Global, storage: S, output: W) -> Result<FileDesk<S, W>, AllocError>
         requires { S.new_file storage ≡ None }
         ensures calls { IfOk result (λ desk. desk.calls ≡ []) }
         ensures over { IfOk result (λ desk.

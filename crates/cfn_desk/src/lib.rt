@@ -28,8 +28,6 @@ pub use interface::{Desk, Failed, LoadFault};
 pub use memory::{MemoryDesk, NAME_ROOM};
 pub use names::NameRoom;
 pub use read::FILE_LIMIT;
+pub use room::Full;
 pub use storage::{Entry, ReadFault, Storage};
 pub use sure::SureDesk;
-
-#[cfg(test)]
-mod tests;

@@ -39,8 +39,9 @@ impl NameRoom {
         self.text.as_str()
     }
 
-    /// Holds the two parts, one behind the other, in place of what it had.
-    pub(crate) fn set(&mut self, front: &str, back: &str) -> Result<(), Full>
+    /// Holds the two parts, one behind the other, in place of what it had. An `Err` says that they are longer than the
+    /// limit, or is want of memory, and leaves no more than a front of them.
+    pub fn set(&mut self, front: &str, back: &str) -> Result<(), Full>
         ensures ok { OnOk result (self.new.bytes ≡ front.now ++ back.now) }
         ensures within { OnOk result (length (front.now ++ back.now) ≤ self.old.limit) }
         ensures limit { self.new.limit ≡ self.old.limit }

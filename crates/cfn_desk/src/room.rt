@@ -5,7 +5,7 @@ use std::marker::Model;
 
 /// The room has no place for all of the piece.
 #[derive(Clone, Copy, Debug, PartialEq, Eq)]
-pub(crate) struct Full;
+pub struct Full;
 
 /// Bytes, up to a limit for which memory was taken.
 #[derive(Drop)]

@@ -15,6 +15,3 @@ mod group;
 mod trial;
 
 pub use trial::{allowing_law, instance};
-
-#[cfg(test)]
-mod tests;

@@ -10,6 +10,3 @@
 mod incidence;
 
 pub use incidence::{Incidence, Place};
-
-#[cfg(test)]
-mod tests;

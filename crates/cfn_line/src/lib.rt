@@ -21,6 +21,3 @@ pub use channel::{Channel, send};
 pub use lines::{write_line, write_list};
 pub use waiting::Line;
 pub use word::{Word, add_word};
-
-#[cfg(test)]
-mod tests;

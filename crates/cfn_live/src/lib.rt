@@ -14,6 +14,3 @@ mod past;
 mod undo;
 
 pub use live::LiveSets;
-
-#[cfg(test)]
-mod tests;

@@ -9,6 +9,3 @@ mod settling;
 
 pub use nodes::{NodeConsistency, is_wiped, least};
 pub use settling::Settling;
-
-#[cfg(test)]
-mod tests;

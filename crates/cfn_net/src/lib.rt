@@ -16,6 +16,3 @@ pub use builder::{Builder, listing_law};
 pub use fit::Fit;
 pub use network::Network;
 pub use scored::Scored;
-
-#[cfg(test)]
-mod tests;

@@ -43,6 +43,3 @@ pub use steps::{allowed, runs};
 pub use sums::{floor, residual, unary};
 pub use supports::{Ask, Sought, has_full_support, has_support, has_tuple};
 pub use trees::{bound, strict, valid};
-
-#[cfg(test)]
-mod tests;

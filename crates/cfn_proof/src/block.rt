@@ -75,7 +75,7 @@ impl Block {
 
     /// Puts the steps of another block before its own. It takes no memory where the other has no steps. An `Err`, want of
     /// memory, leaves the block as it was.
-    pub(crate) fn put_behind(&mut self, first: &Block) -> Result<(), AllocError>
+    pub fn put_behind(&mut self, first: &Block) -> Result<(), AllocError>
         ensures ok { OnOk result (self.new ≡ first.now ++ self.old) }
         ensures err { OnErr result (self.new ≡ self.old) }
     {

@@ -19,6 +19,3 @@ pub use cfn_model::{Decision, Event, Row, Step};
 pub use outcome::{Outcome, Stop};
 pub use path::Path;
 pub use tree::{End, Node, NodeId, Tree};
-
-#[cfg(test)]
-mod tests;

@@ -17,6 +17,3 @@ pub use message::{
     write_verified, write_write_fault,
 };
 pub use report::{Report, write};
-
-#[cfg(test)]
-mod tests;

@@ -7,6 +7,3 @@
 mod rows;
 
 pub use rows::Rows;
-
-#[cfg(test)]
-mod tests;

@@ -21,6 +21,3 @@ mod trimmer;
 
 pub use smallness::block_stays_tame;
 pub use trimmer::Trimmer;
-
-#[cfg(test)]
-mod tests;

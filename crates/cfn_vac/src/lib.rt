@@ -26,6 +26,3 @@ mod walk;
 pub use lifter::Lifting;
 pub use ready::{all_alive, count_values};
 pub use vac::RootVac;
-
-#[cfg(test)]
-mod tests;

@@ -18,6 +18,3 @@ mod tokens;
 pub use fault::{ReadFault, Unread};
 pub use laws::falsified_weight;
 pub use reading::read;
-
-#[cfg(test)]
-mod tests;

@@ -21,6 +21,3 @@ pub use fault::ReadFault;
 pub use field::Field;
 pub use numerals::{numeral, refused};
 pub use reading::read;
-
-#[cfg(test)]
-mod tests;

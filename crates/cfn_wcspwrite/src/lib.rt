@@ -14,6 +14,3 @@ mod network;
 mod number;
 
 pub use network::{reads_back, write};
-
-#[cfg(test)]
-mod tests;

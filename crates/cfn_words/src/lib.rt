@@ -8,6 +8,3 @@ mod value;
 
 pub use splitting::{Word, Words};
 pub use value::number;
-
-#[cfg(test)]
-mod tests;
