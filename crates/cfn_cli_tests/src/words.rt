@@ -1,0 +1,223 @@
+use cfn_cli::{CliFault, Command, Format, parse};
+use std::alloc::Global;
+use std::test::Fail;
+
+const MOST_BUDGET: u64 = 9_223_372_036_854_775_807;
+
+fn is_usage(alloc: Global, words: &[&str]) -> bool {
+    match parse(alloc, words) {
+        Err(CliFault::Usage) => true,
+        _ => false,
+    }
+}
+
+fn solves(alloc: Global, words: &[&str], workers: u8, budget: u64) -> bool {
+    match parse(alloc, words) {
+        Ok(Command::Solve(asked)) => {
+            asked.file.as_str() == "a"
+                && asked.certificate.as_str() == "b"
+                && asked.workers == workers
+                && asked.budget == budget
+        }
+        _ => false,
+    }
+}
+
+fn checks(alloc: Global, words: &[&str]) -> bool {
+    match parse(alloc, words) {
+        Ok(Command::Check(asked)) => {
+            asked.file.as_str() == "a" && asked.certificate.as_str() == "b"
+        }
+        _ => false,
+    }
+}
+
+fn migrates(alloc: Global, words: &[&str], out: &str) -> bool {
+    match parse(alloc, words) {
+        Ok(Command::Migrate(asked)) => {
+            asked.file.as_str() == "a"
+                && asked.certificate.as_str() == "b"
+                && asked.out.as_str() == out
+        }
+        _ => false,
+    }
+}
+
+fn says_normal(alloc: Global, words: &[&str]) -> bool {
+    match parse(alloc, words) {
+        Ok(Command::Normal(asked)) => asked.file.as_str() == "f",
+        _ => false,
+    }
+}
+
+fn tries(alloc: Global, words: &[&str], seed: u32, size: u32, workers: u8) -> bool {
+    match parse(alloc, words) {
+        Ok(Command::Trial(asked)) => {
+            asked.seed == seed && asked.size == size && asked.workers == workers
+        }
+        _ => false,
+    }
+}
+
+fn costs(alloc: Global, words: &[&str], values: &[u32]) -> bool {
+    match parse(alloc, words) {
+        Ok(Command::Cost(asked)) => {
+            asked.file.as_str() == "f" && asked.values.as_slice() == values
+        }
+        _ => false,
+    }
+}
+
+/// The format that is asked for, of a command that has one.
+fn format(alloc: Global, words: &[&str]) -> Option<Format> {
+    match parse(alloc, words) {
+        Ok(Command::Solve(asked)) => Some(asked.format),
+        Ok(Command::Check(asked)) => Some(asked.format),
+        Ok(Command::Cost(asked)) => Some(asked.format),
+        Ok(Command::Normal(asked)) => Some(asked.format),
+        _ => None,
+    }
+}
+
+#[test]
+fn format_is_read(rt: HostRuntime) {
+    let alloc = rt.alloc();
+    for words in [
+        ["w", "solve", "a", "b"].as_slice(),
+        &["w", "check", "a", "b"],
+        &["w", "cost", "f", "0"],
+        &["w", "normal", "f"],
+    ] {
+        assert!(rt; format(alloc, words) == Some(Format::Wcsp), "{words:?}");
+    }
+    for words in [
+        ["w", "solve", "--wcnf", "a", "b"].as_slice(),
+        &["w", "check", "a", "b", "--wcnf"],
+        &["w", "cost", "f", "--wcnf", "0"],
+        &["w", "normal", "f", "--wcnf"],
+    ] {
+        assert!(rt; format(alloc, words) == Some(Format::Wcnf), "{words:?}");
+    }
+}
+
+#[test]
+fn solve_is_read(rt: HostRuntime) {
+    let alloc = rt.alloc();
+    assert!(rt; solves(alloc, &["w", "solve", "a", "b"], 1, MOST_BUDGET));
+    assert!(rt;
+        solves(
+            alloc,
+            &["w", "solve", "a", "b", "--workers", "8", "--budget", "5"],
+            8,
+            5
+        )
+    );
+    assert!(rt; solves(alloc, &["w", "solve", "--budget=5", "a", "b"], 1, 5));
+    assert!(rt;
+        solves(
+            alloc,
+            &["w", "solve", "a", "--workers=64", "b"],
+            64,
+            MOST_BUDGET
+        )
+    );
+    assert!(rt;
+        solves(
+            alloc,
+            &["w", "solve", "a", "b", "--budget", "9223372036854775807"],
+            1,
+            MOST_BUDGET
+        )
+    );
+}
+
+#[test]
+fn check_is_read(rt: HostRuntime) {
+    let alloc = rt.alloc();
+    assert!(rt; checks(alloc, &["w", "check", "a", "b"]));
+    assert!(rt; !checks(alloc, &["w", "check", "b", "a"]));
+}
+
+#[test]
+fn cost_is_read(rt: HostRuntime) {
+    let alloc = rt.alloc();
+    assert!(rt; costs(alloc, &["w", "cost", "f", "0", "1", "2"], &[0, 1, 2]));
+    assert!(rt; costs(alloc, &["w", "cost", "f", "4294967295"], &[4_294_967_295]));
+}
+
+#[test]
+fn normal_and_trial_are_read(rt: HostRuntime) {
+    let alloc = rt.alloc();
+    assert!(rt; says_normal(alloc, &["w", "normal", "f"]));
+    assert!(rt; tries(alloc, &["w", "trial", "7", "20"], 7, 20, 1));
+    assert!(rt;
+        tries(
+            alloc,
+            &["w", "trial", "65536", "200", "--workers", "64"],
+            65_536,
+            200,
+            64
+        )
+    );
+    assert!(rt; tries(alloc, &["w", "trial", "--workers=8", "0", "1"], 0, 1, 8));
+}
+
+#[test]
+fn migrate_is_read(rt: HostRuntime) {
+    let alloc = rt.alloc();
+    assert!(rt; migrates(alloc, &["w", "migrate", "a", "b", "c"], "c"));
+    assert!(rt; migrates(alloc, &["w", "migrate", "a", "b", "b"], "b"));
+}
+
+#[test]
+fn other_words_are_usage(rt: HostRuntime) {
+    let alloc = rt.alloc();
+    for words in [
+        ["w"].as_slice(),
+        &[],
+        &["w", "--help"],
+        &["w", "-h"],
+        &["w", "--version"],
+        &["w", "-V"],
+        &["w", "help"],
+        &["w", "help", "solve"],
+        &["w", "check", "a"],
+        &["w", "check", "a", "b", "c"],
+        &["w", "check", "a", "b", "--budget", "1"],
+        &["w", "solve"],
+        &["w", "solve", "a"],
+        &["w", "solve", "a", "a"],
+        &["w", "solve", "a", "--budget", "1", "a"],
+        &["w", "solve", "a", "b", "c"],
+        &["w", "solve", "a", "b", "--help"],
+        &["w", "solve", "a", "b", "--workers", "65"],
+        &["w", "solve", "a", "b", "--workers", "0"],
+        &["w", "solve", "a", "b", "--workers", "8", "--workers", "8"],
+        &["w", "solve", "a", "b", "--budget", "-1"],
+        &["w", "solve", "a", "b", "--budget=-1"],
+        &["w", "solve", "a", "b", "--budget", "9223372036854775808"],
+        &["w", "solve", "a", "b", "--budget"],
+        &["w", "normal"],
+        &["w", "normal", "a", "--wcnf=true"],
+        &["w", "normal", "a", "--wcnf", "--wcnf"],
+        &["w", "trial", "7", "1", "--wcnf"],
+        &["w", "migrate", "a", "b", "c", "--wcnf"],
+        &["w", "normal", "a", "b"],
+        &["w", "normal", "a", "--workers", "1"],
+        &["w", "trial", "7"],
+        &["w", "trial", "65537", "1"],
+        &["w", "trial", "7", "0"],
+        &["w", "trial", "7", "201"],
+        &["w", "trial", "7", "1", "--workers", "65"],
+        &["w", "trial", "7", "1", "--budget", "1"],
+        &["w", "migrate", "a", "b"],
+        &["w", "migrate", "a", "b", "a"],
+        &["w", "migrate", "a", "b", "c", "d"],
+        &["w", "cost"],
+        &["w", "cost", "f"],
+        &["w", "cost", "f", "4294967296"],
+        &["w", "cost", "f", "1", "x"],
+    ] {
+        assert!(rt; is_usage(alloc, words), "{words:?}");
+    }
+}

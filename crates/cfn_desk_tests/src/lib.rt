@@ -1,0 +1,18 @@
+//! Tests of desks, and no code of its own.
+//!
+//! - `calling` has the calls that a test makes of any desk, and what came of them.
+//! - `memory` asks the desks in memory.
+//! - `storage` is a storage in memory of which one call fails, and `faults` asks a desk over it.
+//! - `system` asks a desk over the system's files.
+#![tactic(auto)]
+
+#[cfg(test)]
+mod calling;
+#[cfg(test)]
+mod faults;
+#[cfg(test)]
+mod memory;
+#[cfg(test)]
+mod storage;
+#[cfg(test)]
+mod system;

@@ -1,0 +1,156 @@
+//! Tests of the desks in memory.
+
+ghost use Rattle.std.specs.Prelude.{◌≡◌, [], IfOk};
+
+use crate::calling::{drop_file, write_file};
+use cfn_desk::{Desk, Failed, LoadFault, MemoryDesk, SureDesk};
+use std::alloc::{AllocError, Global};
+use std::test::Fail;
+
+/// A desk in memory with one file, where these calls fail.
+fn memory_desk(rt: &HostRuntime, failing: &[u64]) -> Result<MemoryDesk, AllocError>
+    ensures { IfOk result (λ desk. desk.calls ≡ []) }
+{
+    MemoryDesk::make(rt.alloc(), &[("in", b"given")], 8, 8, failing)
+}
+
+/// What a desk answered to a load, to a file written in two pieces, and to a word said.
+#[derive(Clone, Copy, Debug, PartialEq, Eq)]
+struct Answers {
+    load: Result<(), LoadFault>,
+    write: Result<(), Failed>,
+    say: Result<(), Failed>,
+}
+
+const ALL_DONE: Answers = Answers {
+    load: Ok(()),
+    write: Ok(()),
+    say: Ok(()),
+};
+
+/// Makes the six calls.
+fn six_calls(desk: &mut MemoryDesk, into: &mut Vec<u8>) -> Answers
+    requires { desk.old.calls ≡ [] }
+{
+    let load = desk.load("in", into);
+    let write = write_file(desk, "out", b"wri", b"tten");
+    let say = desk.say(b"word");
+    Answers { load, write, say }
+}
+
+/// Whether the six calls are answered so where these fail, and leave these bytes in the file `out` and on the screen.
+fn leaves(
+    rt: &HostRuntime,
+    failing: &[u64],
+    answers: Answers,
+    written: &[u8],
+    said: &[u8],
+) -> Result<bool, AllocError> {
+    let mut desk = memory_desk(rt, failing)?;
+    let mut into = Vec::new(rt.alloc());
+    Ok(
+        six_calls(&mut desk, &mut into) == answers
+            && tells(&desk, "out", written)
+            && desk.said_bytes() == said,
+    )
+}
+
+/// Whether a desk tells that the file of that name has these bytes, or that there is none and these are no bytes.
+fn tells(desk: &MemoryDesk, name: &str, bytes: &[u8]) -> bool {
+    desk.file(name).unwrap_or(b"") == bytes
+}
+
+/// Whether all six calls are done, and the load gives this file, and they leave this said and no file being written.
+fn keeps(rt: &HostRuntime, given: &[u8], said: &[u8]) -> Result<bool, AllocError> {
+    let mut desk = memory_desk(rt, &[])?;
+    let mut into = Vec::new(rt.alloc());
+    Ok(
+        six_calls(&mut desk, &mut into) == ALL_DONE
+            && into.as_slice() == given
+            && desk.said_bytes() == said
+            && desk.out_bytes().is_empty(),
+    )
+}
+
+#[test]
+fn memory_desk_keeps_what_it_is_given(rt: HostRuntime) -> Result<(), Fail> {
+    assert!(rt; keeps(&rt, b"given", b"word")?);
+    Ok(())
+}
+
+/// Whether a desk behind the six calls tells these files, and no other.
+fn tells_files(rt: &HostRuntime, given: &[u8], written: &[u8]) -> Result<bool, AllocError> {
+    let mut desk = memory_desk(rt, &[])?;
+    let mut into = Vec::new(rt.alloc());
+    six_calls(&mut desk, &mut into);
+    Ok(tells(&desk, "in", given) && tells(&desk, "out", written) && desk.file("other").is_none())
+}
+
+#[test]
+fn memory_desk_tells_its_files(rt: HostRuntime) -> Result<(), Fail> {
+    assert!(rt; tells_files(&rt, b"given", b"written")?);
+    Ok(())
+}
+
+#[test]
+fn memory_desk_fails_at_each_call(rt: HostRuntime) -> Result<(), Fail> {
+    let load = Answers {
+        load: Err(LoadFault::Failed),
+        ..ALL_DONE
+    };
+    let write = Answers {
+        write: Err(Failed),
+        ..ALL_DONE
+    };
+    let say = Answers {
+        say: Err(Failed),
+        ..ALL_DONE
+    };
+    let expected: [(u64, Answers, &[u8], &[u8]); 6] = [
+        (1, load, b"written", b"word"),
+        (2, write, b"", b"word"),
+        (3, write, b"", b"word"),
+        (4, write, b"", b"word"),
+        (5, write, b"", b"word"),
+        (6, say, b"written", b""),
+    ];
+    for (ordinal, answers, written, said) in expected {
+        assert!(rt;
+            leaves(&rt, &[ordinal], answers, written, said)?,
+            "call {ordinal}"
+        );
+    }
+    Ok(())
+}
+
+/// Whether a sure desk loads the file that it has, and then one that it has not as an empty one.
+fn loads(alloc: Global, given: &[u8]) -> Result<bool, AllocError> {
+    let mut desk = SureDesk::make(alloc, &[("in", given)])?;
+    let mut into = Vec::new(alloc);
+    let first = desk.load("in", &mut into) == Ok(()) && into.as_slice() == given;
+    let second = desk.load("other", &mut into) == Ok(()) && into.is_empty();
+    Ok(first && second)
+}
+
+#[test]
+fn sure_desk_loads_what_is_there(rt: HostRuntime) -> Result<(), Fail> {
+    assert!(rt; loads(rt.alloc(), b"given")?);
+    Ok(())
+}
+
+/// How many bytes a sure desk counts as put and as said behind a file that was written, one that was dropped, and a
+/// word; none where a call failed.
+fn counts(alloc: Global) -> Result<Option<(u64, u64)>, AllocError> {
+    let mut desk = SureDesk::make(alloc, &[])?;
+    let write = write_file(&mut desk, "out", b"wri", b"tten");
+    let drop = drop_file(&mut desk, "out");
+    let say = desk.say(b"word");
+    let done = write == Ok(()) && drop == Ok(()) && say == Ok(());
+    Ok(done.then_some((desk.put_count(), desk.said_count())))
+}
+
+#[test]
+fn sure_desk_counts(rt: HostRuntime) -> Result<(), Fail> {
+    assert_eq!(rt; counts(rt.alloc())?, Some((7, 4)));
+    Ok(())
+}

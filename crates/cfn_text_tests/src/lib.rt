@@ -1,0 +1,24 @@
+//! Tests of texts that are read and written, and no code of its own.
+//!
+//! - `splitting` has the words of a text, and the numbers that words are.
+//! - `wcsp` and `wcnf` have files that are read, and files that are refused.
+//! - `lines` writes lines of words, and `instances` networks.
+//! - `certificates` writes certificates, and `reports` says reports and messages; `given` has what both are of.
+#![tactic(auto)]
+
+#[cfg(test)]
+mod certificates;
+#[cfg(test)]
+mod given;
+#[cfg(test)]
+mod instances;
+#[cfg(test)]
+mod lines;
+#[cfg(test)]
+mod reports;
+#[cfg(test)]
+mod splitting;
+#[cfg(test)]
+mod wcnf;
+#[cfg(test)]
+mod wcsp;
