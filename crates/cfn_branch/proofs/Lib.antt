@@ -4,3 +4,4 @@ pub mod Passes
 pub mod Counting
 pub mod Seconds
 pub mod Least
+pub mod Halving

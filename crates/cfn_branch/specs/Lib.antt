@@ -1,4 +1,5 @@
 pub mod Weighing
 pub mod Choosing
 pub mod Passing
+pub mod Fewest
 pub mod Naming

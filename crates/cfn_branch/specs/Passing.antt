@@ -20,3 +20,15 @@ pub record BestYet (s : Standing) (weights : List ℕ) (n : ℕ) (best : Candida
   pub undecided : IsOpen s best.variable
   pub is : HasScore s weights best.variable best.score
   pub first : (y : ℕ) (other : Score) → y < n → IsOpen s y → HasScore s weights y other → ComesBefore other y best.score best.variable → ⊥
+
+-- Of the best so far and a variable behind it the one with fewer live values, or of as many the best so far.
+abbrev pub IsFewerOf : Standing → Option ℕ → ℕ → ℕ → Type 0
+IsFewerOf s None next result = result ≡ next
+IsFewerOf s (Some best) next result = ((choices s next < choices s best) × (result ≡ next)) ⊎ ((choices s best ≤ choices s next) × (result ≡ best))
+
+-- Of the variables below n, no open one has fewer live values than this one, and none before it as few.
+pub record FewestYet (s : Standing) (n best : ℕ) : Type 0 where
+  pub below : best < n
+  pub undecided : IsOpen s best
+  pub fewest : (y : ℕ) → y < n → IsOpen s y → choices s best ≤ choices s y
+  pub first : (y : ℕ) → y < n → IsOpen s y → choices s y ≡ choices s best → best ≤ y

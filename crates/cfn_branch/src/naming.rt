@@ -1,9 +1,10 @@
-//! Weighted degrees, as the brancher of a search.
+//! Weighted degrees, and fewest live values, as branchers of a search.
 
 ghost use Rattle.std.specs.Prelude.{◌≡◌, ◌<◌, length, IfOk, replicate};
 ghost use Rattle.cfn_branch.specs.Weighing.{blamed};
 
 use crate::choosing::{cheapest, choose};
+use crate::fewest::split_fewest;
 use crate::weights::Weights;
 use cfn_enforce::Brancher;
 use cfn_incidence::Incidence;
@@ -70,5 +71,44 @@ impl<'n> Brancher<'n> for Degrees<'n> {
         let variable = choose(&self.weights, incidence, store)?;
         let value = cheapest(store, variable);
         Some(Decision::Is { variable, value })
+    }
+}
+
+/// Names the variable of the fewest live values, and halves them where there are many. Contracts see the network.
+#[derive(Drop)]
+pub struct Fewest<'n> {
+    network: &'n Network,
+}
+
+impl<'n> Model for Fewest<'n> {
+    ghost use Rattle.cfn_model.specs.Network.{Network as CostNetwork};
+
+    ghost Value = { CostNetwork };
+
+    ghost view = { λ s. s.network.now };
+}
+
+impl<'n> Brancher<'n> for Fewest<'n> {
+    ghost use Rattle.std.specs.Prelude.{◌≡◌, MatchOption, IfSome, IfOk};
+    ghost use Rattle.cfn_enforce.specs.Splits.{AllDecided, IsSplit};
+    ghost use Rattle.cfn_branch.specs.Fewest.{IsFewestSplit};
+
+    ghost made_of = { λ s. s };
+
+    /// It takes no memory.
+    fn make(_alloc: Global, network: &'n Network) -> Result<Fewest<'n>, AllocError>
+        ensures { IfOk result (λ made. made ≡ network.now) }
+    {
+        Ok(Fewest { network })
+    }
+
+    /// The decision that the numbers of live values name.
+    fn choose(&self, store: &Store<'_>, _incidence: &Incidence) -> Option<Decision>
+        requires network { store.now.network ≡ self.now }
+        requires incidence { _incidence.now ≡ self.now }
+        ensures splits { MatchOption result (AllDecided store.now) (IsSplit store.now) }
+        ensures named { IfSome result (IsFewestSplit store.now) }
+    {
+        split_fewest(store)
     }
 }

@@ -61,3 +61,32 @@ fn search_names_a_decision(rt: HostRuntime) -> Result<(), Fail> {
     assert_eq!(rt; decision, Some(middle));
     Ok(())
 }
+
+#[test]
+fn few_values_are_tried_one_by_one(rt: HostRuntime) -> Result<(), Fail> {
+    let network = row(rt.alloc())?;
+    let decision = decision_at_root::<Fewest<'_>>(rt.alloc(), &network)?;
+    let first = Decision::Is {
+        variable: 0,
+        value: 0,
+    };
+    assert_eq!(rt; decision, Some(first));
+    Ok(())
+}
+
+/// A variable with ten values, and one with nine.
+fn wide(alloc: Global) -> Result<Network, AllocError> {
+    Builder::make(alloc, b"wide", &[10, 9], 10)?.finish()
+}
+
+#[test]
+fn many_values_are_halved(rt: HostRuntime) -> Result<(), Fail> {
+    let network = wide(rt.alloc())?;
+    let decision = decision_at_root::<Fewest<'_>>(rt.alloc(), &network)?;
+    let half = Decision::Most {
+        variable: 1,
+        value: 3,
+    };
+    assert_eq!(rt; decision, Some(half));
+    Ok(())
+}

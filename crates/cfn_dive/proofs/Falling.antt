@@ -1,5 +1,5 @@
 -- What a part of the word has seen and keeps does not rise.
-use Rattle.std.proofs.Common.{◌≡◌, ℕ, ◌<◌, ◌≤◌, Bool, true, false, nat_lt, if◌then◌else◌, Option, refl, sym, ap, ◌∙◌, ltb-true, arith}
+use Rattle.std.proofs.Common.{◌≡◌, ℕ, ◌≤◌, Bool, true, false, nat_lt, if◌then◌else◌, Option, refl, ap, ◌∙◌, ltb-true, arith}
 use Rattle.cfn_model.specs.Network.{Network}
 use Rattle.cfn_model.specs.Certificate.{Solution, threshold_of}
 use Rattle.cfn_low.specs.Holding.{Holding, kept, price_of}

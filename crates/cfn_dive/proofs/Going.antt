@@ -1,5 +1,5 @@
 -- Where a stack stands after its current leaf was split, or closed.
-use Rattle.std.proofs.Common.{◌≡◌, ◌≢◌, ℕ, zero, suc, ◌+◌, ◌<◌, ◌≤◌, ◌^◌, ◌⊎◌, inl, inr, List, [], ◌∷◌, ◌++◌, length, Some, refl, sym, ap, ◌∙◌, subst, arith}
+use Rattle.std.proofs.Common.{◌≡◌, ℕ, zero, suc, ◌+◌, ◌<◌, ◌≤◌, inl, inr, List, [], ◌∷◌, ◌++◌, length, refl, sym, ap, ◌∙◌, subst, arith}
 use Rattle.cfn_model.specs.declared.step.Step.{Step}
 use Rattle.cfn_model.specs.declared.step.Decision.{Decision}
 use Rattle.cfn_model.specs.declared.step.Event.{Event}
@@ -7,13 +7,12 @@ use Rattle.cfn_model.specs.declared.step.Event.TheVariants.{Took, Refused}
 use Rattle.cfn_model.specs.Steps.{after}
 use Rattle.cfn_model.specs.Tree as trees
 use Rattle.cfn_model.specs.Tree.{open_leaves}
-use Rattle.cfn_proof.specs.declared.tree.NodeId.{NodeId}
 use Rattle.cfn_proof.specs.declared.tree.Node.{Node}
-use Rattle.cfn_proof.specs.Nodes.{node_at, tree_at, tree_of, IsLinked, split_behind_at, split_end, close_at}
+use Rattle.cfn_proof.specs.Nodes.{node_at, tree_at, IsLinked, split_behind_at, split_end, close_at}
 use Rattle.cfn_proof.proofs.CallerLemmas.{length-split_behind_at, split_behind_at-same, split_behind_at-other, split_behind_at-first, split_behind_at-second, length-close_at, close_at-same, close_at-other}
 use Rattle.cfn_dive.specs.Backtracks.{one_if_none, backtracks}
 use Rattle.cfn_dive.specs.Stack.{Place, IsOpenLeaf, IsNone, Stack, at_leaf, in_first, in_second}
-use Rattle.cfn_dive.proofs.Stacks.{IsChanged, last_of, none_last, current_open, as_split, as_free, as_shut, some_open, other_open, split_apart, first_same, took_trees, refused_trees, same_split, closed_same}
+use Rattle.cfn_dive.proofs.Stacks.{IsChanged, last_of, none_last, as_split, as_free, as_shut, some_open, other_open, split_apart, first_same, took_trees, refused_trees}
 
 pub counts_none : (n : ℕ) → 1 ≤ n → one_if_none n ≡ 0
 counts_none zero h = absurd (omega (arith, h))

@@ -5,3 +5,4 @@ pub mod States
 pub mod Falling
 pub mod Onwards
 pub mod Makings
+pub mod Splitting

@@ -1,12 +1,11 @@
 -- What a dive has made where it ends, and what it begins with.
-use Rattle.std.proofs.Common.{◌≡◌, ℕ, zero, suc, ◌+◌, ◌<◌, ◌≤◌, ◌⊎◌, inl, inr, Bool, true, false, List, [], ◌∷◌, refl, sym, ap, ◌∙◌, subst, arith}
-use Rattle.std.specs.Prelude.{◌↔◌, ◌==◌, Option, None, Some, IfSome, MatchOption, Result, Ok, Err, IfOk}
+use Rattle.std.proofs.Common.{◌≡◌, ℕ, ◌+◌, ◌<◌, ◌≤◌, inl, inr, Bool, true, false, List, [], ◌∷◌, refl, sym, ap, ◌∙◌, subst, arith}
+use Rattle.std.specs.Prelude.{◌==◌, Option, None, Some, IfSome, MatchOption, Result, Ok, Err, IfOk}
 use Rattle.cfn_model.specs.declared.limits.TheConstants.{GREATEST}
 use Rattle.cfn_model.specs.declared.step.Event.{Event}
 use Rattle.cfn_model.specs.Network.{Network}
 use Rattle.cfn_model.specs.Paths.{HasSmallCosts, TameAlong, Tame}
-use Rattle.cfn_model.specs.Sums.{floor}
-use Rattle.cfn_model.specs.Tree.{Tree, Closed, Valid, Strict, count, open_leaves}
+use Rattle.cfn_model.specs.Tree.{Closed, Valid, Strict, count, open_leaves}
 use Rattle.cfn_proof.specs.declared.tree.Node.{Node}
 use Rattle.cfn_proof.specs.Nodes.{open_node, tree_of}
 use Rattle.cfn_machine.specs.Pool.{Task, IsTask}
@@ -15,7 +14,7 @@ use Rattle.cfn_dive.specs.declared.growing.Grown.{Grown}
 use Rattle.cfn_dive.specs.declared.growth.Growth.{Growth}
 use Rattle.cfn_dive.specs.declared.growth.Leaf.{Leaf}
 use Rattle.cfn_dive.specs.Backtracks.{backtracks}
-use Rattle.cfn_dive.specs.Stack.{Place, Stack, at_leaf}
+use Rattle.cfn_dive.specs.Stack.{Stack, at_leaf}
 use Rattle.cfn_dive.specs.Growing.{AreEnforced, IsGrown}
 use Rattle.cfn_dive.specs.Diving.{IsAt, IsDiving, GoesOn}
 use Rattle.cfn_dive.specs.Making.{HasEnded, IsMade}

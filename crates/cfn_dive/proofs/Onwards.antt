@@ -1,6 +1,7 @@
 -- The store goes on behind the leaf that is expanded.
-use Rattle.std.proofs.Common.{◌≡◌, ℕ, ◌+◌, ◌<◌, ◌≤◌, ◌^◌, ◌++◌, Bool, true, false, inl, List, [], length, refl, sym, ap, ◌∙◌, subst, arith}
-use Rattle.std.specs.Prelude.{Option, Some, None, MatchOption}
+use Rattle.std.proofs.Common.{◌≡◌, ℕ, ◌+◌, ◌<◌, ◌≤◌, ◌^◌, ◌++◌, Bool, true, false, inl, List, [], length, sym, ap, ◌∙◌, subst, arith}
+use Rattle.std.specs.Prelude.{Some, MatchOption}
+use Rattle.cfn_model.specs.declared.step.Event.{Event}
 use Rattle.cfn_model.specs.declared.step.Step.{Step}
 use Rattle.cfn_model.specs.Network.{Network}
 use Rattle.cfn_model.specs.Paths.{TameBlock}
@@ -76,3 +77,10 @@ from_settled s k found settled is found_is finds = subst (λ b. IsSettledOrSpent
 
 pub from_spent : (P : Network) (s : Standing) (k : ℕ) (found : Settling) (settled : Bool) → settled ≡ false → found ≡ Spent → P ≡ s.network → IsSpent (step_limit P) s found → IsSettledOrSpent settled s k
 from_spent P s k found settled is found_is same spent = subst (λ b. IsSettledOrSpent b s k) (sym is) (subst (λ Q. step_limit Q ≤ length s.block) same (subst (IsSpent (step_limit P) s) found_is spent))
+
+-- and no leaf can be closed there
+pub settled_alive : (P : Network) (path : List Event) (k : ℕ) (found : Settling) → found ≡ Settled → Finds P path k found → CanClose P path k → ⊥
+settled_alive P path k found is finds = (subst (Finds P path k) is finds).1
+
+pub spent_alive : (P : Network) (path : List Event) (k : ℕ) (found : Settling) → found ≡ Spent → Finds P path k found → CanClose P path k → ⊥
+spent_alive P path k found is finds = subst (Finds P path k) is finds

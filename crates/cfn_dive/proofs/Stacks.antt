@@ -1,7 +1,5 @@
 -- What a split or a closing of the current leaf makes of a stack and of the tree.
-use Rattle.std.proofs.Common.{◌≡◌, ◌≢◌, ℕ, zero, suc, ◌+◌, ◌<◌, ◌≤◌, ◌⊎◌, inl, inr, List, [], ◌∷◌, ◌++◌, length, Some, refl, sym, ap, ◌∙◌, subst, arith, append_assoc}
-use Rattle.std.specs.Prelude.{if◌then◌else◌, ◌==◌}
-use Rattle.std.specs.List.{AllByRecursion}
+use Rattle.std.proofs.Common.{◌≡◌, ◌≢◌, ℕ, zero, suc, ◌+◌, ◌<◌, ◌≤◌, ◌⊎◌, inl, inr, List, [], ◌∷◌, ◌++◌, length, refl, sym, ap, ◌∙◌, subst, arith, append_assoc}
 use Rattle.cfn_model.specs.declared.step.Step.{Step}
 use Rattle.cfn_model.specs.declared.step.Decision.{Decision}
 use Rattle.cfn_model.specs.declared.step.Event.{Event}
@@ -13,9 +11,8 @@ use Rattle.cfn_proof.specs.declared.tree.NodeId.{NodeId}
 use Rattle.cfn_proof.specs.declared.tree.End.{End}
 use Rattle.cfn_proof.specs.declared.tree.End.TheVariants.{Free, Shut, Split}
 use Rattle.cfn_proof.specs.declared.tree.Node.{Node}
-use Rattle.cfn_proof.specs.Nodes.{node_at, open_node, tree_at, with_children, IsLinked, IsFree, split_behind_at, split_end, close_at}
-use Rattle.cfn_proof.proofs.CallerLemmas.{tree_at_is, length-split_behind_at, split_behind_at-same, split_behind_at-other, split_behind_at-first, split_behind_at-second, length-close_at, close_at-same, close_at-other}
-use Rattle.cfn_dive.specs.Backtracks.{backtracks}
+use Rattle.cfn_proof.specs.Nodes.{node_at, tree_at, with_children, IsLinked, IsFree}
+use Rattle.cfn_proof.proofs.CallerLemmas.{tree_at_is}
 use Rattle.cfn_dive.specs.Stack.{Place, IsOpenLeaf, IsNone, Stack, at_leaf, in_first, in_second}
 
 split_not_free : {e : End} {d : Decision} {first second : NodeId} → e ≡ Split d first second → e ≡ Free → ⊥

@@ -1,16 +1,16 @@
 -- The leaf that is expanded is closed or split, and the store goes back.
-use Rattle.std.proofs.Common.{◌≡◌, ◌≢◌, ℕ, zero, suc, ◌+◌, ◌-◌, ◌<◌, ◌≤◌, inl, inr, List, [], ◌∷◌, ◌++◌, length, map, refl, sym, ap, ◌∙◌, subst, append_assoc, length-append, Bool, true, false, Vec, Global, arith}
+use Rattle.std.proofs.Common.{◌≡◌, ℕ, ◌+◌, ◌<◌, ◌≤◌, inl, inr, List, [], ◌∷◌, ◌++◌, length, refl, sym, ap, ◌∙◌, subst, append_assoc, length-append, Bool, true, false, Vec, Global, arith}
 use Rattle.std.specs.Prelude.{Some, vec_len}
 use Rattle.cfn_model.specs.declared.step.Step.{Step}
 use Rattle.cfn_model.specs.declared.step.Decision.{Decision}
 use Rattle.cfn_model.specs.declared.step.Event.{Event}
-use Rattle.cfn_model.specs.declared.step.Event.TheVariants.{Did, Took, Refused}
+use Rattle.cfn_model.specs.declared.step.Event.TheVariants.{Took, Refused}
 use Rattle.cfn_model.specs.Network.{Network, cost}
 use Rattle.cfn_model.specs.Certificate.{threshold_of}
 use Rattle.cfn_net.specs.Scoring.{Scoring}
-use Rattle.cfn_model.specs.Paths.{TameBlock, TameAlong, HasSmallCosts}
+use Rattle.cfn_model.specs.Paths.{TameBlock}
 use Rattle.cfn_model.specs.Steps.{IsDecision, Run, after}
-use Rattle.cfn_model.specs.Tree.{CanClose, IsStrictSplit, open_leaves}
+use Rattle.cfn_model.specs.Tree.{IsStrictSplit, open_leaves}
 use Rattle.cfn_proof.specs.declared.tree.NodeId.{NodeId}
 use Rattle.cfn_proof.specs.declared.tree.Node.{Node}
 use Rattle.cfn_proof.specs.Nodes.{tree_of, IsLinked, split_behind_at, close_at}
@@ -19,7 +19,7 @@ use Rattle.cfn_store.specs.Marking.{IsBehind}
 use Rattle.cfn_dive.specs.declared.parts.Parts.{Parts}
 use Rattle.cfn_dive.specs.declared.parts.Waiting.{Waiting}
 use Rattle.cfn_dive.specs.declared.growth.Growth.{Growth}
-use Rattle.cfn_dive.specs.Stack.{Place, IsOpenLeaf, Stack}
+use Rattle.cfn_dive.specs.Stack.{Place, Stack}
 use Rattle.cfn_dive.specs.Growing.{IsEnforced, IsGrown}
 use Rattle.cfn_consistency.specs.Consistency.{AreFullyConsistent}
 use Rattle.cfn_consistency.proofs.CallerLemmas.{fulls_rise}

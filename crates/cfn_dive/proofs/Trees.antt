@@ -1,9 +1,9 @@
 -- What a split or a closing of the current leaf keeps of the tree.
-use Rattle.std.proofs.Common.{◌≡◌, ◌≢◌, ℕ, zero, suc, ◌+◌, ◌<◌, ◌≤◌, List, [], ◌∷◌, ◌++◌, length, sym, ap, ◌∙◌, subst, arith}
+use Rattle.std.proofs.Common.{◌≡◌, ℕ, ◌+◌, ◌≤◌, List, [], ◌∷◌, ◌++◌, sym, ap, ◌∙◌, subst, arith}
 use Rattle.cfn_model.specs.declared.step.Step.{Step}
 use Rattle.cfn_model.specs.declared.step.Decision.{Decision}
 use Rattle.cfn_model.specs.declared.step.Event.{Event}
-use Rattle.cfn_model.specs.declared.step.Event.TheVariants.{Did, Took, Refused}
+use Rattle.cfn_model.specs.declared.step.Event.TheVariants.{Did}
 use Rattle.cfn_model.specs.Network.{Network}
 use Rattle.cfn_model.specs.Paths.{HasSmallCosts, TameBlock, Tame}
 use Rattle.cfn_model.specs.Steps.{IsDecision, Run, after}

@@ -21,7 +21,7 @@ use Rattle.cfn_dive.specs.declared.parts.Waiting.{Waiting}
 use Rattle.cfn_dive.specs.declared.growth.Growth.{Growth}
 use Rattle.cfn_dive.specs.declared.growth.Leaf.{Leaf}
 use Rattle.cfn_dive.specs.Stack.{Place, Stack}
-use Rattle.cfn_dive.specs.Growing.{IsEnforced, IsGrown}
+use Rattle.cfn_dive.specs.Growing.{IsGrown}
 
 -- All parts are of a network.
 pub record IsOf (P : Network) (p : Parts) : Type 0 where

@@ -3,3 +3,4 @@ pub mod Stack
 pub mod Growing
 pub mod Diving
 pub mod Making
+pub mod Deciding

@@ -6,6 +6,7 @@ ghost use Rattle.cfn_dive.specs.Making.{IsMade, IsDived};
 
 use crate::growing::Grown;
 use crate::parts::Parts;
+use cfn_branch::Rule;
 use cfn_low::{Holder, Incumbent, Low};
 use cfn_net::Network;
 use cfn_task::{Piece, Task};
@@ -38,11 +39,11 @@ pub enum Dived {
 }
 
 impl<'n> Diver<'n> {
-    /// For the tasks of a network. An `Err` is want of memory.
-    pub fn make(alloc: Global, network: &'n Network) -> Result<Diver<'n>, AllocError>
+    /// For the tasks of a network, whose splits `rule` names. An `Err` is want of memory.
+    pub fn make(alloc: Global, network: &'n Network, rule: Rule) -> Result<Diver<'n>, AllocError>
         ensures { IfOk result (λ diver. diver ≡ network.now) }
     {
-        let parts = Parts::make(alloc, network)?;
+        let parts = Parts::make(alloc, network, rule)?;
         Ok(Diver { parts })
     }
 

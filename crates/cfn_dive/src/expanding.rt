@@ -6,7 +6,7 @@ ghost use Rattle.cfn_model.specs.Tree.{CanClose};
 ghost use Rattle.cfn_store.specs.Standing.{history};
 ghost use Rattle.cfn_store.specs.Marking.{IsBehind};
 ghost use Rattle.cfn_trim.specs.Trimming.{IsBegin};
-ghost use Rattle.cfn_branch.specs.Choosing.{AllDecided, IsOpen};
+ghost use Rattle.cfn_branch.specs.Choosing.{AllDecided, IsSplit};
 ghost use Rattle.cfn_edac.specs.Settling.{IsBehindSettled};
 ghost use Rattle.cfn_node.specs.Limit.{step_limit};
 ghost use Rattle.cfn_node.specs.Enforcing.{Finds, IsSpent};
@@ -14,13 +14,12 @@ ghost use Rattle.cfn_dive.specs.Diving.{IsOf, HasFallen, IsWaiting, IsDiving, Is
 
 use crate::growth::{Growth, Leaf};
 use crate::parts::{Parts, Waiting};
-use cfn_branch::choose;
 use cfn_close::shut;
 use cfn_low::{Holder, Incumbent, Low};
 use cfn_model::{Decision, Event};
 use cfn_nc::Settling;
-use cfn_net::{Network, Scored};
-use cfn_node::{Around, Asked, enforce, first_value, since, take_values};
+use cfn_net::Network;
+use cfn_node::{Around, Asked, enforce, since, take_values};
 use cfn_proof::{Block, NodeId, Tree};
 use cfn_store::Mark;
 use cfn_trim::block_stays_tame;
@@ -64,8 +63,8 @@ impl<'n> Parts<'n> {
             Settling::Settled => true,
             Settling::Spent => false,
         };
-        match choose(&self.weights, &self.incidence, &self.store) {
-            Some(x) => self.divide(alloc, growth, leaf.id, x, settled, holder.best()),
+        match self.decide(holder.best()) {
+            Some(decision) => self.divide(alloc, growth, leaf.id, decision, settled),
             None => self.conclude(alloc, network, growth, leaf.id, low, holder),
         }
     }
@@ -138,30 +137,26 @@ impl<'n> Parts<'n> {
         Ok(())
     }
 
-    /// Splits a leaf behind the store's block, on a live value of a variable that has another one. The first child is current
+    /// Splits a leaf behind the store's block, by a decision that leaves a live value on each side. The first child is current
     /// then, and the second waits. An `Err` is want of memory.
     fn divide(
         &mut self,
         alloc: Global,
         growth: &mut Growth,
         leaf: NodeId,
-        x: u32,
+        decision: Decision,
         settled: bool,
-        best: &Scored,
     ) -> Result<(), AllocError>
         requires expanding { IsExpanding self.old.store.network self.old growth.old leaf }
-        requires undecided { IsOpen self.old.store x }
+        requires splits { IsSplit self.old.store decision }
         requires settled { IsSettledOrSpent settled self.old.store growth.old.threshold }
         requires threshold { growth.old.threshold ≤ self.old.store.network.upper }
-        requires best { best.now.network ≡ self.old.store.network }
         requires room { 0 < self.old.store.spare }
         ensures expanded { OnOk result (IsExpanded self.old.store.network growth.old growth.new self.new) }
         ensures threshold { growth.new.threshold ≡ growth.old.threshold }
         ensures dive { IsSameDive growth.old growth.new }
         ensures of { IsOf self.old.store.network self.new }
     {
-        let value = first_value(best, &mut self.enforcer, &self.store, &self.incidence, x);
-        let decision = Decision::Is { variable: x, value };
         self.waiting.reserve(1)?;
         let block = self.store.block(alloc)?;
         growth.tree.linked();

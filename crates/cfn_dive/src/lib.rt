@@ -3,6 +3,7 @@
 //! - `diver.rt`: `Diver`, what a worker has for its dives, and what it makes of a task, a piece;
 //! - `growing.rt`: a dive from its beginning to its end;
 //! - `expanding.rt`: one leaf is expanded: closed or split;
+//! - `deciding.rt`: by which decision, as the diver's rule names it;
 //! - `parts.rt`: what a diver is made of, and the leaves that wait;
 //! - `growth.rt`: the tree that a dive makes.
 //!
@@ -14,6 +15,7 @@
 //! lowers it for all workers.
 #![tactic(auto)]
 
+mod deciding;
 mod diver;
 mod expanding;
 mod growing;

@@ -3,7 +3,7 @@
 ghost use Rattle.std.specs.Prelude.{◌≡◌, length, None, IfOk};
 ghost use Rattle.cfn_dive.specs.Diving.{IsOf};
 
-use cfn_branch::Weights;
+use cfn_branch::{Rule, Weights};
 use cfn_edac::Enforcer;
 use cfn_incidence::Incidence;
 use cfn_model::Decision;
@@ -32,6 +32,8 @@ pub struct Waiting<'n> {
 pub struct Parts<'n> {
     pub store: Store<'n>,
     pub enforcer: Enforcer<'n>,
+    /// By which rule splits are named.
+    pub rule: Rule,
     /// How often each function was to blame, and where each variable stands: what the brancher goes by.
     pub weights: Weights,
     pub incidence: Incidence,
@@ -47,8 +49,9 @@ pub struct Parts<'n> {
 
 impl<'n> Parts<'n> {
     /// The parts for a network, with the store at its root. An `Err` is want of memory.
-    pub fn make(alloc: Global, network: &'n Network) -> Result<Parts<'n>, AllocError>
+    pub fn make(alloc: Global, network: &'n Network, rule: Rule) -> Result<Parts<'n>, AllocError>
         ensures of { IfOk result (IsOf network.now) }
+        ensures rule { IfOk result (λ made. made.rule ≡ rule) }
     {
         let store = Store::build(alloc, network)?;
         let (enforcer, trimmer) = helpers(alloc, network)?;
@@ -57,6 +60,7 @@ impl<'n> Parts<'n> {
         Ok(Parts {
             store,
             enforcer,
+            rule,
             weights,
             incidence,
             trimmer,

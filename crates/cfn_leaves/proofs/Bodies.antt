@@ -128,9 +128,7 @@ body_taken P b tree first e path worker grant listing once body leaf is is_free 
       body = record {
         are = b'.are;
         listed = listed_less b.table new b.listing.leaves listing.leaves first body.listed permuted (λ m other. get_or-set_other b.table n m _ None other) (ap free_entry own);
-        none = body.none;
         room = omega (arith, outs', was, spare, body.room);
-        more = omega (arith, outs', was, long, body.more);
         opened = omega (arith, body.opened, opened');
         granted = omega (arith, body.granted, granted');
         both = omega (arith, outs', was, long, body.both, opened');
@@ -162,9 +160,7 @@ body_freed P b tree n e path worker grant leaf listing once body at is is_out nu
         are = b'.are;
         listed = listed_more b.table new b.listing.leaves listing.leaves leaf body.listed permuted (λ m other. get_or-set_other b.table n m _ None (λ same. other (same ∙ sym number))) (ap (λ k. free_entry (entry_at b.table k)) number ∙ not_free)
             (record { entry = record e { mark = held.Free }; is = ap (entry_at new) number ∙ own; free = refl; floor = sym low });
-        none = body.none;
         room = omega (arith, outs', was, spare, body.room);
-        more = omega (arith, outs', was, long, body.more);
         opened = omega (arith, body.opened, opened');
         granted = omega (arith, body.granted, granted');
         both = omega (arith, outs', was, some, long, body.both, opened');

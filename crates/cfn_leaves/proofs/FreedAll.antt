@@ -22,24 +22,24 @@ use Rattle.cfn_leaves.proofs.Lists.{outs_set, out_counts}
 use Rattle.cfn_leaves.proofs.Recalled.{freed, recalled_same, recalled_all, some_out}
 
 -- what else is kept stands for a tree that is the same with its leaves called back
-pub record GoesOn (P : Network) (nodes : List Node) (table : List (Option Entry)) (listing spare : Listing) (opened : ℕ) (tree : PoolTree) : Type 0 where
+pub record GoesOn (P : Network) (nodes : List Node) (table : List (Option Entry)) (listing : Listing) (opened : ℕ) (tree : PoolTree) : Type 0 where
   pub given : ℕ
-  pub body : IsBody P (record { nodes = nodes; table = table; listing = listing; spare = spare; opened = opened; granted = given }) (marked nodes table)
+  pub body : IsBody P (record { nodes = nodes; table = table; listing = listing; opened = opened; granted = given }) (marked nodes table)
   pub same : recalled (marked nodes table) ≡ recalled tree
 
 pub record Goes (table : List (Option Entry)) (listing : Listing) (new : List (Option Entry)) (left : Listing) (number : ℕ) : Type 0 where
   pub len : length new ≡ length table
   pub room : outs new ≤ left.spare
   pub none : (n : ℕ) → n < number → out_entry (entry_at new n) ≡ 0
-  pub goes : (P : Network) (nodes : List Node) (spare : Listing) (opened granted : ℕ) →
-      IsBody P (record { nodes = nodes; table = table; listing = listing; spare = spare; opened = opened; granted = granted }) (marked nodes table) → GoesOn P nodes new left spare opened (marked nodes table)
+  pub goes : (P : Network) (nodes : List Node) (opened granted : ℕ) →
+      IsBody P (record { nodes = nodes; table = table; listing = listing; opened = opened; granted = granted }) (marked nodes table) → GoesOn P nodes new left opened (marked nodes table)
 
 pub begun : (table : List (Option Entry)) (listing : Listing) → outs table ≤ listing.spare → Goes table listing table listing 0
 begun table listing room = record {
   len = refl;
   room = room;
   none = λ n h. absurd (omega (arith, h));
-  goes = λ P nodes spare opened granted body. record { given = granted; body = body; same = refl };
+  goes = λ P nodes opened granted body. record { given = granted; body = body; same = refl };
 }
 
 -- the entry at the number is not out
@@ -74,10 +74,10 @@ freed_one table listing new left number e next more once goes is other next_is p
         | inl same ↦ subst (λ n. out_entry (entry_at next n) ≡ 0) (sym same) (ap out_entry own)
         | inr less ↦ ap out_entry (ap (λ t. entry_at t n) next_is ∙ get_or-set_other new number n _ None less) ∙ goes.none n (omega (arith, h, less))
       ];
-      goes = λ P nodes spare opened granted body.
-          let on = goes.goes P nodes spare opened granted body in
+      goes = λ P nodes opened granted body.
+          let on = goes.goes P nodes opened granted body in
           let h : Holding = record { network = P; tree = nodes; table = new; budget = 0; begun = 0; nodes = 0; rows = [] } in
-          let f = freed h left spare more opened on.given number out.0 out.1.0 e next once on.body is out.1.1 permuted room next_is in
+          let f = freed h left more opened on.given number out.0 out.1.0 e next once on.body is out.1.1 permuted room next_is in
           record {
             given = on.given - out.1.0;
             body = f.body;
@@ -87,12 +87,12 @@ freed_one table listing new left number e next more once goes is other next_is p
 
 -- where none is out the tree is called back, and nothing is granted
 pub ended : (table : List (Option Entry)) (listing : Listing) (new : List (Option Entry)) (left : Listing) (number : ℕ) → BeforeOnceLaw → Goes table listing new left number → length table ≤ number → AllFreed table listing new left
-ended table listing new left number once goes far = record { len = goes.len; body = λ P nodes spare opened given body. all_back P nodes spare opened given body } where
-  all_back : (P : Network) (nodes : List Node) (spare : Listing) (opened given : ℕ) →
-      IsBody P (record { nodes = nodes; table = table; listing = listing; spare = spare; opened = opened; granted = given }) (marked nodes table) →
-      IsBody P (record { nodes = nodes; table = new; listing = left; spare = spare; opened = opened; granted = 0 }) (recalled (marked nodes table))
-  all_back P nodes spare opened given body =
-      let on = goes.goes P nodes spare opened given body in
+ended table listing new left number once goes far = record { len = goes.len; body = λ P nodes opened given body. all_back P nodes opened given body } where
+  all_back : (P : Network) (nodes : List Node) (opened given : ℕ) →
+      IsBody P (record { nodes = nodes; table = table; listing = listing; opened = opened; granted = given }) (marked nodes table) →
+      IsBody P (record { nodes = nodes; table = new; listing = left; opened = opened; granted = 0 }) (recalled (marked nodes table))
+  all_back P nodes opened given body =
+      let on = goes.goes P nodes opened given body in
       let tree = marked nodes new in
       let none : (n worker grant : ℕ) (path : List Event) → IsLeaf tree [] n (Out worker grant) path → ⊥ = λ n worker grant path leaf.
       let node = leaf_node P nodes new tree once on.body.are n (Out worker grant) path leaf in
@@ -101,5 +101,5 @@ ended table listing new left number once goes far = record { len = goes.len; bod
       let one : out_entry (entry_at new n) ≡ 1 = ap out_entry node.is in omega (arith, zero, one) in
       let tree_is : tree ≡ recalled (marked nodes table) = sym (recalled_all tree [] none) ∙ on.same in
       let nothing : on.given ≡ 0 = on.body.granted ∙ ap granted tree_is ∙ recalled_granted (marked nodes table) in
-      subst (λ g. IsBody P (record { nodes = nodes; table = new; listing = left; spare = spare; opened = opened; granted = g }) (recalled (marked nodes table))) nothing
-      (subst (λ t. IsBody P (record { nodes = nodes; table = new; listing = left; spare = spare; opened = opened; granted = on.given }) t) tree_is on.body)
+      subst (λ g. IsBody P (record { nodes = nodes; table = new; listing = left; opened = opened; granted = g }) (recalled (marked nodes table))) nothing
+      (subst (λ t. IsBody P (record { nodes = nodes; table = new; listing = left; opened = opened; granted = on.given }) t) tree_is on.body)

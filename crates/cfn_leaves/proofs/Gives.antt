@@ -1,5 +1,5 @@
 -- What comes of a piece that is given.
-use Rattle.std.proofs.Common.{◌≡◌, ℕ, ◌+◌, ◌-◌, ◌<◌, ◌≤◌, ◌^◌, List, [], ◌++◌, map, length, set, refl, sym, ap, ap₂, ◌∙◌, subst, arith, Option, Some, None, All, length-append}
+use Rattle.std.proofs.Common.{◌≡◌, ℕ, ◌+◌, ◌-◌, ◌<◌, ◌≤◌, ◌^◌, List, [], ◌++◌, map, length, set, refl, sym, ap, ap₂, ◌∙◌, subst, arith, Option, None, All, length-append}
 use Rattle.std.proofs.lemmas.List.{get_or-set_same, get_or-set_other, length-set, length-map}
 use Rattle.std.proofs.lemmas.List.Elements.{All-weaker}
 use Rattle.cfn_model.specs.Network.{Network}
@@ -14,7 +14,6 @@ use Rattle.cfn_machine.specs.Pool as pool
 use Rattle.cfn_machine.specs.Pool.{Mark, Out, PoolTree, IsLeaf, Replaced, granted, numbered, Task, Piece, View}
 use Rattle.cfn_machine.specs.Steps.{PoolGives, IsOut}
 use Rattle.cfn_machine.proofs.CallerLemmas.{numbered_is, numbered_granted, replaced_granted}
-use Rattle.cfn_leaves.specs.declared.entry.Mark.TheVariants as held
 use Rattle.cfn_leaves.specs.declared.entry.Entry.{Entry}
 use Rattle.cfn_leaves.specs.declared.walk.Spot.{Spot}
 use Rattle.cfn_leaves.specs.Standing.{entry_at, entry, marked, Are}
@@ -22,6 +21,7 @@ use Rattle.cfn_leaves.specs.Listed.{outs, out_entry, out_mark, free_entry, free_
 use Rattle.cfn_leaves.specs.Ways.{IsPathOf}
 use Rattle.cfn_leaves.specs.Walked.{spots_of}
 use Rattle.cfn_leaves.specs.Placed.{placed, FitsPlace}
+use Rattle.cfn_leaves.specs.Given.{IsTaskEntry}
 use Rattle.cfn_leaves.specs.Value.{Holding, Body, IsBody, pool_of, pool_tree}
 use Rattle.cfn_leaves.proofs.Trees.{leaf_node, marked_is}
 use Rattle.cfn_leaves.proofs.Marks.{entry_there, replaced_opened}
@@ -32,12 +32,7 @@ use Rattle.cfn_leaves.proofs.Recalled.{out_granted}
 use Rattle.cfn_leaves.proofs.Seats.{spots_count, spots_within}
 use Rattle.cfn_leaves.proofs.Grafting.{grafted, outs_behind}
 
--- the entry of a leaf that is out as a task says
-pub record IsTaskEntry (h : Holding) (task : Task) (e : Entry) : Type 0 where
-  pub is : entry_at h.table task.leaf ≡ Some e
-  pub mark : e.mark ≡ held.Out task.worker task.grant
-  pub of : IsPathOf h.tree e.node.number task.path
-
+-- a leaf that is out has an entry
 pub task_entry : (h : Holding) (b : Body) (task : Task) (view : View) → BeforeOnceLaw → Are h.network h.tree h.table (pool_tree h) → IsOut (pool_of h view) task → (e : Entry) × IsTaskEntry h task e
 task_entry h b task view once are leaf =
     let node = leaf_node h.network h.tree h.table (pool_tree h) once are task.leaf (Out task.worker task.grant) task.path leaf in
@@ -91,15 +86,15 @@ pub record Change (h : Holding) (listing left : Listing) (e : Entry) (task : Tas
   pub listed : IsListed (set h.table task.leaf None) listing.leaves → IsListed table left.leaves
   pub long : length left.leaves ≡ length listing.leaves + length spots
 
-pub took : (h : Holding) (listing spare left kept : Listing) (opened given threshold : ℕ) (e : Entry) (task : Task) (piece nodes : List Node) (spots : List Spot) (table : List (Option Entry)) → BeforeOnceLaw →
-    IsBody h.network (body_of h listing spare opened given) (pool_tree h) → IsTaskEntry h task e → Change h listing left e task piece nodes spots table →
-    opened ≤ length listing.leaves + left.spare → opened + length spots ≤ kept.spare → kept.leaves ≡ [] → length h.table + length spots ≤ 2 ^ 32 →
+pub took : (h : Holding) (listing left : Listing) (opened given threshold : ℕ) (e : Entry) (task : Task) (piece nodes : List Node) (spots : List Spot) (table : List (Option Entry)) → BeforeOnceLaw →
+    IsBody h.network (body_of h listing opened given) (pool_tree h) → IsTaskEntry h task e → Change h listing left e task piece nodes spots table →
+    opened ≤ length listing.leaves + left.spare → length h.table + length spots ≤ 2 ^ 32 →
     Took h (record h { tree = nodes; table = table; nodes = h.nodes + count (tree_of piece) })
-    (record { nodes = nodes; table = table; listing = left; spare = kept; opened = opened + length spots - 1; granted = given - task.grant })
+    (record { nodes = nodes; table = table; listing = left; opened = opened + length spots - 1; granted = given - task.grant })
     (record { task = task; tree = tree_of piece; threshold = threshold })
-took h listing spare left kept opened given threshold e task piece nodes spots table once body own change room more none few =
+took h listing left opened given threshold e task piece nodes spots table once body own change room few =
     let P = h.network in
-    let b = body_of h listing spare opened given in
+    let b = body_of h listing opened given in
     let tree = pool_tree h in
     let n = task.leaf in
     let next = length h.table in
@@ -132,12 +127,10 @@ took h listing spare left kept opened given threshold e task piece nodes spots t
             ap (λ t. record { tree = t; next = length table; budget = h.budget; begun = h.begun; nodes = h.nodes + count (tree_of piece); rows = h.rows; view = record view { seen = word } }) new_tree
             ∙ ap (λ m. record { tree = g.tree'; next = m; budget = h.budget; begun = h.begun; nodes = h.nodes + count (tree_of piece); rows = h.rows; view = record view { seen = word } }) (new_len ∙ ap (λ k. next + k) size);
       };
-      body = subst (IsBody P (record { nodes = nodes; table = table; listing = left; spare = kept; opened = opened + length spots - 1; granted = given - task.grant })) (sym new_tree) (record {
+      body = subst (IsBody P (record { nodes = nodes; table = table; listing = left; opened = opened + length spots - 1; granted = given - task.grant })) (sym new_tree) (record {
         are = are;
         listed = change.listed listed;
-        none = none;
         room = omega (arith, outs', outs'', was, body.both, room);
-        more = omega (arith, outs', outs'', was, body.both, change.long, more);
         opened = omega (arith, opened', place_open, body.opened);
         granted = omega (arith, granted', nothing, body.granted);
         both = omega (arith, body.both, change.long, outs', outs'', was);
@@ -147,16 +140,13 @@ took h listing spare left kept opened given threshold e task piece nodes spots t
     }
 
 -- more room changes nothing
-pub reserved : (h : Holding) (listing spare listing' spare' : Listing) (opened given : ℕ) (tree : PoolTree) → IsBody h.network (body_of h listing spare opened given) tree → listing'.leaves ≡ listing.leaves → listing.spare ≤ listing'.spare →
-    spare'.leaves ≡ spare.leaves → spare.spare ≤ spare'.spare → IsBody h.network (body_of h listing' spare' opened given) tree
-reserved h listing spare listing' spare' opened given tree body same room none more =
+pub reserved : (h : Holding) (listing listing' : Listing) (opened given : ℕ) (tree : PoolTree) → IsBody h.network (body_of h listing opened given) tree → listing'.leaves ≡ listing.leaves → listing.spare ≤ listing'.spare → IsBody h.network (body_of h listing' opened given) tree
+reserved h listing listing' opened given tree body same room =
     let len = ap length same in
     record {
       are = body.are;
       listed = subst (IsListed h.table) (sym same) body.listed;
-      none = none ∙ body.none;
       room = omega (arith, body.room, room);
-      more = omega (arith, body.more, more, len);
       opened = body.opened;
       granted = body.granted;
       both = omega (arith, body.both, len);

@@ -22,8 +22,8 @@ use Rattle.cfn_leaves.proofs.Lists.{free_listed}
 use Rattle.cfn_leaves.proofs.Bodies.{path_once, first_held, body_taken}
 
 -- what is kept beside the nodes and the table
-abbrev pub body_of : Holding → Listing → Listing → ℕ → ℕ → Body
-body_of h listing spare opened granted = record { nodes = h.tree; table = h.table; listing = listing; spare = spare; opened = opened; granted = granted }
+abbrev pub body_of : Holding → Listing → ℕ → ℕ → Body
+body_of h listing opened granted = record { nodes = h.tree; table = h.table; listing = listing; opened = opened; granted = granted }
 
 -- where no leaf is listed, none is free
 module _ (P : Network) (b : Body) (tree : PoolTree) (once : BeforeOnceLaw) (body : IsBody P b tree) where
@@ -38,14 +38,14 @@ pub record Handed (h new : Holding) (b : Body) (worker want : ℕ) (task : Task)
   pub takes : (view : View) → PoolTakes h.network (pool_of h view) worker want task (pool_of new view)
   pub body : IsBody h.network b (pool_tree new)
 
-pub handed : (h : Holding) (listing spare rest : Listing) (opened given : ℕ) (first : OpenLeaf) (e : Entry) (path : List Event) (worker want left grant : ℕ) (table : List (Option Entry)) → BeforeOnceLaw →
-    IsBody h.network (body_of h listing spare opened given) (pool_tree h) → IsLeast listing.leaves first → entry_at h.table first.leaf ≡ Some e → IsPathOf h.tree e.node.number path →
+pub handed : (h : Holding) (listing rest : Listing) (opened given : ℕ) (first : OpenLeaf) (e : Entry) (path : List Event) (worker want left grant : ℕ) (table : List (Option Entry)) → BeforeOnceLaw →
+    IsBody h.network (body_of h listing opened given) (pool_tree h) → IsLeast listing.leaves first → entry_at h.table first.leaf ≡ Some e → IsPathOf h.tree e.node.number path →
     left + (h.nodes + given) ≡ h.budget → left ≢ 0 → h.nodes ≢ h.budget → 1 ≤ want → grant ≡ min want left →
     IsPermutation listing.leaves (first ∷ rest.leaves) → rest.spare ≡ listing.spare + 1 → table ≡ set h.table first.leaf (Some (record e { mark = held.Out worker grant })) →
-    Handed h (record h { table = table }) (body_of (record h { table = table }) rest spare opened (given + grant)) worker want (record { leaf = first.leaf; worker = worker; grant = grant; floor = first.floor; path = path })
-handed h listing spare rest opened given first e path worker want left grant table once body least is of lefts some unspent wants grant_is permuted room table_is =
+    Handed h (record h { table = table }) (body_of (record h { table = table }) rest opened (given + grant)) worker want (record { leaf = first.leaf; worker = worker; grant = grant; floor = first.floor; path = path })
+handed h listing rest opened given first e path worker want left grant table once body least is of lefts some unspent wants grant_is permuted room table_is =
     let P = h.network in
-    let b = body_of h listing spare opened given in
+    let b = body_of h listing opened given in
     let tree = pool_tree h in
     let own = first_held P b tree first e once body least is in
     let leaf = own.is.leaf in
@@ -67,8 +67,8 @@ handed h listing spare rest opened given first e path worker want left grant tab
         marked = subst (λ p. Replaced tree [] first.leaf Free p (Leaf first.leaf (Out worker grant) []) l.tree') (sym path_is) l.replaced;
         left = ap₂ (λ t n. record { tree = t; next = n; budget = h.budget; begun = h.begun; nodes = h.nodes; rows = h.rows; view = view }) new_tree new_len;
       };
-      body = subst (λ t. IsBody P (body_of (record h { table = table }) rest spare opened (given + grant)) t) (sym new_tree)
-          (subst (λ t. IsBody P (body_of (record h { table = t }) rest spare opened (given + grant)) l.tree') (sym table_is) l.body);
+      body = subst (λ t. IsBody P (body_of (record h { table = table }) rest opened (given + grant)) t) (sym new_tree)
+          (subst (λ t. IsBody P (body_of (record h { table = t }) rest opened (given + grant)) l.tree') (sym table_is) l.body);
     }
 
 -- what comes out of the list is its least leaf

@@ -9,7 +9,7 @@ abbrev pub value : Inside → Holding
 value l = record { network = l.network.value; tree = l.tree; table = l.table.items; budget = l.budget; begun = l.begun; nodes = l.nodes; rows = l.rows.items }
 
 abbrev pub body : Inside → Body
-body l = record { nodes = l.tree; table = l.table.items; listing = l.list; spare = l.spare; opened = l.opened; granted = l.granted }
+body l = record { nodes = l.tree; table = l.table.items; listing = l.list; opened = l.opened; granted = l.granted }
 
 -- two pools with the same parts
 abbrev pub pool : PoolTree → ℕ → ℕ → ℕ → ℕ → List Row → View → Pool

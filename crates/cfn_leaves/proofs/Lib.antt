@@ -9,6 +9,7 @@ pub mod Insides
 pub mod Recalled
 pub mod FreedAll
 pub mod ClosedFree
+pub mod Sweeps
 pub mod Bounds
 pub mod Walks
 pub mod Seats

@@ -44,10 +44,10 @@ pub record Opened (P : Network) (b : Body) (nodes : List Node) : Type 0 where
   pub next : length b.table ≡ open_leaves (tree_of nodes)
   pub body : IsBody P b (marked b.nodes b.table)
 
-pub opened : (P : Network) (nodes : List Node) (spots : List Spot) (table : List (Option Entry)) (listing spare : Listing) → BeforeOnceLaw → IsLinked nodes → spots ≡ spots_of nodes (floor P []) → table ≡ map (placed 0 1) spots →
-    IsListed table listing.leaves → length listing.leaves ≡ length spots → spare.leaves ≡ [] → length spots ≤ spare.spare → length spots ≤ 2 ^ 32 →
-    Opened P (record { nodes = nodes; table = table; listing = listing; spare = spare; opened = length spots; granted = 0 }) nodes
-opened P nodes spots table listing spare once linked spots_are table_is listed long none room few =
+pub opened : (P : Network) (nodes : List Node) (spots : List Spot) (table : List (Option Entry)) (listing : Listing) → BeforeOnceLaw → IsLinked nodes → spots ≡ spots_of nodes (floor P []) → table ≡ map (placed 0 1) spots →
+    IsListed table listing.leaves → length listing.leaves ≡ length spots → length spots ≤ 2 ^ 32 →
+    Opened P (record { nodes = nodes; table = table; listing = listing; opened = length spots; granted = 0 }) nodes
+opened P nodes spots table listing once linked spots_are table_is listed long few =
     let tree = numbered 0 (tree_of nodes) in
     let whole : table ≡ map (placed 0 1) (spots_of nodes (floor P [])) ++ [] = table_is ∙ ap (map (placed 0 1)) spots_are ∙ sym (append-nil (map (placed 0 1) (spots_of nodes (floor P [])))) in
     let stands = seated P nodes linked (length nodes) 0 (floor P []) 0 [] table [] [] linked.some (omega arith) refl whole refl in
@@ -65,12 +65,10 @@ opened P nodes spots table listing spare once linked spots_are table_is listed l
     record {
       tree_is = tree_is;
       next = len ∙ count';
-      body = subst (IsBody P (record { nodes = nodes; table = table; listing = listing; spare = spare; opened = length spots; granted = 0 })) (sym tree_is) (record {
+      body = subst (IsBody P (record { nodes = nodes; table = table; listing = listing; opened = length spots; granted = 0 })) (sym tree_is) (record {
         are = are;
         listed = listed;
-        none = none;
         room = omega (arith, nothing);
-        more = omega (arith, nothing, long, room);
         opened = count' ∙ ap open_leaves (sym same);
         granted = sym (numbered_granted (tree_of nodes) 0);
         both = omega (arith, nothing, long);
@@ -80,16 +78,15 @@ opened P nodes spots table listing spare once linked spots_are table_is listed l
     }
 
 -- so is all that is kept
-pub all_kept : (P Q : Network) (nodes nodes' : List Node) (table : List (Option Entry)) (listing listing' spare spare' : Listing) (count count' budget : ℕ) (noted : List Row) (capacity : ℕ) → Q ≡ P → nodes' ≡ nodes → listing' ≡ listing → spare' ≡ spare → count' ≡ count →
-    noted ≡ [] → 256 ≤ capacity → IsBody P (record { nodes = nodes; table = table; listing = listing; spare = spare; opened = count; granted = 0 }) (marked nodes table) →
-    IsInside Q (record { nodes = nodes'; table = table; listing = listing'; spare = spare'; opened = count'; granted = 0 }) budget 0 noted capacity
-all_kept P Q nodes nodes' table listing listing' spare spare' count count' budget noted capacity network nodes_is listing_is spare_is count_is none place body = record {
+pub all_kept : (P Q : Network) (nodes nodes' : List Node) (table : List (Option Entry)) (listing listing' : Listing) (count count' budget : ℕ) (noted : List Row) (capacity : ℕ) → Q ≡ P → nodes' ≡ nodes → listing' ≡ listing → count' ≡ count →
+    noted ≡ [] → 256 ≤ capacity → IsBody P (record { nodes = nodes; table = table; listing = listing; opened = count; granted = 0 }) (marked nodes table) →
+    IsInside Q (record { nodes = nodes'; table = table; listing = listing'; opened = count'; granted = 0 }) budget 0 noted capacity
+all_kept P Q nodes nodes' table listing listing' count count' budget noted capacity network nodes_is listing_is count_is none place body = record {
   body =
-      subst (λ N. IsBody N (record { nodes = nodes'; table = table; listing = listing'; spare = spare'; opened = count'; granted = 0 }) (marked nodes' table)) (sym network)
-      (subst (λ n. IsBody P (record { nodes = n; table = table; listing = listing'; spare = spare'; opened = count'; granted = 0 }) (marked n table)) (sym nodes_is)
-      (subst (λ l. IsBody P (record { nodes = nodes; table = table; listing = l; spare = spare'; opened = count'; granted = 0 }) (marked nodes table)) (sym listing_is)
-      (subst (λ l. IsBody P (record { nodes = nodes; table = table; listing = listing; spare = l; opened = count'; granted = 0 }) (marked nodes table)) (sym spare_is)
-      (subst (λ k. IsBody P (record { nodes = nodes; table = table; listing = listing; spare = spare; opened = k; granted = 0 }) (marked nodes table)) (sym count_is) body))));
+      subst (λ N. IsBody N (record { nodes = nodes'; table = table; listing = listing'; opened = count'; granted = 0 }) (marked nodes' table)) (sym network)
+      (subst (λ n. IsBody P (record { nodes = n; table = table; listing = listing'; opened = count'; granted = 0 }) (marked n table)) (sym nodes_is)
+      (subst (λ l. IsBody P (record { nodes = nodes; table = table; listing = l; opened = count'; granted = 0 }) (marked nodes table)) (sym listing_is)
+      (subst (λ k. IsBody P (record { nodes = nodes; table = table; listing = listing; opened = k; granted = 0 }) (marked nodes table)) (sym count_is) body)));
   within = omega arith;
   few = omega (arith, ap length none);
   place = place;

@@ -46,13 +46,13 @@ pub record Freed (h new : Holding) (b : Body) (n worker grant : ℕ) : Type 0 wh
   pub few : grant ≤ granted (pool_tree h)
   pub len : length new.table ≡ length h.table
 
-pub freed : (h : Holding) (listing spare left : Listing) (opened given n worker grant : ℕ) (e : Entry) (table : List (Option Entry)) → BeforeOnceLaw →
-    IsBody h.network (body_of h listing spare opened given) (pool_tree h) → entry_at h.table n ≡ Some e → e.mark ≡ held.Out worker grant →
+pub freed : (h : Holding) (listing left : Listing) (opened given n worker grant : ℕ) (e : Entry) (table : List (Option Entry)) → BeforeOnceLaw →
+    IsBody h.network (body_of h listing opened given) (pool_tree h) → entry_at h.table n ≡ Some e → e.mark ≡ held.Out worker grant →
     IsPermutation (record { floor = e.floor; leaf = n } ∷ listing.leaves) left.leaves → listing.spare ≤ left.spare + 1 → table ≡ set h.table n (Some (record e { mark = held.Free })) →
-    Freed h (record h { table = table }) (body_of (record h { table = table }) left spare opened (given - grant)) n worker grant
-freed h listing spare left opened given n worker grant e table once body is out permuted room table_is =
+    Freed h (record h { table = table }) (body_of (record h { table = table }) left opened (given - grant)) n worker grant
+freed h listing left opened given n worker grant e table once body is out permuted room table_is =
     let P = h.network in
-    let b = body_of h listing spare opened given in
+    let b = body_of h listing opened given in
     let tree = pool_tree h in
     let own = is_held P b tree n e once body is in
     let leaf : IsLeaf tree [] n (Out worker grant) own.path = subst (λ k. IsLeaf tree [] n k own.path) (out_is own.mark worker grant (sym out ∙ own.mark_is)) own.leaf in
@@ -61,8 +61,8 @@ freed h listing spare left opened given n worker grant e table once body is out 
     record {
       path = own.path;
       replaced = subst (Replaced tree [] n (Out worker grant) own.path (Leaf n Free [])) (sym new_tree) l.replaced;
-      body = subst (λ t. IsBody P (body_of (record h { table = table }) left spare opened (given - grant)) t) (sym new_tree)
-          (subst (λ t. IsBody P (body_of (record h { table = t }) left spare opened (given - grant)) l.tree') (sym table_is) l.body);
+      body = subst (λ t. IsBody P (body_of (record h { table = table }) left opened (given - grant)) t) (sym new_tree)
+          (subst (λ t. IsBody P (body_of (record h { table = t }) left opened (given - grant)) l.tree') (sym table_is) l.body);
       few = out_granted tree [] n worker grant own.path leaf;
       len = ap length table_is ∙ length-set h.table n (Some (record e { mark = held.Free }));
     }

@@ -11,6 +11,6 @@ use Rattle.cfn_leaves.specs.Value.{IsBody}
 -- Whatever else is kept, the table and the list stand for the tree with all leaves called back, and nothing is granted.
 pub record AllFreed (table : List (Option Entry)) (listing : Listing) (new : List (Option Entry)) (left : Listing) : Type 0 where
   pub len : length new ≡ length table
-  pub body : (P : Network) (nodes : List Node) (spare : Listing) (opened granted : ℕ) →
-      IsBody P (record { nodes = nodes; table = table; listing = listing; spare = spare; opened = opened; granted = granted }) (marked nodes table) →
-      IsBody P (record { nodes = nodes; table = new; listing = left; spare = spare; opened = opened; granted = 0 }) (recalled (marked nodes table))
+  pub body : (P : Network) (nodes : List Node) (opened granted : ℕ) →
+      IsBody P (record { nodes = nodes; table = table; listing = listing; opened = opened; granted = granted }) (marked nodes table) →
+      IsBody P (record { nodes = nodes; table = new; listing = left; opened = opened; granted = 0 }) (recalled (marked nodes table))

@@ -1,6 +1,6 @@
 -- What contracts see of the leaves: the pool's state but for its view, for the network that it is of. The pool's tree is
 -- seen as the nodes of the search tree and the table of its open leaves.
-use Rattle.std.specs.Prelude.{◌≡◌, ℕ, ◌+◌, ◌≤◌, ◌^◌, List, [], length, Option}
+use Rattle.std.specs.Prelude.{◌≡◌, ℕ, ◌+◌, ◌≤◌, ◌^◌, List, length, Option}
 use Rattle.cfn_model.specs.declared.report.Row.{Row}
 use Rattle.cfn_model.specs.Network.{Network}
 use Rattle.cfn_model.specs.Tree.{open_leaves}
@@ -27,23 +27,20 @@ pool_tree h = marked h.tree h.table
 abbrev pub pool_of : Holding → View → Pool
 pool_of h view = record { tree = pool_tree h; next = length h.table; budget = h.budget; begun = h.begun; nodes = h.nodes; rows = h.rows; view = view }
 
--- What is kept: the nodes of the tree and the table of its leaves, the free leaves in the open list, and as much room in
--- another one; how many leaves are open, and how many nodes may still be made below those that are out.
+-- What is kept: the nodes of the tree and the table of its leaves, and the free leaves in the open list; how many leaves are
+-- open, and how many nodes may still be made below those that are out.
 pub record Body : Type 0 where
   pub nodes : List Node
   pub table : List (Option Entry)
   pub listing : Listing
-  pub spare : Listing
   pub opened : ℕ
   pub granted : ℕ
 
--- It is this tree. A place in both lists is kept for each leaf that is out.
+-- It is this tree. A place in the list is kept for each leaf that is out.
 pub record IsBody (P : Network) (b : Body) (tree : PoolTree) : Type 0 where
   pub are : Are P b.nodes b.table tree
   pub listed : IsListed b.table b.listing.leaves
-  pub none : b.spare.leaves ≡ []
   pub room : outs b.table ≤ b.listing.spare
-  pub more : length b.listing.leaves + outs b.table ≤ b.spare.spare
   pub opened : b.opened ≡ open_leaves (tree_of tree)
   pub granted : b.granted ≡ granted tree
   pub both : b.opened ≡ length b.listing.leaves + outs b.table

@@ -1,10 +1,14 @@
 //! What a worker has made of a task takes the place of the task's leaf.
 
-ghost use Rattle.std.specs.Prelude.{◌≡◌, ◌<◌, length, IfErr, OnOk, OnErr};
+ghost use Rattle.std.specs.Prelude.{◌≡◌, ◌<◌, length, IfErr, OnOk, OnErr, MatchOption};
 ghost use Rattle.cfn_proof.specs.Nodes.{graft_at, IsFree, IsLinked};
-ghost use Rattle.cfn_leaves.specs.Given.{Gives};
+ghost use Rattle.cfn_machine.specs.Pool.{View};
+ghost use Rattle.cfn_machine.specs.Steps.{IsOut};
+ghost use Rattle.cfn_leaves.specs.Given.{Gives, IsTaskEntry};
+ghost use Rattle.cfn_leaves.specs.Value.{pool_of};
 
 use crate::climb::is_at;
+use crate::entry::Entry;
 use crate::leaves::Leaves;
 use crate::placing::{place, reserve};
 use crate::returning::is_out_to;
@@ -12,7 +16,7 @@ use crate::taking::{clear, held};
 use crate::walk::open_spots;
 use cfn_proof::laws::same_before;
 use cfn_proof::{NodeId, Tree};
-use cfn_task::Piece;
+use cfn_task::{Piece, Task};
 
 /// The answer to a piece that is given.
 #[derive(Drop)]
@@ -40,28 +44,16 @@ impl Leaves {
         piece.tree().linked();
         let task = piece.task();
         let number = task.leaf() as usize;
-        let Some(entry) = held(&self.table, number) else {
+        let Some(entry) = self.entry_of(task) else {
             return Handed::Gone { piece };
         };
-        if !is_out_to(entry.mark, task) {
-            return Handed::Gone { piece };
-        }
-        if !is_at(&self.tree, entry.node, task.path()) {
-            return Handed::Gone { piece };
-        }
         let alloc = *self.table.allocator();
         let Ok(walk) = open_spots(alloc, piece.tree(), task.floor()) else {
             return Handed::Memory { piece };
         };
         let more = walk.spots.len();
         let opened = self.opened as usize;
-        let Ok(()) = reserve(
-            &mut self.table,
-            &mut self.list,
-            &mut self.spare,
-            opened,
-            more,
-        ) else {
+        let Ok(()) = reserve(&mut self.table, &mut self.list, opened, more) else {
             return Handed::Memory { piece };
         };
         let nodes = self.tree.len();
@@ -81,6 +73,19 @@ impl Leaves {
         self.granted -= grant;
         self.nodes += walk.made;
         Handed::Done
+    }
+
+    /// What the table has of a task's leaf, where the leaf is out to the task's worker with the task's grant, and has the
+    /// task's path. It takes no memory.
+    fn entry_of(&self, task: &Task) -> Option<Entry>
+        ensures { MatchOption result ((view : View) → IsOut (pool_of self.now view) task.now.task → ⊥) (IsTaskEntry self.now task.now.task) }
+    {
+        same_before();
+        let entry = held(&self.table, task.leaf() as usize)?;
+        if is_out_to(entry.mark, task) && is_at(&self.tree, entry.node, task.path()) {
+            return Some(entry);
+        }
+        None
     }
 }
 

@@ -21,8 +21,6 @@ pub struct Leaves {
     pub(crate) table: Vec<Option<Entry>>,
     /// The free leaves. There is room in it for those that are out.
     pub(crate) list: OpenList,
-    /// No leaf, and room for all that are open: a sweep puts those that stay into it.
-    pub(crate) spare: OpenList,
     /// How many leaves are open.
     pub(crate) opened: u64,
     /// How many nodes may still be made below leaves that are out.
@@ -53,7 +51,6 @@ impl Model for Leaves {
       nodes = l.tree;
       table = l.table.items;
       listing = l.list;
-      spare = l.spare;
       opened = l.opened;
       granted = l.granted;
     }) l.budget l.nodes l.rows.items (vec_capacity l.rows) };

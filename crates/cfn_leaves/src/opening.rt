@@ -49,15 +49,13 @@ impl Leaves {
         let more = walk.spots.len();
         let mut table = Vec::new(alloc);
         let mut list = OpenList::make(alloc);
-        let mut spare = OpenList::make(alloc);
-        reserve(&mut table, &mut list, &mut spare, 0, more)?;
+        reserve(&mut table, &mut list, 0, more)?;
         place(&mut table, &mut list, &walk.spots, Tree::ROOT, 1);
         Ok(Leaves {
             network: Snapshot::of(network),
             tree,
             table,
             list,
-            spare,
             opened: more as u64,
             granted: 0,
             budget,

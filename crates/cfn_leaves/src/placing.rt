@@ -15,12 +15,11 @@ use std::alloc::AllocError;
 /// How many leaves may have a number.
 const MOST: usize = 4_294_967_296;
 
-/// Takes room for `more` leaves, where so many are open: in the table, and in both lists for those and for all that are
-/// out. An `Err`, want of memory or of numbers, leaves all three as they were.
+/// Takes room for `more` leaves, where so many are open: in the table, and in the list for those and for all that are out. An
+/// `Err`, want of memory or of numbers, leaves both as they were.
 pub(crate) fn reserve(
     table: &mut Vec<Option<Entry>>,
     list: &mut OpenList,
-    spare: &mut OpenList,
     opened: usize,
     more: usize,
 ) -> Result<(), AllocError>
@@ -29,21 +28,16 @@ pub(crate) fn reserve(
     requires listed { length list.old.leaves ≤ opened }
     ensures table { table.new.items ≡ table.old.items }
     ensures list { list.new.leaves ≡ list.old.leaves }
-    ensures spare { spare.new.leaves ≡ spare.old.leaves }
-    ensures list_room { list.old.spare ≤ list.new.spare }
-    ensures spare_room { spare.old.spare ≤ spare.new.spare }
+    ensures room_kept { list.old.spare ≤ list.new.spare }
     ensures few { OnOk result (length table.old.items + more ≤ 2 ^ 32) }
     ensures room { OnOk result (vec_len table.new + more ≤ vec_capacity table.new) }
-    ensures both { OnOk result (opened + more ≤ length list.old.leaves + list.new.spare) }
-    ensures all { OnOk result (opened + more ≤ spare.new.spare) }
+    ensures all { OnOk result (opened + more ≤ length list.old.leaves + list.new.spare) }
 {
     if more > MOST - table.len() {
         return Err(AllocError);
     }
     table.reserve(more)?;
-    list.reserve(opened - list.len() + more)?;
-    spare.reserve(opened + more)?;
-    Ok(())
+    list.reserve(opened - list.len() + more)
 }
 
 /// Puts the leaves of a tree whose root has taken the place of a leaf of a tree of so many nodes behind the table, in

@@ -1,3 +1,4 @@
 pub mod Order
 pub mod Unique
+pub mod Keeping
 pub mod CallerLemmas

@@ -1,5 +1,5 @@
 -- Open leaves, and which of them is the least.
-use Rattle.std.specs.Prelude.{◌≡◌, ℕ, ◌<◌, ◌≤◌, ◌⊎◌, List, map, All, Contains}
+use Rattle.std.specs.Prelude.{◌≡◌, ℕ, ◌<◌, ◌≤◌, ◌⊎◌, Bool, nat_lt, List, map, All, Contains}
 use Rattle.std.specs.declared.cmp.Ordering.{Ordering}
 use Rattle.std.specs.declared.cmp.Reverse.{Reverse}
 use Rattle.std.specs.Ordering.{nat_cmp, ordering_then}
@@ -26,3 +26,7 @@ IsBefore a b = (a.floor < b.floor) ⊎ ((a.floor ≡ b.floor) × (a.leaf ≤ b.l
 pub record IsLeast (leaves : List OpenLeaf) (least : OpenLeaf) : Type 0 where
   pub there : Contains leaves least
   pub first : All (IsBefore least) leaves
+
+-- Whether the floor of a leaf is below a number.
+abbrev pub is_below : ℕ → OpenLeaf → Bool
+is_below k leaf = nat_lt leaf.floor k

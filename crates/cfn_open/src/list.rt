@@ -1,7 +1,8 @@
 //! Open leaves in the order of their floors.
 
-ghost use Rattle.std.specs.Prelude.{◌≡◌, ◌+◌, ◌<◌, ◌≤◌, [], ◌∷◌, length, OnOk, OnErr, MatchOption, IsPermutation};
-ghost use Rattle.cfn_open.specs.Listing.{Listing, IsLeast};
+ghost use Rattle.std.specs.Prelude.{◌≡◌, ◌+◌, ◌<◌, ◌≤◌, [], ◌∷◌, length, slice_index_or, OnOk, OnErr, MatchOption, IsPermutation};
+ghost use Rattle.std.specs.List.{filter};
+ghost use Rattle.cfn_open.specs.Listing.{Listing, IsLeast, is_below};
 
 use std::alloc::{AllocError, Global};
 use std::cmp::Reverse;
@@ -89,5 +90,23 @@ impl OpenList {
     {
         let Reverse(leaf) = self.heap.pop()?;
         Some(leaf)
+    }
+
+    /// The leaf at a place of the list, in the order in which contracts see it.
+    pub fn at(&self, place: usize) -> OpenLeaf
+        requires { place < length self.now.leaves }
+        ensures { result ≡ slice_index_or self.now.leaves place result }
+    {
+        let Reverse(leaf) = self.heap.as_slice()[place];
+        leaf
+    }
+
+    /// Keeps the leaves whose floor is below `k`, and takes all others away, whose places are room again. It goes over the
+    /// list once or twice.
+    pub fn keep_below(&mut self, k: u128)
+        ensures leaves { IsPermutation (filter (is_below k) self.old.leaves) self.new.leaves }
+        ensures room { self.new.spare + length self.new.leaves ≡ self.old.spare + length self.old.leaves }
+    {
+        self.heap.retain(|Reverse(leaf)| leaf.floor < k);
     }
 }

@@ -1,7 +1,6 @@
-use Rattle.std.proofs.Common.{◌≡◌, List, [], ◌∷◌, sym, ap, ◌∙◌, subst}
+use Rattle.std.proofs.Common.{◌≡◌, [], sym, ap, ◌∙◌, subst}
 use Rattle.cfn_model.specs.Paths.{TameAlong}
 use Rattle.cfn_model.specs.Sums.{floor}
-use Rattle.cfn_dive.specs.declared.parts.Waiting.{Waiting}
 use Rattle.cfn_dive.specs.Stack.{Stack}
 use Rattle.cfn_dive.specs.Growing.{IsGrown}
 use Rattle.cfn_dive.specs.Diving.{places, AreWaiting}

@@ -1,15 +1,14 @@
 use Rattle.std.proofs.Common.{◌≡◌, ℕ, ◌+◌, [], ◌∷◌, ◌++◌, refl, sym, ap, ◌∙◌, subst, arith}
 use Rattle.std.specs.Prelude.{IfSome}
 use Rattle.cfn_model.specs.declared.step.Event.TheVariants.{Took}
-use Rattle.cfn_model.specs.declared.step.Decision.TheVariants.{Is}
 use Rattle.cfn_model.specs.Sums.{floor}
 use Rattle.cfn_store.specs.Standing.{Standing, history}
 use Rattle.cfn_edac.specs.Settling.{IsBehindSettled}
-use Rattle.cfn_node.specs.Enforcing.{since_of}
-use Rattle.cfn_node.proofs.CallerLemmas.{since_split, settled_moved, strict_here}
+use Rattle.cfn_node.proofs.CallerLemmas.{since_split, settled_moved}
 use Rattle.cfn_dive.specs.declared.parts.Waiting.{Waiting}
 use Rattle.cfn_dive.specs.Stack.{Stack}
 use Rattle.cfn_dive.specs.Diving.{places, AreWaiting}
+use Rattle.cfn_dive.proofs.Splitting.{split_decision, split_strict}
 use Rattle.cfn_dive.proofs.Stacks.{current_open}
 use Rattle.cfn_dive.proofs.States.{divided, stack_divided, waiting_push, enforced_here, settled_here}
 use Rattle.cfn_dive.proofs.parts.Parts.divide.Goals as goal
@@ -26,8 +25,8 @@ returns-clause-expanded c =
     let g = c.args.growth.now in
     let P = p.store.network in
     let expanding = c.requires.expanding in
-    let choice = c.first_value-value.ensures.choice in
-    let d = Is c.args.x c.first_value-value.result in
+    let d = c.args.decision in
+    let decision = split_decision p.store d c.requires.splits in
     let one = c.in_ok-first.first in
     let two = c.in_ok-first.second in
     let w : Waiting = record { leaf = two; mark = c.mark.result; decision = d; floor = c.floor-floor.result; settled = c.args.settled } in
@@ -43,7 +42,7 @@ returns-clause-expanded c =
         kept = record {
           of = record {
             network = network;
-            enforcer = c.first_value-value.ensures.same ∙ expanding.kept.of.enforcer;
+            enforcer = expanding.kept.of.enforcer;
             weights = expanding.kept.of.weights;
             incidence = expanding.kept.of.incidence;
             trimmer = expanding.kept.of.trimmer;
@@ -51,10 +50,10 @@ returns-clause-expanded c =
             values = expanding.kept.of.values;
             offer = expanding.kept.of.offer;
           };
-          grown = divided P p g c.args.leaf c.in_ok-block.block d m c.linked.ensures.linked c.linked-2.ensures.linked is expanding c.in_ok-block.ensures choice.value (strict_here p.store c.args.x c.first_value-value.result c.requires.undecided choice) c.block_stays_tame.ensures (enforced_here P p.store g.threshold c.args.settled refl c.requires.threshold c.requires.settled);
+          grown = divided P p g c.args.leaf c.in_ok-block.block d m c.linked.ensures.linked c.linked-2.ensures.linked is expanding c.in_ok-block.ensures decision (split_strict p.store d c.requires.splits) c.block_stays_tame.ensures (enforced_here P p.store g.threshold c.args.settled refl c.requires.threshold c.requires.settled);
           waiting = subst (AreWaiting P) (sym items) (waiting_push P p.waiting.items w expanding.kept.waiting (record {
             network = ap (λ (n : Standing). n.network) c.mark.ensures;
-            decision = choice.value;
+            decision = decision;
             floor = c.floor-floor.ensures ∙ ap (λ (n : Standing). floor P (history n)) (sym c.mark.ensures);
             settled = settles;
           }));

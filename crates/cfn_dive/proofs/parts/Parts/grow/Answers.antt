@@ -1,5 +1,4 @@
-use Rattle.std.proofs.Common.{◌≡◌, ◌≤◌, ◌<◌, refl, sym, ap, ◌∙◌, subst, arith}
-use Rattle.std.specs.Prelude.{None}
+use Rattle.std.proofs.Common.{refl, sym, ap, ◌∙◌, subst, arith}
 use Rattle.cfn_model.specs.Network.{Network}
 use Rattle.cfn_machine.specs.Pool.{IsTask}
 use Rattle.cfn_dive.specs.Diving.{GoesOn}

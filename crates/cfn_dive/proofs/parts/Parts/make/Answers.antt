@@ -1,4 +1,4 @@
-use Rattle.std.proofs.Common.{ap}
+use Rattle.std.proofs.Common.{refl, ap}
 use Rattle.cfn_net.specs.Scoring.{Scoring}
 use Rattle.cfn_store.specs.Standing.{Standing}
 use Rattle.cfn_dive.proofs.parts.Parts.make.Goals as goal
@@ -15,4 +15,5 @@ returns c = record {
     values = c.in_ok-values.ensures.values;
     offer = ap (λ (b : Scoring). b.network) c.in_ok-values.ensures.offer;
   };
+  rule = refl;
 }

@@ -34,7 +34,7 @@ overflow_sub-self c =
     let table : c.free.new.table.items ≡ set m.table task.leaf (Some (record c.in-Some.entry { mark = held.Free })) =
     c.free.ensures.table ∙ ap (λ k. set m.table k (Some (record c.in-Some.entry { mark = held.Free }))) c.leaf-number.ensures in
     let leaves = subst (λ k. IsPermutation (record { floor = c.in-Some.entry.floor; leaf = k } ∷ c.self.inside.list.leaves) c.free.new.list.leaves) c.leaf-number.ensures c.free.ensures.leaves in
-    let step = freed m c.self.inside.list c.self.inside.spare c.free.new.list c.self.inside.opened c.self.inside.granted task.leaf task.worker task.grant c.in-Some.entry c.free.new.table.items
+    let step = freed m c.self.inside.list c.free.new.list c.self.inside.opened c.self.inside.granted task.leaf task.worker task.grant c.in-Some.entry c.free.new.table.items
     c.same_before.ensures.once c.self.invariant.body at (c.if-not-is_out_to.ensures.0 refl) leaves c.free.ensures.room table in
     omega (arith, step.few, c.grant.ensures, c.self.invariant.body.granted)
 
@@ -46,9 +46,9 @@ invariant_of-self c =
     let table : c.free.new.table.items ≡ set m.table task.leaf (Some (record c.in-Some.entry { mark = held.Free })) =
     c.free.ensures.table ∙ ap (λ k. set m.table k (Some (record c.in-Some.entry { mark = held.Free }))) c.leaf-number.ensures in
     let leaves = subst (λ k. IsPermutation (record { floor = c.in-Some.entry.floor; leaf = k } ∷ c.self.inside.list.leaves) c.free.new.list.leaves) c.leaf-number.ensures c.free.ensures.leaves in
-    let step = freed m c.self.inside.list c.self.inside.spare c.free.new.list c.self.inside.opened c.self.inside.granted task.leaf task.worker task.grant c.in-Some.entry c.free.new.table.items
+    let step = freed m c.self.inside.list c.free.new.list c.self.inside.opened c.self.inside.granted task.leaf task.worker task.grant c.in-Some.entry c.free.new.table.items
     c.same_before.ensures.once c.self.invariant.body at (c.if-not-is_out_to.ensures.0 refl) leaves c.free.ensures.room table in
-    let b : Body = record { nodes = m.tree; table = c.free.new.table.items; listing = c.free.new.list; spare = c.self.inside.spare; opened = c.self.inside.opened; granted = c.self.inside.granted - c.grant.result } in
+    let b : Body = record { nodes = m.tree; table = c.free.new.table.items; listing = c.free.new.list; opened = c.self.inside.opened; granted = c.self.inside.granted - c.grant.result } in
     record {
       body = subst (λ g. IsBody m.network (record b { granted = c.self.inside.granted - g }) (marked m.tree c.free.new.table.items)) (sym c.grant.ensures) step.body;
       within = omega (arith, c.self.invariant.within);
@@ -64,7 +64,7 @@ returns-clause-back c = λ yes view.
     let table : c.free.new.table.items ≡ set m.table task.leaf (Some (record c.in-Some.entry { mark = held.Free })) =
     c.free.ensures.table ∙ ap (λ k. set m.table k (Some (record c.in-Some.entry { mark = held.Free }))) c.leaf-number.ensures in
     let leaves = subst (λ k. IsPermutation (record { floor = c.in-Some.entry.floor; leaf = k } ∷ c.self.inside.list.leaves) c.free.new.list.leaves) c.leaf-number.ensures c.free.ensures.leaves in
-    let step = freed m c.self.inside.list c.self.inside.spare c.free.new.list c.self.inside.opened c.self.inside.granted task.leaf task.worker task.grant c.in-Some.entry c.free.new.table.items
+    let step = freed m c.self.inside.list c.free.new.list c.self.inside.opened c.self.inside.granted task.leaf task.worker task.grant c.in-Some.entry c.free.new.table.items
     c.same_before.ensures.once c.self.invariant.body at (c.if-not-is_out_to.ensures.0 refl) leaves c.free.ensures.room table in
     let new : Holding = record m { table = c.free.new.table.items } in
     subst (λ (old : Holding). PoolReturns (pool_of old view) task (pool_of new view)) c.self.view_is (returned m c.free.new.table.items _ task step view)

@@ -12,8 +12,8 @@ place-requires-clause-fit c =
     let spots : c.deref.result.now ≡ spots_of c.args.tree c.constants.result = c.deref.ensures.value ∙ c.in_ok-walk.ensures.spots in
     subst (All (FitsPlace 1)) (sym spots) (root_fits c.args.network.now c.args.tree c.constants.result c.linked.ensures.linked)
 
-pub invariant_of-result-4 : goal.invariant_of-result-4
-invariant_of-result-4 c =
+pub invariant_of-result-3 : goal.invariant_of-result-3
+invariant_of-result-3 c =
     let P = c.args.network.now in
     let spots : c.deref.result.now ≡ spots_of c.args.tree (floor P []) = c.deref.ensures.value ∙ c.in_ok-walk.ensures.spots ∙ ap (spots_of c.args.tree) c.constants.ensures.value in
     let none : c.reserve.new.table.items ≡ [] = c.reserve.ensures.table ∙ c.new-table.ensures.items in
@@ -22,10 +22,10 @@ invariant_of-result-4 c =
     let listed = c.place.ensures.listed (subst (λ t. IsListed t c.reserve.new.list.leaves) (sym none) (nothing_listed c.reserve.new.list.leaves no_leaf)) in
     let size : length c.deref.result.now ≡ c.len-more.result = c.deref.ensures.len ∙ sym c.len-more.ensures in
     let long : length c.place.new.list.leaves ≡ length c.deref.result.now = omega (arith, c.place.ensures.len, ap length no_leaf) in
-    let o = opened P c.args.tree c.deref.result.now c.place.new.table.items c.place.new.list c.reserve.new.spare c.same_before.ensures.once c.linked.ensures.linked spots table listed long
-    (c.reserve.ensures.spare ∙ c.make-spare.ensures) (omega (arith, c.in_ok-reserve.ensures.all, size)) (omega (arith, c.in_ok-reserve.ensures.few, size)) in
-    all_kept P c.of.result.value c.args.tree _ c.place.new.table.items c.place.new.list _ c.reserve.new.spare _ (length c.deref.result.now) c.len-more.result c.args.budget c.in_ok-with_capacity.field-0.items (vec_capacity c.in_ok-with_capacity.field-0)
-    c.of.ensures c.tree.view_is c.list-2.view_is c.spare.view_is (sym size) c.in_ok-with_capacity.ensures.items c.in_ok-with_capacity.ensures.capacity o.body
+    let o = opened P c.args.tree c.deref.result.now c.place.new.table.items c.place.new.list c.same_before.ensures.once c.linked.ensures.linked spots table listed long
+    (omega (arith, c.in_ok-reserve.ensures.few, size)) in
+    all_kept P c.of.result.value c.args.tree _ c.place.new.table.items c.place.new.list _ (length c.deref.result.now) c.len-more.result c.args.budget c.in_ok-with_capacity.field-0.items (vec_capacity c.in_ok-with_capacity.field-0)
+    c.of.ensures c.tree.view_is c.list-2.view_is (sym size) c.in_ok-with_capacity.ensures.items c.in_ok-with_capacity.ensures.capacity o.body
 
 pub returns : goal.returns
 returns c =
@@ -37,8 +37,8 @@ returns c =
     let listed = c.place.ensures.listed (subst (λ t. IsListed t c.reserve.new.list.leaves) (sym none) (nothing_listed c.reserve.new.list.leaves no_leaf)) in
     let size : length c.deref.result.now ≡ c.len-more.result = c.deref.ensures.len ∙ sym c.len-more.ensures in
     let long : length c.place.new.list.leaves ≡ length c.deref.result.now = omega (arith, c.place.ensures.len, ap length no_leaf) in
-    let o = opened P c.args.tree c.deref.result.now c.place.new.table.items c.place.new.list c.reserve.new.spare c.same_before.ensures.once c.linked.ensures.linked spots table listed long
-    (c.reserve.ensures.spare ∙ c.make-spare.ensures) (omega (arith, c.in_ok-reserve.ensures.all, size)) (omega (arith, c.in_ok-reserve.ensures.few, size)) in
+    let o = opened P c.args.tree c.deref.result.now c.place.new.table.items c.place.new.list c.same_before.ensures.once c.linked.ensures.linked spots table listed long
+    (omega (arith, c.in_ok-reserve.ensures.few, size)) in
     record {
       network = c.of.ensures;
       tree_is = ap (λ n. marked n c.place.new.table.items) c.tree.view_is ∙ o.tree_is;

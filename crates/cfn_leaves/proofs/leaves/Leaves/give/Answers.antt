@@ -1,82 +1,33 @@
-use Rattle.std.proofs.Common.{◌≡◌, ◌+◌, ◌∙◌, ap, ap₂, sym, subst, refl, arith, length, None, set, ◌++◌, ◌≤◌, ◌-◌, map, All, true≢false}
+use Rattle.std.proofs.Common.{◌≡◌, ◌+◌, ◌∙◌, ap, ap₂, sym, subst, refl, arith, length, None, set, ◌++◌, ◌≤◌, ◌-◌, map, All}
 use Rattle.cfn_model.specs.Sums.{floor}
 use Rattle.cfn_model.specs.Tree.{count}
 use Rattle.cfn_proof.specs.Nodes.{tree_of, IsLinked}
 use Rattle.cfn_leaves.specs.Listed.{IsListed}
 use Rattle.cfn_leaves.specs.Placed.{placed, FitsPlace}
 use Rattle.cfn_leaves.proofs.HandingOut.{body_of}
-use Rattle.cfn_machine.specs.Pool.{Task}
-use Rattle.cfn_machine.specs.Steps.{PoolGives}
-use Rattle.cfn_leaves.specs.declared.entry.Mark.TheVariants as held
-use Rattle.cfn_leaves.specs.declared.entry.Entry.{Entry}
-use Rattle.cfn_leaves.specs.Standing.{entry_at, marked}
-use Rattle.cfn_leaves.specs.Ways.{IsPathOf}
+use Rattle.cfn_machine.specs.Pool.{Task, View}
+use Rattle.cfn_machine.specs.Steps.{PoolGives, IsOut}
+use Rattle.cfn_leaves.specs.Standing.{marked}
 use Rattle.cfn_leaves.specs.Walked.{spots_of}
 use Rattle.cfn_task.specs.Values.{piece_of}
-use Rattle.cfn_leaves.specs.Given.{Gives}
-use Rattle.cfn_leaves.specs.declared.giving.Handed.TheVariants.{Gone}
+use Rattle.cfn_leaves.specs.Given.{IsTaskEntry}
 use Rattle.cfn_leaves.specs.Value.{Holding, Body, IsBody, pool_of, pool_tree}
-use Rattle.cfn_leaves.proofs.Trees.{some_none, same_some}
-use Rattle.cfn_leaves.proofs.Bodies.{is_held}
-use Rattle.cfn_leaves.proofs.Gives.{IsTaskEntry, task_entry, task_leaf, took, all_fit, Change, reserved}
+use Rattle.cfn_leaves.proofs.Gives.{task_leaf, took, all_fit, Change, reserved}
 use Rattle.cfn_leaves.proofs.Insides.{value, body}
 use Rattle.cfn_leaves.proofs.leaves.Leaves.give.Goals as goal
 
 pub returns-in_default-clause-gives : goal.returns-in_default-clause-gives
 returns-in_default-clause-gives c =
-    let m = value c.self.inside in
-    let task = c.args.piece.task in
-    let at_task : c.task-task.result.now.task ≡ task = c.task-task.ensures.task in
-    let read : entry_at m.table task.leaf ≡ c.held.result = ap (λ k. entry_at m.table k) (sym (c.leaf-number.ensures ∙ ap (λ (t : Task). t.leaf) at_task)) ∙ ap (λ l. entry_at l c.leaf-number.result) (sym c.deref.ensures.value) ∙ sym c.held.ensures in
-    subst (λ (old : Holding). Gives old c.args.piece (Gone c.args.piece) old) c.self.view_is
-    (refl, refl, λ view out. (let at = task_entry m (body c.self.inside) task view c.same_before.ensures.once c.self.invariant.body.are out in some_none (sym (read ∙ c.in_default.is) ∙ at.1.is)))
-
-pub returns-then-not-is_out_to-clause-gives : goal.returns-then-not-is_out_to-clause-gives
-returns-then-not-is_out_to-clause-gives c =
-    let m = value c.self.inside in
-    let task = c.args.piece.task in
-    let at_task : c.task-task.result.now.task ≡ task = c.task-task.ensures.task in
-    let read : entry_at m.table task.leaf ≡ c.held.result = ap (λ k. entry_at m.table k) (sym (c.leaf-number.ensures ∙ ap (λ (t : Task). t.leaf) at_task)) ∙ ap (λ l. entry_at l c.leaf-number.result) (sym c.deref.ensures.value) ∙ sym c.held.ensures in
-    subst (λ (old : Holding). Gives old c.args.piece (Gone c.args.piece) old) c.self.view_is (
-      refl,
-      refl,
-      λ view out. (let at = task_entry m (body c.self.inside) task view c.same_before.ensures.once c.self.invariant.body.are out in let same = same_some (sym (read ∙ c.in-Some.is) ∙ at.1.is) in
-          true≢false (sym (c.if-not-is_out_to.ensures.1 (ap (λ (e : Entry). e.mark) same ∙ at.1.mark ∙ ap (λ (t : Task). held.Out t.worker t.grant) (sym at_task))))),
-    )
-
-pub is_at-requires : goal.is_at-requires
-is_at-requires c =
-    let m = value c.self.inside in
-    let task = c.args.piece.task in
-    let at_task : c.task-task.result.now.task ≡ task = c.task-task.ensures.task in
-    let read : entry_at m.table task.leaf ≡ c.held.result = ap (λ k. entry_at m.table k) (sym (c.leaf-number.ensures ∙ ap (λ (t : Task). t.leaf) at_task)) ∙ ap (λ l. entry_at l c.leaf-number.result) (sym c.deref.ensures.value) ∙ sym c.held.ensures in
-    (is_held m.network (body c.self.inside) (pool_tree m) task.leaf c.in-Some.entry c.same_before.ensures.once c.self.invariant.body (read ∙ c.in-Some.is)).there
-
-pub returns-then-not-is_at-clause-gives : goal.returns-then-not-is_at-clause-gives
-returns-then-not-is_at-clause-gives c =
-    let m = value c.self.inside in
-    let task = c.args.piece.task in
-    let at_task : c.task-task.result.now.task ≡ task = c.task-task.ensures.task in
-    let read : entry_at m.table task.leaf ≡ c.held.result = ap (λ k. entry_at m.table k) (sym (c.leaf-number.ensures ∙ ap (λ (t : Task). t.leaf) at_task)) ∙ ap (λ l. entry_at l c.leaf-number.result) (sym c.deref.ensures.value) ∙ sym c.held.ensures in
-    subst (λ (old : Holding). Gives old c.args.piece (Gone c.args.piece) old) c.self.view_is (
-      refl,
-      refl,
-      λ view out. (let at = task_entry m (body c.self.inside) task view c.same_before.ensures.once c.self.invariant.body.are out in let same = same_some (sym (read ∙ c.in-Some.is) ∙ at.1.is) in
-          let of = subst (IsPathOf m.tree c.in-Some.entry.node.number) (sym (c.path.ensures ∙ ap (λ (t : Task). t.path) at_task)) (subst (λ (e : Entry). IsPathOf m.tree e.node.number task.path) (sym same) at.1.of) in
-          true≢false (sym (c.if-not-is_at.ensures.1 of))),
-    )
+    let gone = c.in_default.ensures in
+    let none : (view : View) → IsOut (pool_of c.args.self.now view) c.args.piece.task → ⊥ = subst (λ t. (view : View) → IsOut (pool_of c.args.self.now view) t → ⊥) c.task-task.ensures.task gone in
+    (refl, refl, none)
 
 pub graft-requires-clause-there : goal.graft-requires-clause-there
 graft-requires-clause-there c =
     let m = value c.self.inside in
     let task = c.args.piece.task in
     let at_task : c.task-task.result.now.task ≡ task = c.task-task.ensures.task in
-    let read : entry_at m.table task.leaf ≡ c.held.result = ap (λ k. entry_at m.table k) (sym (c.leaf-number.ensures ∙ ap (λ (t : Task). t.leaf) at_task)) ∙ ap (λ l. entry_at l c.leaf-number.result) (sym c.deref.ensures.value) ∙ sym c.held.ensures in
-    let own : IsTaskEntry m task c.in-Some.entry = record {
-      is = read ∙ c.in-Some.is;
-      mark = c.if-not-is_out_to.ensures.0 refl ∙ ap (λ (t : Task). held.Out t.worker t.grant) at_task;
-      of = subst (IsPathOf m.tree c.in-Some.entry.node.number) (c.path.ensures ∙ ap (λ (t : Task). t.path) at_task) (c.if-not-is_at.ensures.0 refl);
-    } in
+    let own = subst (λ (h : Holding). IsTaskEntry h task c.in-Some.entry) (sym c.self.view_is) (subst (λ t. IsTaskEntry c.args.self.now t c.in-Some.entry) at_task c.in-Some.ensures) in
     let leaf = task_leaf m (body c.self.inside) task c.in-Some.entry c.same_before.ensures.once refl refl c.self.invariant.body own in
     leaf.there
 
@@ -85,12 +36,7 @@ graft-requires-clause-free c =
     let m = value c.self.inside in
     let task = c.args.piece.task in
     let at_task : c.task-task.result.now.task ≡ task = c.task-task.ensures.task in
-    let read : entry_at m.table task.leaf ≡ c.held.result = ap (λ k. entry_at m.table k) (sym (c.leaf-number.ensures ∙ ap (λ (t : Task). t.leaf) at_task)) ∙ ap (λ l. entry_at l c.leaf-number.result) (sym c.deref.ensures.value) ∙ sym c.held.ensures in
-    let own : IsTaskEntry m task c.in-Some.entry = record {
-      is = read ∙ c.in-Some.is;
-      mark = c.if-not-is_out_to.ensures.0 refl ∙ ap (λ (t : Task). held.Out t.worker t.grant) at_task;
-      of = subst (IsPathOf m.tree c.in-Some.entry.node.number) (c.path.ensures ∙ ap (λ (t : Task). t.path) at_task) (c.if-not-is_at.ensures.0 refl);
-    } in
+    let own = subst (λ (h : Holding). IsTaskEntry h task c.in-Some.entry) (sym c.self.view_is) (subst (λ t. IsTaskEntry c.args.self.now t c.in-Some.entry) at_task c.in-Some.ensures) in
     let leaf = task_leaf m (body c.self.inside) task c.in-Some.entry c.same_before.ensures.once refl refl c.self.invariant.body own in
     leaf.free
 
@@ -99,31 +45,21 @@ place-requires-clause-fit c =
     let m = value c.self.inside in
     let task = c.args.piece.task in
     let at_task : c.task-task.result.now.task ≡ task = c.task-task.ensures.task in
-    let read : entry_at m.table task.leaf ≡ c.held.result = ap (λ k. entry_at m.table k) (sym (c.leaf-number.ensures ∙ ap (λ (t : Task). t.leaf) at_task)) ∙ ap (λ l. entry_at l c.leaf-number.result) (sym c.deref.ensures.value) ∙ sym c.held.ensures in
-    let own : IsTaskEntry m task c.in-Some.entry = record {
-      is = read ∙ c.in-Some.is;
-      mark = c.if-not-is_out_to.ensures.0 refl ∙ ap (λ (t : Task). held.Out t.worker t.grant) at_task;
-      of = subst (IsPathOf m.tree c.in-Some.entry.node.number) (c.path.ensures ∙ ap (λ (t : Task). t.path) at_task) (c.if-not-is_at.ensures.0 refl);
-    } in
+    let own = subst (λ (h : Holding). IsTaskEntry h task c.in-Some.entry) (sym c.self.view_is) (subst (λ t. IsTaskEntry c.args.self.now t c.in-Some.entry) at_task c.in-Some.ensures) in
     let leaf = task_leaf m (body c.self.inside) task c.in-Some.entry c.same_before.ensures.once refl refl c.self.invariant.body own in
-    let spots : c.deref-2.result.now ≡ spots_of c.args.piece.nodes task.floor =
-    c.deref-2.ensures.value ∙ c.in-Ok.ensures.spots ∙ ap₂ (λ t f. spots_of t f) c.tree-2.ensures (c.floor.ensures ∙ ap (λ (t : Task). t.floor) at_task) in
+    let spots : c.deref.result.now ≡ spots_of c.args.piece.nodes task.floor =
+    c.deref.ensures.value ∙ c.in-Ok.ensures.spots ∙ ap₂ (λ t f. spots_of t f) c.tree-2.ensures (c.floor.ensures ∙ ap (λ (t : Task). t.floor) at_task) in
     let linked = subst IsLinked c.in_default-graft.ensures.ok c.graft.ensures.linked in
     let inner = subst IsLinked c.tree.ensures c.linked.ensures.linked in
     let fit = all_fit m.tree c.in-Some.entry.node.number c.args.piece.nodes task.floor leaf.there inner linked in
-    subst (λ k. All (FitsPlace k) c.deref-2.result.now) (sym c.len-nodes.ensures) (subst (All (FitsPlace (length m.tree))) (sym spots) fit)
+    subst (λ k. All (FitsPlace k) c.deref.result.now) (sym c.len-nodes.ensures) (subst (All (FitsPlace (length m.tree))) (sym spots) fit)
 
 pub overflow_sub-self-2 : goal.overflow_sub-self-2
 overflow_sub-self-2 c =
     let m = value c.self.inside in
     let task = c.args.piece.task in
     let at_task : c.task-task.result.now.task ≡ task = c.task-task.ensures.task in
-    let read : entry_at m.table task.leaf ≡ c.held.result = ap (λ k. entry_at m.table k) (sym (c.leaf-number.ensures ∙ ap (λ (t : Task). t.leaf) at_task)) ∙ ap (λ l. entry_at l c.leaf-number.result) (sym c.deref.ensures.value) ∙ sym c.held.ensures in
-    let own : IsTaskEntry m task c.in-Some.entry = record {
-      is = read ∙ c.in-Some.is;
-      mark = c.if-not-is_out_to.ensures.0 refl ∙ ap (λ (t : Task). held.Out t.worker t.grant) at_task;
-      of = subst (IsPathOf m.tree c.in-Some.entry.node.number) (c.path.ensures ∙ ap (λ (t : Task). t.path) at_task) (c.if-not-is_at.ensures.0 refl);
-    } in
+    let own = subst (λ (h : Holding). IsTaskEntry h task c.in-Some.entry) (sym c.self.view_is) (subst (λ t. IsTaskEntry c.args.self.now t c.in-Some.entry) at_task c.in-Some.ensures) in
     let leaf = task_leaf m (body c.self.inside) task c.in-Some.entry c.same_before.ensures.once refl refl c.self.invariant.body own in
     omega (arith, leaf.few, c.grant-grant.ensures, ap (λ (t : Task). t.grant) at_task, c.self.invariant.body.granted)
 
@@ -132,15 +68,10 @@ overflow_add-self-2 c =
     let m = value c.self.inside in
     let task = c.args.piece.task in
     let at_task : c.task-task.result.now.task ≡ task = c.task-task.ensures.task in
-    let read : entry_at m.table task.leaf ≡ c.held.result = ap (λ k. entry_at m.table k) (sym (c.leaf-number.ensures ∙ ap (λ (t : Task). t.leaf) at_task)) ∙ ap (λ l. entry_at l c.leaf-number.result) (sym c.deref.ensures.value) ∙ sym c.held.ensures in
-    let own : IsTaskEntry m task c.in-Some.entry = record {
-      is = read ∙ c.in-Some.is;
-      mark = c.if-not-is_out_to.ensures.0 refl ∙ ap (λ (t : Task). held.Out t.worker t.grant) at_task;
-      of = subst (IsPathOf m.tree c.in-Some.entry.node.number) (c.path.ensures ∙ ap (λ (t : Task). t.path) at_task) (c.if-not-is_at.ensures.0 refl);
-    } in
+    let own = subst (λ (h : Holding). IsTaskEntry h task c.in-Some.entry) (sym c.self.view_is) (subst (λ t. IsTaskEntry c.args.self.now t c.in-Some.entry) at_task c.in-Some.ensures) in
     let leaf = task_leaf m (body c.self.inside) task c.in-Some.entry c.same_before.ensures.once refl refl c.self.invariant.body own in
-    let spots : c.deref-2.result.now ≡ spots_of c.args.piece.nodes task.floor =
-    c.deref-2.ensures.value ∙ c.in-Ok.ensures.spots ∙ ap₂ (λ t f. spots_of t f) c.tree-2.ensures (c.floor.ensures ∙ ap (λ (t : Task). t.floor) at_task) in
+    let spots : c.deref.result.now ≡ spots_of c.args.piece.nodes task.floor =
+    c.deref.ensures.value ∙ c.in-Ok.ensures.spots ∙ ap₂ (λ t f. spots_of t f) c.tree-2.ensures (c.floor.ensures ∙ ap (λ (t : Task). t.floor) at_task) in
     let inner = subst IsLinked c.tree.ensures c.linked.ensures.linked in
     let made : c.in-Ok.walk.made ≡ count (tree_of c.args.piece.nodes) = c.in-Ok.ensures.made ∙ ap (λ t. count (tree_of t)) c.tree-2.ensures in
     let grant : c.grant-grant.result ≡ task.grant = c.grant-grant.ensures ∙ ap (λ (t : Task). t.grant) at_task in
@@ -152,15 +83,10 @@ invariant_of-self-2 c =
     let m = value c.self.inside in
     let task = c.args.piece.task in
     let at_task : c.task-task.result.now.task ≡ task = c.task-task.ensures.task in
-    let read : entry_at m.table task.leaf ≡ c.held.result = ap (λ k. entry_at m.table k) (sym (c.leaf-number.ensures ∙ ap (λ (t : Task). t.leaf) at_task)) ∙ ap (λ l. entry_at l c.leaf-number.result) (sym c.deref.ensures.value) ∙ sym c.held.ensures in
-    let own : IsTaskEntry m task c.in-Some.entry = record {
-      is = read ∙ c.in-Some.is;
-      mark = c.if-not-is_out_to.ensures.0 refl ∙ ap (λ (t : Task). held.Out t.worker t.grant) at_task;
-      of = subst (IsPathOf m.tree c.in-Some.entry.node.number) (c.path.ensures ∙ ap (λ (t : Task). t.path) at_task) (c.if-not-is_at.ensures.0 refl);
-    } in
+    let own = subst (λ (h : Holding). IsTaskEntry h task c.in-Some.entry) (sym c.self.view_is) (subst (λ t. IsTaskEntry c.args.self.now t c.in-Some.entry) at_task c.in-Some.ensures) in
     let leaf = task_leaf m (body c.self.inside) task c.in-Some.entry c.same_before.ensures.once refl refl c.self.invariant.body own in
-    let spots : c.deref-2.result.now ≡ spots_of c.args.piece.nodes task.floor =
-    c.deref-2.ensures.value ∙ c.in-Ok.ensures.spots ∙ ap₂ (λ t f. spots_of t f) c.tree-2.ensures (c.floor.ensures ∙ ap (λ (t : Task). t.floor) at_task) in
+    let spots : c.deref.result.now ≡ spots_of c.args.piece.nodes task.floor =
+    c.deref.ensures.value ∙ c.in-Ok.ensures.spots ∙ ap₂ (λ t f. spots_of t f) c.tree-2.ensures (c.floor.ensures ∙ ap (λ (t : Task). t.floor) at_task) in
     let inner = subst IsLinked c.tree.ensures c.linked.ensures.linked in
     let made : c.in-Ok.walk.made ≡ count (tree_of c.args.piece.nodes) = c.in-Ok.ensures.made ∙ ap (λ t. count (tree_of t)) c.tree-2.ensures in
     let grant : c.grant-grant.result ≡ task.grant = c.grant-grant.ensures ∙ ap (λ (t : Task). t.grant) at_task in
@@ -170,9 +96,9 @@ invariant_of-self-2 c =
     let i = c.in-Some.entry.node.number in
     let number : c.leaf-number.result ≡ task.leaf = c.leaf-number.ensures ∙ ap (λ (t : Task). t.leaf) at_task in
     let cleared : c.clear.new.table.items ≡ set m.table task.leaf None = c.clear.ensures.table ∙ ap₂ (λ t k. set t k None) c.reserve.ensures.table number in
-    let table : c.place.new.table.items ≡ set m.table task.leaf None ++ map (placed i (length m.tree)) c.deref-2.result.now =
-    c.place.ensures.table ∙ ap₂ (λ t k. t ++ map (placed i k) c.deref-2.result.now) cleared c.len-nodes.ensures in
-    let change : Change m c.reserve.new.list c.place.new.list c.in-Some.entry task c.args.piece.nodes c.graft.new.tree c.deref-2.result.now c.place.new.table.items = record {
+    let table : c.place.new.table.items ≡ set m.table task.leaf None ++ map (placed i (length m.tree)) c.deref.result.now =
+    c.place.ensures.table ∙ ap₂ (λ t k. t ++ map (placed i k) c.deref.result.now) cleared c.len-nodes.ensures in
+    let change : Change m c.reserve.new.list c.place.new.list c.in-Some.entry task c.args.piece.nodes c.graft.new.tree c.deref.result.now c.place.new.table.items = record {
       inner = inner;
       linked = c.graft.ensures.linked;
       nodes_is = c.in_default-graft.ensures.ok;
@@ -182,14 +108,14 @@ invariant_of-self-2 c =
       listed = λ h. c.place.ensures.listed (subst (λ t. IsListed t c.reserve.new.list.leaves) (sym cleared) h);
       long = c.place.ensures.len;
     } in
-    let was : IsBody m.network (body_of m c.reserve.new.list c.reserve.new.spare c.self.inside.opened c.self.inside.granted) (pool_tree m) =
-    reserved m c.self.inside.list c.self.inside.spare c.reserve.new.list c.reserve.new.spare c.self.inside.opened c.self.inside.granted (pool_tree m) c.self.invariant.body c.reserve.ensures.list c.reserve.ensures.list_room c.reserve.ensures.spare c.reserve.ensures.spare_room in
-    let size : length c.deref-2.result.now ≡ c.len-more.result = c.deref-2.ensures.len ∙ sym c.len-more.ensures in
-    let t = took m c.reserve.new.list c.reserve.new.spare c.place.new.list c.reserve.new.spare c.self.inside.opened c.self.inside.granted c.args.piece.threshold c.in-Some.entry task c.args.piece.nodes c.graft.new.tree c.deref-2.result.now c.place.new.table.items
+    let was : IsBody m.network (body_of m c.reserve.new.list c.self.inside.opened c.self.inside.granted) (pool_tree m) =
+    reserved m c.self.inside.list c.reserve.new.list c.self.inside.opened c.self.inside.granted (pool_tree m) c.self.invariant.body c.reserve.ensures.list c.reserve.ensures.room_kept in
+    let size : length c.deref.result.now ≡ c.len-more.result = c.deref.ensures.len ∙ sym c.len-more.ensures in
+    let t = took m c.reserve.new.list c.place.new.list c.self.inside.opened c.self.inside.granted c.args.piece.threshold c.in-Some.entry task c.args.piece.nodes c.graft.new.tree c.deref.result.now c.place.new.table.items
     c.same_before.ensures.once was own change
-    (omega (arith, c.in-Ok-reserve.ensures.both, c.place.ensures.room, ap length c.reserve.ensures.list, size))
-    (omega (arith, c.in-Ok-reserve.ensures.all, size)) (c.reserve.ensures.spare ∙ c.self.invariant.body.none) (omega (arith, c.in-Ok-reserve.ensures.few, size)) in
-    let b : Body = record { nodes = c.graft.new.tree; table = c.place.new.table.items; listing = c.place.new.list; spare = c.reserve.new.spare; opened = 0; granted = 0 } in
+    (omega (arith, c.in-Ok-reserve.ensures.all, c.place.ensures.room, ap length c.reserve.ensures.list, size))
+    (omega (arith, c.in-Ok-reserve.ensures.few, size)) in
+    let b : Body = record { nodes = c.graft.new.tree; table = c.place.new.table.items; listing = c.place.new.list; opened = 0; granted = 0 } in
     let new = marked c.graft.new.tree c.place.new.table.items in
     let few : count (tree_of c.args.piece.nodes) ≤ task.grant = c.kept.ensures.piece.few in
     record {
@@ -205,15 +131,10 @@ returns-clause-gives c =
     let m = value c.self.inside in
     let task = c.args.piece.task in
     let at_task : c.task-task.result.now.task ≡ task = c.task-task.ensures.task in
-    let read : entry_at m.table task.leaf ≡ c.held.result = ap (λ k. entry_at m.table k) (sym (c.leaf-number.ensures ∙ ap (λ (t : Task). t.leaf) at_task)) ∙ ap (λ l. entry_at l c.leaf-number.result) (sym c.deref.ensures.value) ∙ sym c.held.ensures in
-    let own : IsTaskEntry m task c.in-Some.entry = record {
-      is = read ∙ c.in-Some.is;
-      mark = c.if-not-is_out_to.ensures.0 refl ∙ ap (λ (t : Task). held.Out t.worker t.grant) at_task;
-      of = subst (IsPathOf m.tree c.in-Some.entry.node.number) (c.path.ensures ∙ ap (λ (t : Task). t.path) at_task) (c.if-not-is_at.ensures.0 refl);
-    } in
+    let own = subst (λ (h : Holding). IsTaskEntry h task c.in-Some.entry) (sym c.self.view_is) (subst (λ t. IsTaskEntry c.args.self.now t c.in-Some.entry) at_task c.in-Some.ensures) in
     let leaf = task_leaf m (body c.self.inside) task c.in-Some.entry c.same_before.ensures.once refl refl c.self.invariant.body own in
-    let spots : c.deref-2.result.now ≡ spots_of c.args.piece.nodes task.floor =
-    c.deref-2.ensures.value ∙ c.in-Ok.ensures.spots ∙ ap₂ (λ t f. spots_of t f) c.tree-2.ensures (c.floor.ensures ∙ ap (λ (t : Task). t.floor) at_task) in
+    let spots : c.deref.result.now ≡ spots_of c.args.piece.nodes task.floor =
+    c.deref.ensures.value ∙ c.in-Ok.ensures.spots ∙ ap₂ (λ t f. spots_of t f) c.tree-2.ensures (c.floor.ensures ∙ ap (λ (t : Task). t.floor) at_task) in
     let inner = subst IsLinked c.tree.ensures c.linked.ensures.linked in
     let made : c.in-Ok.walk.made ≡ count (tree_of c.args.piece.nodes) = c.in-Ok.ensures.made ∙ ap (λ t. count (tree_of t)) c.tree-2.ensures in
     let grant : c.grant-grant.result ≡ task.grant = c.grant-grant.ensures ∙ ap (λ (t : Task). t.grant) at_task in
@@ -223,9 +144,9 @@ returns-clause-gives c =
     let i = c.in-Some.entry.node.number in
     let number : c.leaf-number.result ≡ task.leaf = c.leaf-number.ensures ∙ ap (λ (t : Task). t.leaf) at_task in
     let cleared : c.clear.new.table.items ≡ set m.table task.leaf None = c.clear.ensures.table ∙ ap₂ (λ t k. set t k None) c.reserve.ensures.table number in
-    let table : c.place.new.table.items ≡ set m.table task.leaf None ++ map (placed i (length m.tree)) c.deref-2.result.now =
-    c.place.ensures.table ∙ ap₂ (λ t k. t ++ map (placed i k) c.deref-2.result.now) cleared c.len-nodes.ensures in
-    let change : Change m c.reserve.new.list c.place.new.list c.in-Some.entry task c.args.piece.nodes c.graft.new.tree c.deref-2.result.now c.place.new.table.items = record {
+    let table : c.place.new.table.items ≡ set m.table task.leaf None ++ map (placed i (length m.tree)) c.deref.result.now =
+    c.place.ensures.table ∙ ap₂ (λ t k. t ++ map (placed i k) c.deref.result.now) cleared c.len-nodes.ensures in
+    let change : Change m c.reserve.new.list c.place.new.list c.in-Some.entry task c.args.piece.nodes c.graft.new.tree c.deref.result.now c.place.new.table.items = record {
       inner = inner;
       linked = c.graft.ensures.linked;
       nodes_is = c.in_default-graft.ensures.ok;
@@ -235,13 +156,13 @@ returns-clause-gives c =
       listed = λ h. c.place.ensures.listed (subst (λ t. IsListed t c.reserve.new.list.leaves) (sym cleared) h);
       long = c.place.ensures.len;
     } in
-    let was : IsBody m.network (body_of m c.reserve.new.list c.reserve.new.spare c.self.inside.opened c.self.inside.granted) (pool_tree m) =
-    reserved m c.self.inside.list c.self.inside.spare c.reserve.new.list c.reserve.new.spare c.self.inside.opened c.self.inside.granted (pool_tree m) c.self.invariant.body c.reserve.ensures.list c.reserve.ensures.list_room c.reserve.ensures.spare c.reserve.ensures.spare_room in
-    let size : length c.deref-2.result.now ≡ c.len-more.result = c.deref-2.ensures.len ∙ sym c.len-more.ensures in
-    let t = took m c.reserve.new.list c.reserve.new.spare c.place.new.list c.reserve.new.spare c.self.inside.opened c.self.inside.granted c.args.piece.threshold c.in-Some.entry task c.args.piece.nodes c.graft.new.tree c.deref-2.result.now c.place.new.table.items
+    let was : IsBody m.network (body_of m c.reserve.new.list c.self.inside.opened c.self.inside.granted) (pool_tree m) =
+    reserved m c.self.inside.list c.reserve.new.list c.self.inside.opened c.self.inside.granted (pool_tree m) c.self.invariant.body c.reserve.ensures.list c.reserve.ensures.room_kept in
+    let size : length c.deref.result.now ≡ c.len-more.result = c.deref.ensures.len ∙ sym c.len-more.ensures in
+    let t = took m c.reserve.new.list c.place.new.list c.self.inside.opened c.self.inside.granted c.args.piece.threshold c.in-Some.entry task c.args.piece.nodes c.graft.new.tree c.deref.result.now c.place.new.table.items
     c.same_before.ensures.once was own change
-    (omega (arith, c.in-Ok-reserve.ensures.both, c.place.ensures.room, ap length c.reserve.ensures.list, size))
-    (omega (arith, c.in-Ok-reserve.ensures.all, size)) (c.reserve.ensures.spare ∙ c.self.invariant.body.none) (omega (arith, c.in-Ok-reserve.ensures.few, size)) in
+    (omega (arith, c.in-Ok-reserve.ensures.all, c.place.ensures.room, ap length c.reserve.ensures.list, size))
+    (omega (arith, c.in-Ok-reserve.ensures.few, size)) in
     λ view word.
     let new : Holding = record m { tree = c.graft.new.tree; table = c.place.new.table.items; nodes = m.nodes + c.in-Ok.walk.made } in
     subst (λ (old : Holding). PoolGives (pool_of old view) word (piece_of c.args.piece) (pool_of new (record view { seen = word }))) c.self.view_is

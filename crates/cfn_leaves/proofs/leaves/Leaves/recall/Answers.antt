@@ -10,7 +10,7 @@ use Rattle.cfn_leaves.proofs.leaves.Leaves.recall.Goals as goal
 pub invariant_of-self : goal.invariant_of-self
 invariant_of-self c =
     let m = value c.self.inside in
-    let b = c.free_all.ensures.body m.network m.tree c.self.inside.spare c.self.inside.opened c.self.inside.granted c.self.invariant.body in
+    let b = c.free_all.ensures.body m.network m.tree c.self.inside.opened c.self.inside.granted c.self.invariant.body in
     let tree : marked m.tree c.free_all.new.table.items ≡ recalled (pool_tree m) = marked_is m.network m.tree c.free_all.new.table.items (recalled (pool_tree m)) c.same_before.ensures.once b.are in
     record {
       body = subst (IsBody m.network _) (sym tree) b;
@@ -22,7 +22,7 @@ invariant_of-self c =
 pub returns-clause-recalls : goal.returns-clause-recalls
 returns-clause-recalls c = λ view.
     let m = value c.self.inside in
-    let b = c.free_all.ensures.body m.network m.tree c.self.inside.spare c.self.inside.opened c.self.inside.granted c.self.invariant.body in
+    let b = c.free_all.ensures.body m.network m.tree c.self.inside.opened c.self.inside.granted c.self.invariant.body in
     let tree : marked m.tree c.free_all.new.table.items ≡ recalled (pool_tree m) = marked_is m.network m.tree c.free_all.new.table.items (recalled (pool_tree m)) c.same_before.ensures.once b.are in
     let new : Holding = record m { table = c.free_all.new.table.items } in
     subst (λ (old : Holding). PoolRecalls (pool_of old view) (pool_of new view)) c.self.view_is

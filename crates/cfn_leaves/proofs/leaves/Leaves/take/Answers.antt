@@ -33,7 +33,7 @@ of-task-requires c =
     let left = m.budget - (m.nodes + c.self.inside.granted) in
     let at : entry_at m.table first.leaf ≡ Some c.in-Some-held.entry = ap (λ l. entry_at l first.leaf) (sym c.deref.ensures.value) ∙ sym c.held.ensures ∙ c.in-Some-held.is in
     let out = popped c.self.inside.list c.take_least.new.self c.take_least.result first c.take_least.ensures.least c.take_least.ensures.rest c.in-Some.ensures in
-    let step = handed m c.self.inside.list c.self.inside.spare c.take_least.new.self c.self.inside.opened c.self.inside.granted first c.in-Some-held.entry c.in-Ok.path c.args.worker c.args.want left c.min-grant.result c.mark.new.table.items
+    let step = handed m c.self.inside.list c.take_least.new.self c.self.inside.opened c.self.inside.granted first c.in-Some-held.entry c.in-Ok.path c.args.worker c.args.want left c.min-grant.result c.mark.new.table.items
     c.same_before.ensures.once inside.body c.in-Some.ensures at c.in-Ok.ensures (omega (arith, inside.within)) c.if-left-eq0.false c.if-self.false c.requires.wants c.min-grant.ensures out.0 out.1 c.mark.ensures in
     let own : c.args.network.now ≡ m.network = c.requires.own ∙ ap (λ (h : Holding). h.network) (sym c.self.view_is) in
     let task : IsTask m.network (record { leaf = first.leaf; worker = c.args.worker; grant = c.min-grant.result; floor = first.floor; path = c.in-Ok.path }) =
@@ -49,7 +49,7 @@ invariant_of-self c =
     let left = m.budget - (m.nodes + c.self.inside.granted) in
     let at : entry_at m.table first.leaf ≡ Some c.in-Some-held.entry = ap (λ l. entry_at l first.leaf) (sym c.deref.ensures.value) ∙ sym c.held.ensures ∙ c.in-Some-held.is in
     let out = popped c.self.inside.list c.take_least.new.self c.take_least.result first c.take_least.ensures.least c.take_least.ensures.rest c.in-Some.ensures in
-    let step = handed m c.self.inside.list c.self.inside.spare c.take_least.new.self c.self.inside.opened c.self.inside.granted first c.in-Some-held.entry c.in-Ok.path c.args.worker c.args.want left c.min-grant.result c.mark.new.table.items
+    let step = handed m c.self.inside.list c.take_least.new.self c.self.inside.opened c.self.inside.granted first c.in-Some-held.entry c.in-Ok.path c.args.worker c.args.want left c.min-grant.result c.mark.new.table.items
     c.same_before.ensures.once inside.body c.in-Some.ensures at c.in-Ok.ensures (omega (arith, inside.within)) c.if-left-eq0.false c.if-self.false c.requires.wants c.min-grant.ensures out.0 out.1 c.mark.ensures in
     record { body = step.body; within = omega (arith, inside.within, c.min-grant.ensures); few = inside.few; place = inside.place }
 
@@ -61,7 +61,7 @@ returns-clause-takes c =
     let left = m.budget - (m.nodes + c.self.inside.granted) in
     let at : entry_at m.table first.leaf ≡ Some c.in-Some-held.entry = ap (λ l. entry_at l first.leaf) (sym c.deref.ensures.value) ∙ sym c.held.ensures ∙ c.in-Some-held.is in
     let out = popped c.self.inside.list c.take_least.new.self c.take_least.result first c.take_least.ensures.least c.take_least.ensures.rest c.in-Some.ensures in
-    let step = handed m c.self.inside.list c.self.inside.spare c.take_least.new.self c.self.inside.opened c.self.inside.granted first c.in-Some-held.entry c.in-Ok.path c.args.worker c.args.want left c.min-grant.result c.mark.new.table.items
+    let step = handed m c.self.inside.list c.take_least.new.self c.self.inside.opened c.self.inside.granted first c.in-Some-held.entry c.in-Ok.path c.args.worker c.args.want left c.min-grant.result c.mark.new.table.items
     c.same_before.ensures.once inside.body c.in-Some.ensures at c.in-Ok.ensures (omega (arith, inside.within)) c.if-left-eq0.false c.if-self.false c.requires.wants c.min-grant.ensures out.0 out.1 c.mark.ensures in
     let own : c.args.network.now ≡ m.network = c.requires.own ∙ ap (λ (h : Holding). h.network) (sym c.self.view_is) in
     let task : c.of-task.result.task ≡ record { leaf = first.leaf; worker = c.args.worker; grant = c.min-grant.result; floor = first.floor; path = c.in-Ok.path } =

@@ -1,0 +1,21 @@
+-- By which decision a leaf is split.
+use Rattle.std.specs.Prelude.{ℕ, List, Option}
+use Rattle.cfn_model.specs.declared.step.Decision.{Decision}
+use Rattle.cfn_model.specs.declared.step.Decision.TheVariants.{Is, Most}
+use Rattle.cfn_model.specs.Certificate.{Solution}
+use Rattle.cfn_store.specs.Standing.{Standing}
+use Rattle.cfn_branch.specs.declared.rule.Rule.{Rule}
+use Rattle.cfn_branch.specs.declared.rule.Rule.TheVariants.{Degrees, Fewest}
+use Rattle.cfn_branch.specs.Choosing.{IsChosen}
+use Rattle.cfn_branch.specs.Fewest.{IsFewestSplit}
+use Rattle.cfn_node.specs.Values.{IsFirstValue}
+
+-- A variable that the weights choose is the value that a split tries first.
+abbrev pub IsByDegrees : Standing → List ℕ → Option Solution → Decision → Type 0
+IsByDegrees s weights best (Is x a) = IsChosen s weights x × IsFirstValue s best x a
+IsByDegrees s weights best (Most x v) = ⊥
+
+-- A decision is what a rule names.
+abbrev pub IsByRule : Rule → Standing → List ℕ → Option Solution → Decision → Type 0
+IsByRule Degrees s weights best d = IsByDegrees s weights best d
+IsByRule Fewest s weights best d = IsFewestSplit s d

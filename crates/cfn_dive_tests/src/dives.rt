@@ -1,0 +1,134 @@
+//! What one dive makes of the task that a pool begins with.
+
+ghost use Rattle.std.specs.Prelude.{◌≡◌, ◌≤◌, None, IfSome};
+ghost use Rattle.cfn_task.specs.Values.{IsTaskOf};
+
+use cfn_branch::Rule;
+use cfn_dive::{Dived, Diver};
+use cfn_low::{Incumbent, Low, Unnamed};
+use cfn_net::{Builder, Network, Scored};
+use cfn_pool::{Pool, Taken};
+use cfn_proof::{End, NodeId, Tree};
+use cfn_task::{Piece, Task};
+use std::alloc::{AllocError, Global};
+use std::marker::Brand;
+use std::test::*;
+
+/// How many nodes a dive may make: more than are below the root of `tri`.
+const AMPLE: u64 = 1_000;
+
+/// Three variables with two values, of which each two cost 1 where they agree. The least cost is 1.
+fn tri(alloc: Global) -> Result<Network, AllocError> {
+    let mut builder = Builder::make(alloc, b"tri", &[2, 2, 2], 10)?;
+    let agree = [([0, 0].as_slice(), 1), ([1, 1].as_slice(), 1)];
+    builder.function(&[0, 1], 0, &agree)?;
+    builder.function(&[0, 2], 0, &agree)?;
+    builder.function(&[1, 2], 0, &agree)?;
+    builder.finish()
+}
+
+/// What is asked of a dive.
+#[derive(Clone, Copy, Debug, PartialEq, Eq)]
+struct Made {
+    /// The threshold of the piece.
+    threshold: u64,
+    /// Whether a leaf of the piece's tree is open.
+    open: bool,
+    /// Whether the dive made all its backtracks.
+    cut: bool,
+}
+
+/// The dive from the root with so many backtracks.
+fn dive<M: Incumbent>(
+    alloc: Global,
+    network: &Network,
+    unnamed: Unnamed,
+    empty: Scored,
+    backtracks: u64,
+) -> Result<Option<Made>, AllocError>
+    requires table { M.table ≡ unnamed.table }
+    requires network { M.network ≡ unnamed.network }
+    requires own { network.now ≡ unnamed.network }
+    requires empty { empty ≡ record { network = unnamed.network; held = None } }
+    requires some { 1 ≤ backtracks }
+{
+    let mut diver = Diver::make(alloc, network, Rule::Degrees)?;
+    let (low, mut holder) = unnamed.named::<M>();
+    let mut part = low.split(&mut holder, empty);
+    let Ok(held) = Pool::begin(alloc, network, holder, AMPLE) else {
+        return Err(AllocError);
+    };
+    let Some(task) = root_task(network, held) else {
+        return Ok(None);
+    };
+    match diver.dive(alloc, network, task, &low, &mut part, backtracks) {
+        Dived::Piece { piece, cut } => Ok(Some(told_by(&piece, cut))),
+        Dived::Memory { .. } => Err(AllocError),
+    }
+}
+
+/// The task of a pool's root.
+fn root_task<M: Incumbent>(network: &Network, mut held: Pool<M>) -> Option<Task>
+    requires own { network.now ≡ M.network }
+    ensures { IfSome result (IsTaskOf M.network) }
+{
+    match held.take(network, 0, AMPLE) {
+        Taken::Given { task } => Some(task),
+        _ => None,
+    }
+}
+
+/// What a piece tells.
+fn told_by(piece: &Piece, cut: bool) -> Made {
+    Made {
+        threshold: piece.threshold(),
+        open: has_open(piece.tree()),
+        cut,
+    }
+}
+
+/// Whether a leaf of a tree is open.
+fn has_open(tree: &Tree) -> bool {
+    tree.linked();
+    for number in 0..tree.len() {
+        let id = NodeId {
+            number: number as u32,
+        };
+        if tree.node(id).end == End::Free {
+            return true;
+        }
+    }
+    false
+}
+
+/// A dive from the root of `tri` with so many backtracks.
+fn dive_in_tri(alloc: Global, backtracks: u64) -> Result<Option<Made>, AllocError>
+    requires { 1 ≤ backtracks }
+{
+    let network = tri(alloc)?;
+    let unnamed = Unnamed::make(alloc, &network)?;
+    let empty = Scored::empty(alloc, &network)?;
+    dive::<Brand>(alloc, &network, unnamed, empty, backtracks)
+}
+
+#[test]
+fn dive_closes_all(rt: HostRuntime) -> Result<(), Fail> {
+    let all = Made {
+        threshold: 1,
+        open: false,
+        cut: false,
+    };
+    assert_eq!(rt; dive_in_tri(rt.alloc(), AMPLE)?, Some(all));
+    Ok(())
+}
+
+#[test]
+fn dive_ends_after_its_backtracks(rt: HostRuntime) -> Result<(), Fail> {
+    let some = Made {
+        threshold: 1,
+        open: true,
+        cut: true,
+    };
+    assert_eq!(rt; dive_in_tri(rt.alloc(), 1)?, Some(some));
+    Ok(())
+}

@@ -1,0 +1,5 @@
+//! Tests of one dive, and no code of its own.
+#![tactic(auto)]
+
+#[cfg(test)]
+mod dives;
