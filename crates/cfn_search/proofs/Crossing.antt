@@ -3,10 +3,10 @@ use mathlib.Core.List.{[], ◌∷◌}
 use mir.Syntax.{Sym}
 use denote.RattleType.{RattleType}
 use denote.Ref.{NamedLft}
-use denote.Struct.Field.{row_field}
+use denote.Struct.Field.{row_field, u32-field, u64-field}
 use denote.Struct.Tuple.{TupleAt, type_at}
-use denote.Param.Send.{IsSend, IsSync, sendable}
-use denote.Param.SendFields.{as_row_sync, declared_sync}
+use denote.Param.Send.{IsSend, IsSync, sendable, view_send}
+use denote.Param.SendFields.{as_row_send, as_row_sync, declared_send, declared_sync}
 use Rattle.std.proofs.Crossing.{crosses}
 use Rattle.atomic_table.proofs.shared.Seat.TheSendSync as seat
 use Rattle.cfn_net.specs.contracts.network.Network as Network
@@ -15,13 +15,21 @@ use Rattle.cfn_low.specs.contracts.holder.Holder as Holder
 use Rattle.cfn_low.specs.contracts.low.Low as Low
 use Rattle.cfn_low.proofs.low.Low.TheSendSync as low
 use Rattle.cfn_pool.specs.contracts.pool.Pool as Pool
+use Rattle.cfn_task.specs.contracts.task.Task as Task
+use Rattle.cfn_rota.specs.contracts.ends.Ends as Ends
+use Rattle.cfn_rota.proofs.CallerLemmas.{ends_send}
 use Rattle.cfn_search.specs.declared.board.Squad as squad
+use Rattle.cfn_search.specs.contracts.errands.Errand as Errand
+use Rattle.cfn_search.specs.contracts.errands.ErrandKindTask.TheImpl as errand
 use Rattle.cfn_search.specs.contracts.worker.Worker as Worker
 use Rattle.cfn_search.specs.contracts.worker.Shared as Shared
 use Rattle.cfn_search.specs.contracts.board.Board as Board
 
 network_sync : IsSync Network.the_row
 network_sync = search (sendable, crosses) depth 40
+
+task_send : IsSend Task.the_row
+task_send = search (sendable, crosses) depth 40
 
 module _ (M : RattleType) (g : word.Ghosts M.Denot) where
   holder_send : IsSend (Holder.the_row M g)
@@ -33,8 +41,14 @@ module _ (M : RattleType) (g : word.Ghosts M.Denot) where
   pool_send : IsSend (Pool.the_row M g)
   pool_send = search (sendable, crosses, holder_send) depth 40
 
+  lanes_send : IsSend (Ends.the_row Task.the_row (Errand.the_row M) (errand.ghosts M g errand.no_dict))
+  lanes_send = ends_send _ _ _ task_send
+
+  inside_send : IsSend (Worker.TheInside.the_row M g)
+  inside_send = declared_send (Worker.TheInside.the_type M g) (as_row_send u32-field (search sendable), (as_row_send u64-field (search sendable), (as_row_send (Holder.the_field M g) holder_send, (lanes_send, tt))))
+
   pub worker_send : IsSend (Worker.the_row M g)
-  worker_send = search (sendable, holder_send) depth 40
+  worker_send = view_send (Worker.TheInside.the_row M g) _ _ _ _ inside_send
 
   module _ (h : squad.Ghosts M.Denot) where
     board_send : IsSend (Board.the_row M g h)

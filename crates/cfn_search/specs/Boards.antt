@@ -15,6 +15,6 @@ pub record IsBoard (P : Network) (budget crew : ℕ) (held : Held) : Type 0 wher
 
 -- A task that is offered is of the network.
 abbrev pub IsOffered : Network → Offer → Type 0
-IsOffered P (Task task) = task.network ≡ P
+IsOffered P (Task task more) = task.network ≡ P
 IsOffered P (Later changes) = Unit {0}
 IsOffered P Over = Unit {0}

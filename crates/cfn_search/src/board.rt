@@ -7,6 +7,7 @@ ghost use Rattle.cfn_search.specs.Searching.{IsSearch};
 ghost use Rattle.cfn_search.specs.Granting.{IsLimit};
 ghost use Rattle.cfn_search.specs.Boards.{IsBoard, IsOffered};
 
+use crate::errands::Own;
 use crate::grants::wanted;
 use crate::search::hand_in;
 use crate::steps::{back, take};
@@ -33,6 +34,9 @@ impl Squad for Brand {
     ghost crew = { 0 };
 }
 
+/// How many tasks a worker takes for its lane beside the one that it begins with.
+const MORE_TASKS: u32 = 3;
+
 /// The pool of a search, for all its workers.
 #[derive(Drop)]
 pub(crate) struct Board<M: Incumbent + Squad> {
@@ -57,8 +61,8 @@ impl<M: Incumbent + Squad> Model for Board<M> {
 /// The answer to a worker that asks for a leaf.
 #[derive(Drop)]
 pub(crate) enum Offer {
-    /// A task.
-    Task { task: Task },
+    /// A task, and whether others were pushed to the worker's lane.
+    Task { task: Task, more: bool },
     /// None now: the count of changes is this.
     Later { changes: u64 },
     /// None any more, or no memory for a leaf's path.
@@ -95,8 +99,15 @@ impl<M: Incumbent + Squad> Board<M> {
         self.changes = self.changes.wrapping_add(1);
     }
 
-    /// Asks for a leaf.
-    pub(crate) fn take(&mut self, network: &Network, worker: u32, known: bool, limit: u64) -> Offer
+    /// Asks for a leaf. Where there is one, up to three more go to the worker's lane, which counts as a change.
+    pub(crate) fn take(
+        &mut self,
+        network: &Network,
+        worker: u32,
+        known: bool,
+        limit: u64,
+        lane: &mut Own<M>,
+    ) -> Offer
         requires own { network.now ≡ M.network }
         requires limit { IsLimit limit }
         ensures { IsOffered M.network result }
@@ -106,7 +117,10 @@ impl<M: Incumbent + Squad> Board<M> {
         }
         let want = wanted(self.held.nodes() == 0, known, limit, network.variables());
         match take(network, &mut self.held, worker, want) {
-            Taken::Given { task } => Offer::Task { task },
+            Taken::Given { task } => {
+                let more = self.fill(network, worker, want, lane);
+                Offer::Task { task, more }
+            }
             Taken::Again => Offer::Later {
                 changes: self.changes,
             },
@@ -114,8 +128,30 @@ impl<M: Incumbent + Squad> Board<M> {
         }
     }
 
-    /// Puts a piece in its leaf's place, and answers how many backtracks the next dive may make. Where it can't, the answer is
-    /// `None`, and the search stops.
+    /// Takes more leaves for a worker's lane, up to three and up to the first answer other than a task; whether there were some.
+    fn fill(&mut self, network: &Network, worker: u32, want: u64, lane: &mut Own<M>) -> bool
+        requires own { network.now ≡ M.network }
+        requires wants { 1 ≤ want }
+    {
+        let mut more = false;
+        for _ in 0..MORE_TASKS {
+            let Taken::Given { task } = take(network, &mut self.held, worker, want) else {
+                break;
+            };
+            if let Err(task) = lane.push(task) {
+                self.back(&task);
+                break;
+            }
+            more = true;
+        }
+        if more {
+            self.tell();
+        }
+        more
+    }
+
+    /// Puts a piece in its leaf's place, and answers how many backtracks the next dive may make. Where it can't, the search
+    /// stops. The answer is `None` where the search has stopped.
     pub(crate) fn give(
         &mut self,
         network: &Network,
@@ -134,10 +170,10 @@ impl<M: Incumbent + Squad> Board<M> {
         self.tell();
         let next = hand_in(network, low, &mut self.held, part, piece, limit);
         self.stopped = self.stopped || next.is_none();
-        next
+        if self.stopped { None } else { next }
     }
 
-    /// Frees the leaf of a task whose dive was refused memory, for another worker.
+    /// Frees the leaf of a task whose worker ends before it has dived there, for another worker.
     pub(crate) fn back(&mut self, task: &Task) {
         self.tell();
         back(&mut self.held, task);

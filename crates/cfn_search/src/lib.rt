@@ -5,7 +5,8 @@
 //!
 //! - `search.rt`: the search on one thread, and one dive of it;
 //! - `team.rt`: the search by several workers, from the first share of the word to the last;
-//! - `worker.rt`: one worker, and `board.rt` what all share under a lock;
+//! - `worker.rt`: one worker, `board.rt` what all share under a lock, and `errands.rt` the tasks that workers steal from each
+//!   other;
 //! - `gate.rt`: a gate that workers pass, by which a test can hold them;
 //! - `steps.rt`: leaves are taken from the pool, and pieces are given to it;
 //! - `grants.rt`: how many nodes and backtracks a dive may make;
@@ -13,6 +14,7 @@
 #![tactic(auto)]
 
 mod board;
+mod errands;
 mod gate;
 mod grants;
 mod outcome;
@@ -22,7 +24,7 @@ mod team;
 mod worker;
 
 pub use gate::{Gate, OpenGate, Point};
-pub use search::solve;
+pub use search::{solve, solve_by};
 pub use team::solve_together;
 
 #[cfg(test)]

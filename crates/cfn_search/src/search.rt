@@ -10,6 +10,7 @@ ghost use Rattle.cfn_search.specs.Granting.{IsLimit};
 use crate::grants::{FEWEST_BACKTRACKS, limit_after, wanted};
 use crate::outcome::{conclude, meet, wind_up};
 use crate::steps::{back, give, note, sweep, take};
+use cfn_branch::Rule;
 use cfn_dive::{Dived, Diver};
 use cfn_low::{Holder, Incumbent, Low, Unnamed};
 use cfn_net::{Network, Scored};
@@ -31,9 +32,22 @@ pub fn solve(alloc: Global, network: &Network, budget: u64) -> Result<Outcome, A
     requires { budget ≤ GREATEST }
     ensures { IfOk result (IsOutcome network.now budget) }
 {
+    solve_by(alloc, network, budget, Rule::Degrees)
+}
+
+/// Searches as `solve` does, with splits that `rule` names.
+pub fn solve_by(
+    alloc: Global,
+    network: &Network,
+    budget: u64,
+    rule: Rule,
+) -> Result<Outcome, AllocError>
+    requires { budget ≤ GREATEST }
+    ensures { IfOk result (IsOutcome network.now budget) }
+{
     let unnamed = Unnamed::make(alloc, network)?;
     let empty = Scored::empty(alloc, network)?;
-    let diver = Diver::make(alloc, network)?;
+    let diver = Diver::make(alloc, network, rule)?;
     search::<Brand>(alloc, network, unnamed, empty, diver, budget)
 }
 

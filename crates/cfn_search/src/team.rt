@@ -8,6 +8,7 @@ ghost use Rattle.cfn_pool.specs.Views.{pool};
 ghost use Rattle.cfn_search.specs.Searching.{IsSearch};
 
 use crate::board::{Board, Squad};
+use crate::errands::{Errand, ROOM};
 use crate::gate::Gate;
 use crate::outcome::{conclude, meet, wind_up};
 use crate::search::solve;
@@ -17,6 +18,8 @@ use cfn_low::{Holder, Incumbent, Low, Unnamed};
 use cfn_net::{Network, Scored};
 use cfn_pool::Pool;
 use cfn_proof::Outcome;
+use cfn_rota::deal;
+use cfn_task::Task;
 use std::alloc::{AllocError, Global};
 use std::marker::Brand;
 use std::sync::{Condvar, Mutex, Wait};
@@ -80,8 +83,8 @@ fn search<M: Incumbent + Squad + Send + Sync, R: Threads + Wait + Sync, G: Gate 
     Ok(conclude(network, low, held))
 }
 
-/// Workers, each with one share of the word. An `Err` is want of memory.
-fn recruit<M: Incumbent>(
+/// Workers, each with one share of the word and the ends of all lanes. An `Err` is want of memory.
+pub(crate) fn recruit<M: Incumbent>(
     alloc: Global,
     network: &Network,
     low: &Low<M>,
@@ -96,11 +99,13 @@ fn recruit<M: Incumbent>(
     ensures held { holder.new.held ≡ holder.old.held }
     ensures seen { holder.new.seen ≡ holder.old.seen }
 {
+    let mut ends = deal::<Task, Errand<M>>(alloc, workers, ROOM)?;
     let mut crew = Vec::with_capacity(alloc, workers as usize)?;
-    for number in 0..workers {
+    while let Some(own) = ends.pop() {
+        let number = crew.len() as u32;
         let empty = Scored::empty(alloc, network)?;
         let part = low.split(holder, empty);
-        crew.push_reserved(Worker::new(number, part));
+        crew.push_reserved(Worker::new(number, part, own));
     }
     Ok(crew)
 }

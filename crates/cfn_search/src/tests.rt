@@ -7,6 +7,7 @@ use std::alloc::{AllocError, AllocGlobal, Global};
 use std::sync::Wait;
 use std::sync::atomic::{AtomicU64, Ordering};
 use std::test::*;
+use std::thread;
 use std::thread::Threads;
 
 /// One variable with two values, of costs 3 and 1.
@@ -27,6 +28,9 @@ fn tri(alloc: Global) -> Result<Network, AllocError> {
 }
 
 /// A gate that holds the second task of a run until a third is taken, for at most 100,000,000 turns.
+///
+/// Below the root of `tri` there are two leaves. Whoever takes the second task has the third in its lane, so the third is
+/// stolen.
 #[derive(Drop)]
 struct Meeting {
     /// How many tasks were taken.
@@ -48,6 +52,36 @@ impl Gate for Meeting {
     }
 }
 
+/// A gate that holds one of four workers for some time, at one of the points or at each.
+#[derive(Drop)]
+struct Holding {
+    /// The worker is this modulo 4, and the point this by 4.
+    number: u32,
+}
+
+impl Gate for Holding {
+    fn pass(&self, worker: u32, point: Point) {
+        let held = match self.number / 4 {
+            0 => point == Point::Taken,
+            1 => point == Point::BeforeGive,
+            2 => point == Point::Waiting,
+            3 => point == Point::Ended,
+            _ => true,
+        };
+        if held && worker == self.number % 4 {
+            for _ in 0..10_000 {
+                thread::yield_now();
+            }
+        }
+    }
+}
+
+/// Whether four workers prove the bound 1 of `tri` with an optimum of that cost, under a gate.
+fn agrees<R: AllocGlobal + Threads + Wait + Sync>(rt: &R, number: u32) -> Result<bool, AllocError> {
+    let gate = Holding { number };
+    Ok(together(rt, 4, &gate)? == (1, true))
+}
+
 /// The bound that some workers prove of `tri`, and whether they end with an optimum of that cost.
 fn together<R: AllocGlobal + Threads + Wait + Sync, G: Gate + Sync>(
     rt: &R,
@@ -67,6 +101,14 @@ fn together<R: AllocGlobal + Threads + Wait + Sync, G: Gate + Sync>(
 #[test]
 fn four_workers_find_the_optimum(rt: HostRuntime) -> Result<(), Fail> {
     assert!(rt; together(&rt, 4, &OpenGate)? == (1, true));
+    Ok(())
+}
+
+#[test]
+fn four_workers_agree_under_twenty_gates(rt: HostRuntime) -> Result<(), Fail> {
+    for number in 0..20 {
+        assert!(rt; agrees(&rt, number)?);
+    }
     Ok(())
 }
 

@@ -1,11 +1,15 @@
-//! One worker: it takes leaves from the pool, dives, and gives back what it made, until there is no leaf to take.
+//! One worker: it takes tasks from its lane, from those of others or from the pool, dives, and gives back what it made, until
+//! there is no leaf to take. Then it gives back what its lane holds.
 
 ghost use Rattle.std.specs.Prelude.{◌≡◌, IfSome};
 ghost use Rattle.cfn_task.specs.Values.{IsTaskOf};
+ghost use Rattle.cfn_search.specs.Boards.{IsOffered};
 
 use crate::board::{Board, Offer, Squad};
+use crate::errands::All;
 use crate::gate::{Gate, Point};
 use crate::grants::FEWEST_BACKTRACKS;
+use cfn_branch::Rule;
 use cfn_dive::{Dived, Diver};
 use cfn_low::{Holder, Incumbent, Low};
 use cfn_net::Network;
@@ -14,12 +18,14 @@ use std::alloc::Global;
 use std::marker::Model;
 use std::sync::{Condvar, Mutex, Wait};
 
-/// A worker: its number, how many backtracks its next dive may make, and its part of the word, which has one share.
+/// A worker: its number, how many backtracks its next dive may make, its part of the word, which has one share, and its ends
+/// of the lanes of tasks.
 #[derive(Drop)]
 pub(crate) struct Worker<M: Incumbent> {
     number: u32,
     limit: u64,
     part: Holder<M>,
+    ends: All<M>,
 }
 
 impl<M: Incumbent> Model for Worker<M> {
@@ -46,13 +52,14 @@ pub(crate) struct Shared<'a, M: Incumbent + Squad, G> {
 
 impl<M: Incumbent> Worker<M> {
     /// A worker that has not dived.
-    pub(crate) fn new(number: u32, part: Holder<M>) -> Worker<M>
+    pub(crate) fn new(number: u32, part: Holder<M>, ends: All<M>) -> Worker<M>
         requires { part.shares ≡ 1 }
     {
         Worker {
             number,
             limit: FEWEST_BACKTRACKS,
             part,
+            ends,
         }
     }
 
@@ -66,8 +73,8 @@ impl<M: Incumbent> Worker<M> {
 }
 
 impl<M: Incumbent + Squad> Worker<M> {
-    /// Takes leaves and dives until there is no leaf to take, or memory is refused. What it dives with it makes itself, so that
-    /// its memory is its own thread's.
+    /// Takes leaves and dives until there is no leaf to take, or memory is refused, and gives back what its lane holds then.
+    /// What it dives with it makes itself, so that its memory is its own thread's.
     pub(crate) fn work<R: Wait, G: Gate>(
         &mut self,
         rt: &R,
@@ -76,9 +83,10 @@ impl<M: Incumbent + Squad> Worker<M> {
     )
         requires { shared.now.network.now ≡ M.network }
     {
-        if let Ok(mut diver) = Diver::make(alloc, shared.network) {
+        if let Ok(mut diver) = Diver::make(alloc, shared.network, Rule::Degrees) {
             self.dive_all(rt, alloc, shared, &mut diver);
         }
+        self.give_up(rt, shared);
         shared.board.lock(rt).tell();
         shared.changed.notify_all();
         shared.gate.pass(self.number, Point::Ended);
@@ -99,39 +107,73 @@ impl<M: Incumbent + Squad> Worker<M> {
             let Some(task) = self.ask(rt, shared) else {
                 break;
             };
+            shared.gate.pass(self.number, Point::Taken);
             if !self.explore(rt, alloc, shared, diver, task) {
                 break;
             }
         }
     }
 
-    /// Asks for a leaf, and waits while others may still bring one.
-    fn ask<R: Wait, G: Gate>(&self, rt: &R, shared: &Shared<'_, M, G>) -> Option<Task>
+    /// Finds a task, and waits while others may still bring one.
+    fn ask<R: Wait, G: Gate>(&mut self, rt: &R, shared: &Shared<'_, M, G>) -> Option<Task>
         requires { shared.now.network.now ≡ M.network }
         ensures { IfSome result (IsTaskOf M.network) }
     {
-        let known = self.part.best().values().is_some();
         for _ in rt.forever() {
-            let offer = shared
-                .board
-                .lock(rt)
-                .take(shared.network, self.number, known, self.limit);
-            match offer {
-                Offer::Task { task } => {
-                    shared.gate.pass(self.number, Point::Taken);
+            if let Some(task) = self.ends.find() {
+                return Some(task);
+            }
+            match self.ask_board(rt, shared) {
+                Offer::Task { task, more } => {
+                    if more {
+                        shared.changed.notify_all();
+                    }
                     return Some(task);
                 }
                 Offer::Later { changes } => {
-                    shared.gate.pass(self.number, Point::Waiting);
-                    let board = shared.board.lock(rt);
-                    let _board = shared
-                        .changed
-                        .wait_while(rt, board, |board| board.changes() == changes);
+                    if let Some(task) = self.ends.steal() {
+                        return Some(task);
+                    }
+                    self.wait(rt, shared, changes);
                 }
                 Offer::Over => return None,
             }
         }
         None
+    }
+
+    /// Asks the board for a leaf, and for more for its lane.
+    fn ask_board<R: Wait, G: Gate>(&mut self, rt: &R, shared: &Shared<'_, M, G>) -> Offer
+        requires { shared.now.network.now ≡ M.network }
+        ensures { IsOffered M.network result }
+    {
+        let known = self.part.best().values().is_some();
+        shared.board.lock(rt).take(
+            shared.network,
+            self.number,
+            known,
+            self.limit,
+            &mut self.ends.lane,
+        )
+    }
+
+    /// Waits while the board has changed so often.
+    fn wait<R: Wait, G: Gate>(&self, rt: &R, shared: &Shared<'_, M, G>, changes: u64) {
+        shared.gate.pass(self.number, Point::Waiting);
+        let board = shared.board.lock(rt);
+        let _board = shared
+            .changed
+            .wait_while(rt, board, |board| board.changes() == changes);
+    }
+
+    /// Gives back what its lane holds, for other workers.
+    fn give_up<R: Wait, G: Gate>(&mut self, rt: &R, shared: &Shared<'_, M, G>) {
+        for _ in rt.forever() {
+            let Some(task) = self.ends.lane.pop() else {
+                break;
+            };
+            shared.board.lock(rt).back(&task);
+        }
     }
 
     /// Dives below a task's leaf, and gives back what was made; whether the worker goes on.
@@ -180,3 +222,6 @@ impl<M: Incumbent + Squad> Worker<M> {
         }
     }
 }
+
+#[cfg(test)]
+mod tests;

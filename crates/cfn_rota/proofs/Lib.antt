@@ -1,0 +1,5 @@
+pub mod Tallies
+pub mod Moves
+pub mod Dealt
+pub mod Crossing
+pub mod CallerLemmas
