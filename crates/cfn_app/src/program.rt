@@ -59,7 +59,7 @@ fn end_of<R: Threads + Wait + Sync, D: Desk, G: Gate + Sync>(
         Ok(Command::Check(ask)) => check_file(alloc, &ask, desk),
         Ok(Command::Cost(ask)) => cost_file(alloc, &ask, desk),
         Ok(Command::Normal(ask)) => normalize_file(alloc, &ask, desk),
-        Ok(Command::Trial(ask)) => try_drawn(alloc, &ask, desk),
+        Ok(Command::Trial(ask)) => try_drawn(rt, alloc, &ask, desk, gate),
         Ok(Command::Migrate(ask)) => migrate_file(alloc, &ask, desk),
         Err(CliFault::Usage) => ending(cfn_report::write_usage(desk), Status::Usage),
         Err(CliFault::Memory) => ending(cfn_report::write_memory_fault(desk), Status::NoMemory),

@@ -27,6 +27,3 @@ pub use command::{
 pub use fault::CliFault;
 pub use format::Format;
 pub use parsing::parse;
-
-#[cfg(test)]
-mod tests;

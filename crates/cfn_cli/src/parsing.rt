@@ -24,6 +24,7 @@ pub fn parse(alloc: Global, words: &[&str]) -> Result<Command, CliFault>
     ensures some_value { IfOk result (λ c. IfCost c (λ k. 0 < length k.values.items)) }
     ensures seed { IfOk result (λ c. IfTrial c (λ t. t.seed ≤ 65536)) }
     ensures size { IfOk result (λ c. IfTrial c (λ t. (1 ≤ t.size) × (t.size ≤ 200))) }
+    ensures crew { IfOk result (λ c. IfTrial c (λ t. (1 ≤ t.workers) × (t.workers ≤ 64))) }
 {
     let line = command_line(alloc)?;
     match line.try_get_matches_from(words) {

@@ -40,6 +40,7 @@ pub(crate) fn command(alloc: Global, matches: &ArgMatches<'_>) -> Result<Command
     ensures some_value { IfOk result (λ c. IfCost c (λ k. 0 < length k.values.items)) }
     ensures seed { IfOk result (λ c. IfTrial c (λ t. t.seed ≤ 65536)) }
     ensures size { IfOk result (λ c. IfTrial c (λ t. (1 ≤ t.size) × (t.size ≤ 200))) }
+    ensures crew { IfOk result (λ c. IfTrial c (λ t. (1 ≤ t.workers) × (t.workers ≤ 64))) }
 {
     match matches.subcommand() {
         Some((name, found)) => named(alloc, name, found),
@@ -57,6 +58,7 @@ fn named(alloc: Global, name: &str, found: &ArgMatches<'_>) -> Result<Command, C
     ensures some_value { IfOk result (λ c. IfCost c (λ k. 0 < length k.values.items)) }
     ensures seed { IfOk result (λ c. IfTrial c (λ t. t.seed ≤ 65536)) }
     ensures size { IfOk result (λ c. IfTrial c (λ t. (1 ≤ t.size) × (t.size ≤ 200))) }
+    ensures crew { IfOk result (λ c. IfTrial c (λ t. (1 ≤ t.workers) × (t.workers ≤ 64))) }
 {
     if name == "solve" {
         Ok(Command::Solve(solve(alloc, found)?))
@@ -162,6 +164,7 @@ fn trial(found: &ArgMatches<'_>) -> Result<TrialArguments, CliFault>
         → trial_of (rows_of (found_of found.now)) ≡ None) }
     ensures seed { IfOk result (λ t. t.seed ≤ 65536) }
     ensures size { IfOk result (λ t. (1 ≤ t.size) × (t.size ≤ 200)) }
+    ensures workers { IfOk result (λ t. (1 ≤ t.workers) × (t.workers ≤ 64)) }
 {
     let seed = number(found, "seed", 0, MOST_SEED)?;
     let size = number(found, "size", 1, MOST_SIZE)?;
