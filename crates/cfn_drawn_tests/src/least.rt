@@ -1,5 +1,7 @@
 //! Searches of small networks, judged by the plain program, by costs that are known from elsewhere, and by `check`.
 
+ghost use Rattle.std.specs.Prelude.{◌≤◌};
+
 use crate::judging::Verdict;
 use cfn_net::Network;
 use cfn_proof::{Outcome, Row, Stop};
@@ -22,29 +24,44 @@ const DRAWN: u64 = 50;
 fn judge<R: Abort>(rt: &R, alloc: Global, file: &str, least: Option<u64>) -> Result<(), Fail> {
     let network = cfn_wcsp::read(alloc, file.as_bytes())?;
     assert_eq!(rt; cfn_plain::least(alloc, &network)?, least, "of {file}");
-    let whole = solve(alloc, &network, AMPLE)?;
-    assert!(rt; whole.stop == Stop::Done, "of {file}");
-    assert!(rt; is_sound(alloc, &network, &whole)?, "of {file}");
-    assert_eq!(rt; price(&whole), least, "of {file}");
-    assert_eq!(rt;
-        whole.certificate.lower,
-        least.unwrap_or(network.ub()),
-        "of {file}"
-    );
+    assert!(rt; is_done(alloc, &network, least)?, "of {file}");
     for budget in 0..3 {
-        let cut = solve(alloc, &network, budget)?;
-        assert!(rt; is_sound(alloc, &network, &cut)?, "of {file}");
-        assert!(rt; is_within(&cut, budget), "of {file}");
         assert!(rt;
-            cut.certificate.lower <= least.unwrap_or(network.ub()),
-            "of {file}"
-        );
-        assert!(rt;
-            least.unwrap_or(network.ub()) <= price(&cut).unwrap_or(network.ub()),
-            "of {file}"
+            is_cut(alloc, &network, least, budget)?,
+            "of {file} with {budget}"
         );
     }
     Ok(())
+}
+
+/// Whether a search with an ample budget is sound, and ends with this least cost and its bound.
+fn is_done(alloc: Global, network: &Network, least: Option<u64>) -> Result<bool, AllocError> {
+    let whole = solve(alloc, network, AMPLE)?;
+    Ok(
+        whole.stop == Stop::Done
+            && price(&whole) == least
+            && whole.certificate.lower == least.unwrap_or(network.ub())
+            && is_sound(alloc, network, &whole)?,
+    )
+}
+
+/// Whether a search with a small budget is sound, keeps it, and has this least cost between its bounds.
+fn is_cut(
+    alloc: Global,
+    network: &Network,
+    least: Option<u64>,
+    budget: u64,
+) -> Result<bool, AllocError>
+    requires { budget ≤ 3 }
+{
+    let cut = solve(alloc, network, budget)?;
+    let cost = least.unwrap_or(network.ub());
+    Ok(
+        is_within(&cut, budget)
+            && cut.certificate.lower <= cost
+            && cost <= price(&cut).unwrap_or(network.ub())
+            && is_sound(alloc, network, &cut)?,
+    )
 }
 
 /// Whether the certificate of an outcome is good, its tree strict, its lower bound the tree's bound, and the first
@@ -195,22 +212,31 @@ fn come_together(rows: &[Row]) -> bool {
     })
 }
 
+/// The lower bound of a search that keeps this budget, or `None` where it does not.
+fn lower_within(alloc: Global, network: &Network, budget: u64) -> Result<Option<u64>, AllocError>
+    requires { budget ≤ 1000 }
+{
+    let cut = solve(alloc, network, budget)?;
+    Ok(is_within(&cut, budget).then_some(cut.certificate.lower))
+}
+
+/// Whether a search with an ample budget makes more than four rows, which come together.
+fn makes_rows(alloc: Global, network: &Network) -> Result<bool, AllocError> {
+    let whole = solve(alloc, network, AMPLE)?;
+    Ok(whole.rows.len() > 4 && come_together(whole.rows.as_slice()))
+}
+
 #[test]
 fn dives_end_and_begin(rt: HostRuntime) -> Result<(), Fail> {
     let file = groups(rt.alloc())?;
     let network = cfn_wcsp::read(rt.alloc(), file.as_bytes())?;
     let mut lower = 0;
     for budget in [20, 60, 150, 400] {
-        let cut = solve(rt.alloc(), &network, budget)?;
-        assert!(rt; is_within(&cut, budget));
-        assert!(rt; lower <= cut.certificate.lower && cut.certificate.lower <= 7);
-        lower = cut.certificate.lower;
+        let next = lower_within(rt.alloc(), &network, budget)?.unwrap_or(8);
+        assert!(rt; lower <= next && next <= 7);
+        lower = next;
     }
-    let whole = solve(rt.alloc(), &network, AMPLE)?;
-    assert!(rt; whole.stop == Stop::Done);
-    assert_eq!(rt; whole.certificate.lower, 7);
-    assert_eq!(rt; price(&whole), Some(7));
-    assert!(rt; whole.rows.len() > 4 && come_together(whole.rows.as_slice()));
-    assert!(rt; is_sound(rt.alloc(), &network, &whole)?);
+    assert!(rt; is_done(rt.alloc(), &network, Some(7))?);
+    assert!(rt; makes_rows(rt.alloc(), &network)?);
     Ok(())
 }

@@ -11,7 +11,7 @@ fn trial<R: AllocGlobal + Threads + Wait + Sync>(
     rt: &R,
     words: &[&str],
 ) -> Result<Run, AllocError> {
-    Run::over(rt, words, &[], &[])
+    Run::over(rt, words, &[], &[], "out")
 }
 
 /// With one variable the costs are 9, 9 and 2; with two the least is 2 + 2 + 1. The others are from a table over pairs of
@@ -60,7 +60,7 @@ fn workers_change_nothing(rt: HostRuntime) -> Result<(), Fail> {
 
 #[test]
 fn failed_say_is_a_fault(rt: HostRuntime) -> Result<(), Fail> {
-    let run = Run::over(&rt, &["wcspsolve", "trial", "7", "1"], &[], &[2])?;
+    let run = Run::over(&rt, &["wcspsolve", "trial", "7", "1"], &[], &[2], "out")?;
     assert_eq!(rt; run.status, 5);
     assert_eq!(rt; run.said(), b"variables 1\n".as_slice());
     Ok(())

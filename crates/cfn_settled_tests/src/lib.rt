@@ -2,6 +2,7 @@
 //!
 //! - `settling` draws networks, and has each settled at its root and below a decision.
 //! - `judging` judges what a call did and left, and stands on the plain program alone.
+//! - `resting` asks which values are known to rest.
 //! - `grouping` has that program judge lists of steps which are known by hand to be groups, or not.
 #![tactic(auto)]
 
@@ -9,5 +10,7 @@
 mod grouping;
 #[cfg(test)]
 mod judging;
+#[cfg(test)]
+mod resting;
 #[cfg(test)]
 mod settling;

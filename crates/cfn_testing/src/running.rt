@@ -2,7 +2,7 @@
 
 use cfn_app::{OpenGate, run};
 use cfn_desk::MemoryDesk;
-use std::alloc::{AllocError, AllocGlobal};
+use std::alloc::{AllocError, AllocGlobal, Global};
 use std::sync::Wait;
 use std::thread::Threads;
 
@@ -13,13 +13,19 @@ pub const TINY: &[u8] = b"tiny 1 2 1 10\n2\n1 0 3 1\n1 1\n";
 pub const TRI: &[u8] =
     b"tri 3 2 3 10\n2 2 2\n2 0 1 0 2\n0 0 1\n1 1 1\n2 0 2 0 2\n0 0 1\n1 1 1\n2 1 2 0 2\n0 0 1\n1 1 1\n";
 
-/// How a run ended, and the desk that it left.
+/// The words that solve `in` and write `out`.
+pub const SOLVE: [&str; 4] = ["wcspsolve", "solve", "in", "out"];
+
+/// How a run ended, what it said, and the file that was asked for, as the run left it. It is bytes alone: a desk that a test
+/// kept would be part of the proof of each exit of the test.
 #[derive(Drop)]
 pub struct Run {
     /// The number of its status.
     pub status: u8,
-    /// The desk as the run left it.
-    pub desk: MemoryDesk,
+    /// How many bytes the file has that is still being written, or 0.
+    pub begun: usize,
+    said: Vec<u8>,
+    file: Option<Vec<u8>>,
 }
 
 impl Run {
@@ -30,19 +36,36 @@ impl Run {
         file: &[u8],
         failing: &[u64],
     ) -> Result<Run, AllocError> {
-        Run::over(rt, words, &[("in", file)], failing)
+        Run::over(rt, words, &[("in", file)], failing, "out")
     }
 
-    /// The run of these words, over a desk with these files, whose calls with these ordinals fail.
+    /// The run of these words, over a desk with these files, whose calls with these ordinals fail; of the files it keeps
+    /// the one of this name.
     pub fn over<R: AllocGlobal + Threads + Wait + Sync>(
         rt: &R,
         words: &[&str],
         files: &[(&str, &[u8])],
         failing: &[u64],
+        kept: &str,
     ) -> Result<Run, AllocError> {
         let mut desk = MemoryDesk::make(rt.alloc(), files, 2000, 400, failing)?;
         let status = run(rt, rt.alloc(), words, &mut desk, &OpenGate).code();
-        Ok(Run { status, desk })
+        Run::left(rt.alloc(), status, &desk, kept)
+    }
+
+    /// The run that ended with this status and left this desk.
+    fn left(alloc: Global, status: u8, desk: &MemoryDesk, kept: &str) -> Result<Run, AllocError> {
+        let said = Vec::from_slice(alloc, desk.said_bytes())?;
+        let file = match desk.file(kept) {
+            Some(bytes) => Some(Vec::from_slice(alloc, bytes)?),
+            None => None,
+        };
+        Ok(Run {
+            status,
+            begun: desk.out_bytes().len(),
+            said,
+            file,
+        })
     }
 
     /// The run of `solve in out` where no call fails.
@@ -50,17 +73,25 @@ impl Run {
         rt: &R,
         file: &[u8],
     ) -> Result<Run, AllocError> {
-        Run::of(rt, &["wcspsolve", "solve", "in", "out"], file, &[])
+        Run::of(rt, &SOLVE, file, &[])
     }
 
     /// What was said.
     pub fn said(&self) -> &[u8] {
-        self.desk.said_bytes()
+        &self.said
+    }
+
+    /// The file that was asked for, or nothing where there is none.
+    pub fn file(&self) -> Option<&[u8]> {
+        match &self.file {
+            Some(bytes) => Some(bytes),
+            None => None,
+        }
     }
 
     /// The certificate that was written to its end, or nothing.
     pub fn certificate(&self) -> &[u8] {
-        self.desk.file("out").unwrap_or(b"")
+        self.file().unwrap_or(b"")
     }
 
     /// Whether the certificate is whole, and begins with these bytes behind its first line.
@@ -76,6 +107,43 @@ impl Run {
             .split(|byte| *byte == b'\n')
             .all(|line| has_line(self.said(), line))
     }
+}
+
+/// Whether the run of these words over a file ends with this status, says this, and leaves this certificate, or none where
+/// these are no bytes.
+pub fn ends<R: AllocGlobal + Threads + Wait + Sync>(
+    rt: &R,
+    words: &[&str],
+    file: &[u8],
+    failing: &[u64],
+    (status, said, certificate): (u8, &[u8], &[u8]),
+) -> Result<bool, AllocError> {
+    let run = Run::of(rt, words, file, failing)?;
+    Ok(run.status == status && run.said() == said && run.certificate() == certificate)
+}
+
+/// Whether the run of these words over a file ends with this status, and says each of these lines.
+pub fn says<R: AllocGlobal + Threads + Wait + Sync>(
+    rt: &R,
+    words: &[&str],
+    file: &[u8],
+    status: u8,
+    lines: &[u8],
+) -> Result<bool, AllocError> {
+    let run = Run::of(rt, words, file, &[])?;
+    Ok(run.status == status && run.says(lines))
+}
+
+/// Whether the run of these words over a file ends with this status, says each of these lines, and leaves a whole
+/// certificate that begins with these bytes behind its first line.
+pub fn certifies<R: AllocGlobal + Threads + Wait + Sync>(
+    rt: &R,
+    words: &[&str],
+    file: &[u8],
+    (status, lines, front): (u8, &[u8], &[u8]),
+) -> Result<bool, AllocError> {
+    let run = Run::of(rt, words, file, &[])?;
+    Ok(run.status == status && run.says(lines) && run.certifies(front))
 }
 
 /// The certificate that `solve` writes of a file with this budget, or nothing where there is none.

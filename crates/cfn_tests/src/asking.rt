@@ -1,6 +1,6 @@
 //! What the words of a command line ask for: `solve` with its options, and `cost`.
 
-use cfn_testing::running::{Run, TINY, TRI, has_front};
+use cfn_testing::running::{Run, SOLVE, TINY, TRI, certifies, ends, has_front, says};
 use std::alloc::{AllocError, AllocGlobal};
 use std::sync::Wait;
 use std::test::Fail;
@@ -26,82 +26,71 @@ const CHEAP: &[u8] =
 const TOP: &[u8] =
     b"top 1 1 2 9223372036854775807\n1\n1 0 9223372036854775807 0\n1 0 9223372036854775807 0\n";
 
+/// The words that spend one node.
+const ONE_NODE: [&str; 6] = ["wcspsolve", "solve", "in", "out", "--budget", "1"];
+
 #[test]
 fn one_node_splits_the_root(rt: HostRuntime) -> Result<(), Fail> {
-    let words = ["wcspsolve", "solve", "in", "out", "--budget", "1"];
-    let run = Run::of(&rt, &words, TRI, &[])?;
-    assert_eq!(rt; run.status, 2);
     let said =
         b"variables 3\nfunctions 3\nworkers 1\nrow 0 none\nlower 0\nupper none\nnodes 1\nresult budget\n";
-    assert_eq!(rt; run.said(), said.as_slice());
     let certificate =
         b"wcspcert 2\nnetwork 3 3 10\nlower 0\nbest none\ntree\nsplit 0 0\nopen\nopen\nend\n";
-    assert_eq!(rt; run.certificate(), certificate.as_slice());
+    assert!(rt; ends(&rt, &ONE_NODE, TRI, &[], (2, said, certificate))?);
     Ok(())
 }
 
 /// What all tuples cost is the bound before the root is split.
 #[test]
 fn root_lifts_what_all_tuples_cost(rt: HostRuntime) -> Result<(), Fail> {
-    let words = ["wcspsolve", "solve", "in", "out", "--budget", "1"];
-    let run = Run::of(&rt, &words, ARC, &[])?;
-    assert_eq!(rt; run.status, 2);
     let said =
         b"variables 2\nfunctions 1\nworkers 1\nrow 0 none\nrow 2 none\nlower 2\nupper none\nnodes 1\nresult budget\n";
-    assert_eq!(rt; run.said(), said.as_slice());
     let certificate =
         b"wcspcert 2\nnetwork 2 1 10\nlower 2\nbest none\ntree\np 0 0 0 2\np 0 0 1 2\nu 0 2\nsplit 0 0\nopen\nopen\nend\n";
-    assert_eq!(rt; run.certificate(), certificate.as_slice());
+    assert!(rt; ends(&rt, &ONE_NODE, ARC, &[], (2, said, certificate))?);
     Ok(())
 }
 
 /// Virtual arc consistency lifts the root's bound by whole units alone.
 #[test]
 fn root_gathers_whole_units(rt: HostRuntime) -> Result<(), Fail> {
-    let rows: [(&[u8], &[u8]); 2] = [(DEAR, b"lower 1\n"), (CHEAP, b"lower 0\n")];
-    for (file, lower) in rows {
-        let words = ["wcspsolve", "solve", "in", "out", "--budget", "1"];
-        let run = Run::of(&rt, &words, file, &[])?;
-        assert_eq!(rt; run.status, 2);
-        assert!(rt; run.says(lower));
-        assert!(rt; run.says(b"upper none\nnodes 1\nresult budget\n"));
+    let rows: [(&[u8], &[u8]); 2] = [
+        (DEAR, b"lower 1\nupper none\nnodes 1\nresult budget\n"),
+        (CHEAP, b"lower 0\nupper none\nnodes 1\nresult budget\n"),
+    ];
+    for (file, lines) in rows {
+        assert!(rt; says(&rt, &ONE_NODE, file, 2, lines)?);
     }
     Ok(())
 }
 
 #[test]
 fn what_is_lifted_is_the_optimum(rt: HostRuntime) -> Result<(), Fail> {
-    let run = Run::of(&rt, &["wcspsolve", "solve", "in", "out"], ARC, &[])?;
-    assert_eq!(rt; run.status, 0);
-    assert!(rt; run.says(b"lower 2\nupper 2\n"));
+    assert!(rt; says(&rt, &SOLVE, ARC, 0, b"lower 2\nupper 2\n")?);
     Ok(())
 }
 
 #[test]
 fn no_node_leaves_the_constant_as_the_bound(rt: HostRuntime) -> Result<(), Fail> {
     let words = ["wcspsolve", "solve", "in", "out", "--budget", "0"];
-    let run = Run::of(&rt, &words, FOUR, &[])?;
-    assert_eq!(rt; run.status, 2);
     let said =
         b"variables 1\nfunctions 1\nworkers 1\nrow 4 none\nlower 4\nupper none\nnodes 0\nresult budget\n";
-    assert_eq!(rt; run.said(), said.as_slice());
     let certificate = b"wcspcert 2\nnetwork 1 1 10\nlower 4\nbest none\ntree\nopen\nend\n";
-    assert_eq!(rt; run.certificate(), certificate.as_slice());
+    assert!(rt; ends(&rt, &words, FOUR, &[], (2, said, certificate))?);
     Ok(())
 }
 
 /// A constant at the upper bound closes the root before any node, whatever the budget.
 #[test]
 fn closed_root_needs_no_budget(rt: HostRuntime) -> Result<(), Fail> {
+    let said =
+        b"variables 1\nfunctions 1\nworkers 1\nrow 10 none\nlower 10\nupper none\nnodes 0\nresult none\n";
+    let certificate = b"wcspcert 2\nnetwork 1 1 10\nlower 10\nbest none\ntree\nclosed\nend\n";
     for budget in ["0", "1", "9223372036854775807"] {
         let words = ["wcspsolve", "solve", "in", "out", "--budget", budget];
-        let run = Run::of(&rt, &words, TEN, &[])?;
-        assert_eq!(rt; run.status, 1);
-        let said =
-            b"variables 1\nfunctions 1\nworkers 1\nrow 10 none\nlower 10\nupper none\nnodes 0\nresult none\n";
-        assert_eq!(rt; run.said(), said.as_slice());
-        let certificate = b"wcspcert 2\nnetwork 1 1 10\nlower 10\nbest none\ntree\nclosed\nend\n";
-        assert_eq!(rt; run.certificate(), certificate.as_slice());
+        assert!(rt;
+            ends(&rt, &words, TEN, &[], (1, said, certificate))?,
+            "with {budget}"
+        );
     }
     Ok(())
 }
@@ -118,9 +107,7 @@ fn budget_is_spent_to_its_end(rt: HostRuntime) -> Result<(), Fail> {
     ];
     for (budget, status, nodes) in rows {
         let words = ["wcspsolve", "solve", "in", "out", "--budget", budget];
-        let run = Run::of(&rt, &words, TINY, &[])?;
-        assert_eq!(rt; run.status, status, "with {budget}");
-        assert!(rt; run.says(nodes), "with {budget}");
+        assert!(rt; says(&rt, &words, TINY, status, nodes)?, "with {budget}");
     }
     Ok(())
 }
@@ -130,10 +117,8 @@ fn budget_is_spent_to_its_end(rt: HostRuntime) -> Result<(), Fail> {
 #[test]
 fn budget_of_all_nodes_ends_with_the_optimum(rt: HostRuntime) -> Result<(), Fail> {
     let words = ["wcspsolve", "solve", "in", "out", "--budget", "7"];
-    let run = Run::of(&rt, &words, TRI, &[])?;
-    assert_eq!(rt; run.status, 0);
-    assert!(rt; run.says(b"lower 1\nupper 1\n"));
-    assert!(rt; run.says(b"\nnodes 7\nresult optimum\n"));
+    let lines = b"lower 1\nupper 1\nnodes 7\nresult optimum\n";
+    assert!(rt; says(&rt, &words, TRI, 0, lines)?);
     Ok(())
 }
 
@@ -177,11 +162,10 @@ fn options_stand_anywhere(rt: HostRuntime) -> Result<(), Fail> {
         ],
         &["wcspsolve", "solve", "in", "--workers", "64", "out"],
     ];
+    let lines = b"workers 64\nlower 1\nupper 1\nvalues 1\nresult optimum";
+    let front = b"network 1 1 10\nlower 1\nbest 1\nvalues 1\n";
     for words in rows {
-        let run = Run::of(&rt, words, TINY, &[])?;
-        assert_eq!(rt; run.status, 0);
-        assert!(rt; run.says(b"workers 64\nlower 1\nupper 1\nvalues 1\nresult optimum"));
-        assert!(rt; run.certifies(b"network 1 1 10\nlower 1\nbest 1\nvalues 1\n"));
+        assert!(rt; certifies(&rt, words, TINY, (0, lines, front))?);
     }
     Ok(())
 }
@@ -214,13 +198,10 @@ fn other_words_are_no_command(rt: HostRuntime) -> Result<(), Fail> {
         &["wcspsolve", "cost", "nowhere", "4294967296"],
         &["wcspsolve", "cost", "in", "one"],
     ];
+    let said =
+        b"error usage\nwcspsolve solve FILE CERT [--workers W] [--budget B] [--wcnf]\nwcspsolve check FILE CERT [--wcnf]\nwcspsolve cost FILE VALUES.. [--wcnf]\nwcspsolve normal FILE [--wcnf]\nwcspsolve trial SEED SIZE [--workers W]\nwcspsolve migrate FILE CERT OUT\n";
     for words in rows {
-        let run = Run::of(&rt, words, TINY, &[])?;
-        assert_eq!(rt; run.status, 3);
-        let said =
-            b"error usage\nwcspsolve solve FILE CERT [--workers W] [--budget B] [--wcnf]\nwcspsolve check FILE CERT [--wcnf]\nwcspsolve cost FILE VALUES.. [--wcnf]\nwcspsolve normal FILE [--wcnf]\nwcspsolve trial SEED SIZE [--workers W]\nwcspsolve migrate FILE CERT OUT\n";
-        assert_eq!(rt; run.said(), said.as_slice());
-        assert_eq!(rt; run.certificate(), b"".as_slice());
+        assert!(rt; ends(&rt, words, TINY, &[], (3, said, b""))?);
     }
     Ok(())
 }
@@ -262,10 +243,7 @@ fn costs_are_said(rt: HostRuntime) -> Result<(), Fail> {
         ),
     ];
     for (file, words, said) in rows {
-        let run = Run::of(&rt, words, file, &[])?;
-        assert_eq!(rt; run.status, 0);
-        assert_eq!(rt; run.said(), said);
-        assert_eq!(rt; run.certificate(), b"".as_slice());
+        assert!(rt; ends(&rt, words, file, &[], (0, said, b""))?);
     }
     Ok(())
 }
@@ -301,9 +279,7 @@ fn values_that_do_not_fit_are_refused(rt: HostRuntime) -> Result<(), Fail> {
         ),
     ];
     for (words, said) in rows {
-        let run = Run::of(&rt, words, TRI, &[])?;
-        assert_eq!(rt; run.status, 4);
-        assert_eq!(rt; run.said(), said);
+        assert!(rt; ends(&rt, words, TRI, &[], (4, said, b""))?);
     }
     Ok(())
 }
@@ -311,25 +287,43 @@ fn values_that_do_not_fit_are_refused(rt: HostRuntime) -> Result<(), Fail> {
 /// The words are judged first, then the file is loaded and read, and then the values are judged.
 #[test]
 fn first_fault_decides(rt: HostRuntime) -> Result<(), Fail> {
-    let run = Run::of(&rt, &["wcspsolve", "cost", "nowhere", "0"], TINY, &[])?;
-    assert_eq!(rt; run.status, 5);
-    assert_eq!(rt; run.said(), b"error read\n".as_slice());
-    let run = Run::of(
-        &rt,
-        &["wcspsolve", "cost", "in", "7", "7"],
-        b"tiny 1 2 1 10\n2\n1 0 3 1\n1",
-        &[],
-    )?;
-    assert_eq!(rt; run.status, 4);
-    assert_eq!(rt; run.said(), b"error short at 12\n".as_slice());
-    for failing in [1, 2] {
-        let run = Run::of(&rt, &["wcspsolve", "cost", "in", "0"], TINY, &[failing])?;
-        assert_eq!(rt; run.status, 5);
-        assert!(rt; !has_front(run.said(), b"cost"));
+    let rows: [(&[&str], &[u8], &[u64], u8, &[u8]); 3] = [
+        (
+            &["wcspsolve", "cost", "nowhere", "0"],
+            TINY,
+            &[],
+            5,
+            b"error read\n",
+        ),
+        (
+            &["wcspsolve", "cost", "in", "7", "7"],
+            b"tiny 1 2 1 10\n2\n1 0 3 1\n1",
+            &[],
+            4,
+            b"error short at 12\n",
+        ),
+        (&["wcspsolve", "solve"], TINY, &[1], 5, b""),
+    ];
+    for (words, file, failing, status, said) in rows {
+        assert!(rt; ends(&rt, words, file, failing, (status, said, b""))?);
     }
-    let run = Run::of(&rt, &["wcspsolve", "solve"], TINY, &[1])?;
-    assert_eq!(rt; run.status, 5);
-    assert_eq!(rt; run.said(), b"".as_slice());
+    Ok(())
+}
+
+/// Whether `cost` ends with a fault and says no cost where this call fails.
+fn cost_fails<R: AllocGlobal + Threads + Wait + Sync>(
+    rt: &R,
+    failing: u64,
+) -> Result<bool, AllocError> {
+    let run = Run::of(rt, &["wcspsolve", "cost", "in", "0"], TINY, &[failing])?;
+    Ok(run.status == 5 && !has_front(run.said(), b"cost"))
+}
+
+#[test]
+fn cost_that_can_not_be_said_is_a_fault(rt: HostRuntime) -> Result<(), Fail> {
+    for failing in [1, 2] {
+        assert!(rt; cost_fails(&rt, failing)?, "at {failing}");
+    }
     Ok(())
 }
 
@@ -352,7 +346,7 @@ fn wcnf_says<R: AllocGlobal + Threads + Wait + Sync>(
     said: &[u8],
 ) -> Result<bool, AllocError> {
     let files = [("in", WCNF), ("cert", certificate)];
-    let run = Run::over(rt, words, &files, &[])?;
+    let run = Run::over(rt, words, &files, &[], "out")?;
     Ok(run.said() == said)
 }
 
@@ -367,9 +361,20 @@ fn wcnf_is_solved(rt: HostRuntime) -> Result<(), Fail> {
 
 #[test]
 fn wcnf_is_priced(rt: HostRuntime) -> Result<(), Fail> {
-    let words = ["wcspsolve", "cost", "in", "0", "0", "--wcnf"];
-    assert!(rt; wcnf_says(&rt, &words, b"", b"cost 10 forbidden\n")?);
-    let without = ["wcspsolve", "cost", "in", "0", "0"];
-    assert!(rt; wcnf_says(&rt, &without, b"", b"error not-number at 2\n")?);
+    let rows: [(&[&str], u8, &[u8]); 2] = [
+        (
+            &["wcspsolve", "cost", "in", "0", "0", "--wcnf"],
+            0,
+            b"cost 10 forbidden\n",
+        ),
+        (
+            &["wcspsolve", "cost", "in", "0", "0"],
+            4,
+            b"error not-number at 2\n",
+        ),
+    ];
+    for (words, status, said) in rows {
+        assert!(rt; ends(&rt, words, WCNF, &[], (status, said, b""))?);
+    }
     Ok(())
 }

@@ -1,51 +1,64 @@
 //! What a run says and leaves where a call on the outside fails.
 
-use cfn_testing::running::{Run, TINY};
+use cfn_testing::running::{Run, SOLVE, TINY, ends};
+use std::alloc::{AllocError, AllocGlobal};
+use std::sync::Wait;
 use std::test::Fail;
-
-const SOLVE: [&str; 4] = ["wcspsolve", "solve", "in", "out"];
+use std::thread::Threads;
 
 #[test]
 fn failed_load_is_a_read_fault(rt: HostRuntime) -> Result<(), Fail> {
-    let run = Run::of(&rt, &SOLVE, TINY, &[1])?;
-    assert_eq!(rt; run.status, 5);
-    assert_eq!(rt; run.said(), b"error read\n".as_slice());
-    let run = Run::of(&rt, &["wcspsolve", "solve", "nowhere", "out"], TINY, &[])?;
-    assert_eq!(rt; run.status, 5);
-    assert_eq!(rt; run.said(), b"error read\n".as_slice());
+    let rows: [(&[&str], &[u64]); 2] = [
+        (&SOLVE, &[1]),
+        (&["wcspsolve", "solve", "nowhere", "out"], &[]),
+    ];
+    for (words, failing) in rows {
+        assert!(rt; ends(&rt, words, TINY, failing, (5, b"error read\n", b""))?);
+    }
     Ok(())
+}
+
+/// Whether a run whose put fails says so, and drops the file that it began.
+fn drops_the_file<R: AllocGlobal + Threads + Wait + Sync>(rt: &R) -> Result<bool, AllocError> {
+    let run = Run::of(rt, &SOLVE, TINY, &[5])?;
+    Ok(
+        run.status == 5
+            && run.said() == b"error write\n".as_slice()
+            && run.begun == 0
+            && run.certificate().is_empty(),
+    )
 }
 
 /// The calls are the load, the opening, and then a put for each piece.
 #[test]
 fn failed_put_is_a_write_fault(rt: HostRuntime) -> Result<(), Fail> {
-    let run = Run::of(&rt, &SOLVE, TINY, &[5])?;
-    assert_eq!(rt; run.status, 5);
-    assert_eq!(rt; run.said(), b"error write\n".as_slice());
-    // the file that was begun is dropped
-    assert_eq!(rt; run.desk.out_bytes(), b"".as_slice());
-    assert_eq!(rt; run.certificate(), b"".as_slice());
+    assert!(rt; drops_the_file(&rt)?);
     Ok(())
+}
+
+/// Of the runs over an earlier certificate in which one call fails, that of 1 to 59, how many keep it with a status of 5,
+/// and whether the others leave what the run leaves in which none fails.
+fn keepers<R: AllocGlobal + Threads + Wait + Sync>(rt: &R) -> Result<(u64, bool), AllocError> {
+    let files = [("in", TINY), ("out", b"earlier".as_slice())];
+    let whole = Run::over(rt, &SOLVE, &files, &[], "out")?;
+    let mut kept = 0;
+    let mut others_are_whole = whole.certificate().starts_with(b"wcspcert 2\n");
+    for failing in 1..60 {
+        let run = Run::over(rt, &SOLVE, &files, &[failing], "out")?;
+        if run.certificate() == b"earlier".as_slice() && run.status == 5 {
+            kept = failing;
+        } else if run.certificate() != whole.certificate() {
+            others_are_whole = false;
+        }
+    }
+    Ok((kept, others_are_whole))
 }
 
 /// Whichever call fails, a certificate that was there before is as it was, or replaced by a whole one.
 #[test]
 fn earlier_certificate_survives_each_fault(rt: HostRuntime) -> Result<(), Fail> {
-    let files = [("in", TINY), ("out", b"earlier".as_slice())];
-    let whole = Run::over(&rt, &SOLVE, &files, &[])?;
-    assert!(rt; whole.certificate().starts_with(b"wcspcert 2\n"));
-    let mut kept = 0;
-    for failing in 1..60 {
-        let run = Run::over(&rt, &SOLVE, &files, &[failing])?;
-        if run.certificate() == b"earlier".as_slice() {
-            kept = failing;
-            assert_eq!(rt; run.status, 5);
-        } else {
-            assert_eq!(rt; run.certificate(), whole.certificate());
-        }
-    }
     // the load, the opening, 32 puts and the closing
-    assert_eq!(rt; kept, 35);
+    assert!(rt; keepers(&rt)? == (35, true));
     Ok(())
 }
 
@@ -53,40 +66,67 @@ fn earlier_certificate_survives_each_fault(rt: HostRuntime) -> Result<(), Fail> 
 fn fault_that_can_not_be_said_is_a_fault(rt: HostRuntime) -> Result<(), Fail> {
     let rows: [[u64; 2]; 3] = [[1, 2], [2, 3], [5, 6]];
     for failing in rows {
-        let run = Run::of(&rt, &SOLVE, TINY, &failing)?;
-        assert_eq!(rt; run.status, 5);
-        assert_eq!(rt; run.said(), b"".as_slice());
-        assert_eq!(rt; run.certificate(), b"".as_slice());
+        assert!(rt; ends(&rt, &SOLVE, TINY, &failing, (5, b"", b""))?);
     }
     Ok(())
+}
+
+/// How a run ended in which one call was to fail.
+#[derive(Clone, Copy, PartialEq, Eq)]
+enum Fault {
+    /// There was no such call, so the run was done.
+    None,
+    /// The status was 5, and what was said and left is in order; how many bytes were said.
+    Said(usize),
+    /// Something was not in order.
+    Wrong,
+}
+
+/// How a run ended whose call with this ordinal was to fail, beside the run in which none fails.
+fn fault_at(whole: &Run, run: &Run, failing: u64) -> Fault {
+    if run.status == 0 {
+        return Fault::None;
+    }
+    let said = run.said();
+    let in_order = if said == b"error read\n".as_slice() {
+        failing == 1
+    } else if said == b"error write\n".as_slice() {
+        failing > 1 && run.certificate().is_empty()
+    } else {
+        whole.said().starts_with(said) && run.certificate() == whole.certificate()
+    };
+    if run.status == 5 && in_order {
+        Fault::Said(said.len())
+    } else {
+        Fault::Wrong
+    }
+}
+
+/// The last call that can fail, and how many bytes are said where it does, or `None` where a run was not in order; and how
+/// many bytes are said where none fails.
+fn last_fault<R: AllocGlobal + Threads + Wait + Sync>(
+    rt: &R,
+) -> Result<(Option<(u64, usize)>, usize), AllocError> {
+    let whole = Run::of(rt, &SOLVE, TINY, &[])?;
+    let mut last = (0, 0);
+    for failing in 1..200 {
+        let run = Run::of(rt, &SOLVE, TINY, &[failing])?;
+        match fault_at(&whole, &run, failing) {
+            Fault::None => break,
+            Fault::Said(said) => last = (failing, said),
+            Fault::Wrong => return Ok((None, whole.said().len())),
+        }
+    }
+    Ok((Some(last), whole.said().len()))
 }
 
 /// Whichever call fails, the status is 5, and nothing more is said; the first ordinal that no call has ends it.
 #[test]
 fn each_failing_call_is_a_fault(rt: HostRuntime) -> Result<(), Fail> {
-    let whole = Run::of(&rt, &SOLVE, TINY, &[])?;
-    let mut calls = 0;
-    let mut said = 0;
-    for failing in 1..200 {
-        let run = Run::of(&rt, &SOLVE, TINY, &[failing])?;
-        if run.status == 0 {
-            break;
-        }
-        calls = failing;
-        assert_eq!(rt; run.status, 5, "at {failing}");
-        said = run.said().len();
-        if run.said() == b"error read\n".as_slice() {
-            assert_eq!(rt; failing, 1);
-        } else if run.said() == b"error write\n".as_slice() {
-            assert!(rt; failing > 1);
-            assert_eq!(rt; run.certificate(), b"".as_slice());
-        } else {
-            assert!(rt; whole.said().starts_with(run.said()), "at {failing}");
-            assert_eq!(rt; run.certificate(), whole.certificate());
-        }
-    }
+    let (last, whole) = last_fault(&rt)?;
+    let (calls, said) = last.unwrap_or((0, 0));
     // the last call says the end of the report
     assert!(rt; calls > 5 && calls < 199);
-    assert!(rt; said > 0 && said < whole.said().len());
+    assert!(rt; said > 0 && said < whole);
     Ok(())
 }

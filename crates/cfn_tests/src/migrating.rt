@@ -21,32 +21,29 @@ fn certificate<R: AllocGlobal + Threads + Wait + Sync>(
     Ok(text)
 }
 
-/// A run over the files `in` and `cert`, where these calls fail.
-fn migrated<R: AllocGlobal + Threads + Wait + Sync>(
+/// Whether `migrate` of this certificate ends with this status, says this, and leaves these bytes at the name of OUT, or no
+/// file where they are none; of these calls each fails.
+fn migrates<R: AllocGlobal + Threads + Wait + Sync>(
     rt: &R,
     text: &[u8],
     out: &str,
     failing: &[u64],
-) -> Result<Run, AllocError> {
+    (status, said, written): (u8, Option<&[u8]>, Option<&[u8]>),
+) -> Result<bool, AllocError> {
     let files = [("in", TINY), ("cert", text)];
-    Run::over(
-        rt,
-        &["wcspsolve", "migrate", "in", "cert", out],
-        &files,
-        failing,
-    )
+    let words = ["wcspsolve", "migrate", "in", "cert", out];
+    let run = Run::over(rt, &words, &files, failing, out)?;
+    Ok(run.status == status && said.is_none_or(|said| said == run.said()) && run.file() == written)
 }
 
 #[test]
 fn first_line_alone_is_another(rt: HostRuntime) -> Result<(), Fail> {
     let written = certificate(&rt, b"wcspcert 2\n", LINES)?;
+    let end = (0, Some(b"migrated\n".as_slice()), Some(written.as_slice()));
     for first in [b"wcspcert 1\n".as_slice(), b"wcspcert 2\n".as_slice()] {
         let text = certificate(&rt, first, LINES)?;
         for out in ["out", "cert"] {
-            let run = migrated(&rt, text.as_slice(), out, &[])?;
-            assert_eq!(rt; run.status, 0);
-            assert_eq!(rt; run.said(), b"migrated\n".as_slice());
-            assert_eq!(rt; run.desk.file(out).unwrap_or(b""), written.as_slice());
+            assert!(rt; migrates(&rt, &text, out, &[], end)?);
         }
     }
     Ok(())
@@ -56,10 +53,8 @@ fn first_line_alone_is_another(rt: HostRuntime) -> Result<(), Fail> {
 fn refused_certificate_is_not_written(rt: HostRuntime) -> Result<(), Fail> {
     let cut = LINES.strip_suffix(b"end\n").unwrap_or(b"");
     let text = certificate(&rt, b"wcspcert 1\n", cut)?;
-    let run = migrated(&rt, text.as_slice(), "out", &[])?;
-    assert_eq!(rt; run.status, 7);
-    assert_eq!(rt; run.said(), b"refused text at 11\n".as_slice());
-    assert_eq!(rt; run.desk.file("out"), None);
+    let end = (7, Some(b"refused text at 11\n".as_slice()), None);
+    assert!(rt; migrates(&rt, &text, "out", &[], end)?);
     Ok(())
 }
 
@@ -68,25 +63,24 @@ fn refused_certificate_is_not_written(rt: HostRuntime) -> Result<(), Fail> {
 fn each_call_may_fail(rt: HostRuntime) -> Result<(), Fail> {
     let text = certificate(&rt, b"wcspcert 1\n", LINES)?;
     let written = certificate(&rt, b"wcspcert 2\n", LINES)?;
-    let rows: [(u64, &[u8]); 7] = [
-        (1, b"error read\n"),
-        (2, b"error read\n"),
-        (3, b"error write\n"),
-        (4, b"error write\n"),
-        (5, b"error write\n"),
-        (6, b"error write\n"),
-        (7, b"error write\n"),
+    let read: &[u8] = b"error read\n";
+    let write: &[u8] = b"error write\n";
+    let rows: [(u64, u8, Option<&[u8]>, Option<&[u8]>); 9] = [
+        (1, 5, Some(read), None),
+        (2, 5, Some(read), None),
+        (3, 5, Some(write), None),
+        (4, 5, Some(write), None),
+        (5, 5, Some(write), None),
+        (6, 5, Some(write), None),
+        (7, 5, Some(write), None),
+        (8, 5, None, Some(&written)),
+        (9, 0, None, Some(&written)),
     ];
-    for (call, said) in rows {
-        let run = migrated(&rt, text.as_slice(), "out", &[call])?;
-        assert_eq!(rt; run.status, 5);
-        assert_eq!(rt; run.said(), said);
-        assert_eq!(rt; run.desk.file("out"), None);
+    for (call, status, said, left) in rows {
+        assert!(rt;
+            migrates(&rt, &text, "out", &[call], (status, said, left))?,
+            "at {call}"
+        );
     }
-    let run = migrated(&rt, text.as_slice(), "out", &[8])?;
-    assert_eq!(rt; run.status, 5);
-    assert_eq!(rt; run.desk.file("out").unwrap_or(b""), written.as_slice());
-    let run = migrated(&rt, text.as_slice(), "out", &[9])?;
-    assert_eq!(rt; run.status, 0);
     Ok(())
 }

@@ -1,8 +1,10 @@
 //! Which files a run takes, and what it says of the others.
 
-use cfn_testing::running::{Run, TINY, TRI};
-use std::alloc::{AllocError, Global};
+use cfn_testing::running::{Run, SOLVE, TINY, TRI, ends, says};
+use std::alloc::{AllocError, AllocGlobal, Global};
+use std::sync::Wait;
 use std::test::Fail;
+use std::thread::Threads;
 
 /// Files that are refused, and what is said of them.
 const REFUSED: [(&[u8], &[u8]); 16] = [
@@ -64,33 +66,45 @@ const REFUSED: [(&[u8], &[u8]); 16] = [
 #[test]
 fn refused_files_name_the_word(rt: HostRuntime) -> Result<(), Fail> {
     for (file, said) in REFUSED {
-        let run = Run::solve(&rt, file)?;
-        assert_eq!(rt; run.said(), said);
-        assert_eq!(rt; run.status, 4);
-        assert_eq!(rt; run.certificate(), b"".as_slice());
+        assert!(rt; ends(&rt, &SOLVE, file, &[], (4, said, b""))?);
     }
     Ok(())
+}
+
+/// Whether two files are solved alike: with status 0, the same report and the same certificate.
+fn are_alike<R: AllocGlobal + Threads + Wait + Sync>(
+    rt: &R,
+    one: &[u8],
+    other: &[u8],
+) -> Result<bool, AllocError> {
+    let plain = Run::solve(rt, one)?;
+    let run = Run::solve(rt, other)?;
+    Ok(
+        plain.status == 0
+            && run.status == 0
+            && run.said() == plain.said()
+            && run.certificate() == plain.certificate(),
+    )
+}
+
+/// Whether a front of a file is refused for the word behind it.
+fn is_short<R: AllocGlobal + Threads + Wait + Sync>(
+    rt: &R,
+    front: &[u8],
+) -> Result<bool, AllocError> {
+    let said = short_behind(rt.alloc(), front)?;
+    ends(rt, &SOLVE, front, &[], (4, said.as_bytes(), b""))
 }
 
 /// A front of a file that lacks a word is refused at the word that it would have, and only the front that lacks the last
 /// line end alone is solved, as the whole file is.
 #[test]
 fn fronts_of_a_file_are_refused(rt: HostRuntime) -> Result<(), Fail> {
-    let whole = Run::solve(&rt, TRI)?;
-    assert_eq!(rt; whole.status, 0);
-    for (length, _) in TRI.iter().enumerate() {
-        let run = Run::solve(&rt, &TRI[..length])?;
-        if run.status == 0 {
-            assert_eq!(rt; length + 1, TRI.len());
-            assert_eq!(rt; run.said(), whole.said());
-            assert_eq!(rt; run.certificate(), whole.certificate());
-        } else {
-            let said = short_behind(rt.alloc(), &TRI[..length])?;
-            assert_eq!(rt; run.status, 4, "at {length}");
-            assert_eq!(rt; run.said(), said.as_bytes(), "at {length}");
-            assert_eq!(rt; run.certificate(), b"".as_slice());
-        }
+    let last = TRI.len() - 1;
+    for length in 0..last {
+        assert!(rt; is_short(&rt, &TRI[..length])?, "at {length}");
     }
+    assert!(rt; are_alike(&rt, TRI, &TRI[..last])?);
     Ok(())
 }
 
@@ -105,21 +119,25 @@ fn short_behind(alloc: Global, front: &[u8]) -> Result<String, AllocError> {
     Ok(said)
 }
 
+/// Whether `TINY` with this byte in place of each space and line end is solved as it is.
+fn parts<R: AllocGlobal + Threads + Wait + Sync>(rt: &R, space: u8) -> Result<bool, AllocError> {
+    let file = parted(rt.alloc(), TINY, space)?;
+    are_alike(rt, TINY, &file)
+}
+
+/// Whether it is refused with this byte there, since it is one word.
+fn joins<R: AllocGlobal + Threads + Wait + Sync>(rt: &R, other: u8) -> Result<bool, AllocError> {
+    let file = parted(rt.alloc(), TINY, other)?;
+    ends(rt, &SOLVE, &file, &[], (4, b"error short at 2\n", b""))
+}
+
 #[test]
 fn white_space_of_any_kind_parts_words(rt: HostRuntime) -> Result<(), Fail> {
-    let plain = Run::solve(&rt, TINY)?;
-    assert_eq!(rt; plain.status, 0);
     for space in [9, 10, 11, 12, 13, 32] {
-        let file = parted(rt.alloc(), TINY, space)?;
-        let run = Run::solve(&rt, file.as_slice())?;
-        assert_eq!(rt; run.status, 0, "at {space}");
-        assert_eq!(rt; run.said(), plain.said(), "at {space}");
-        assert_eq!(rt; run.certificate(), plain.certificate(), "at {space}");
+        assert!(rt; parts(&rt, space)?, "at {space}");
     }
     for other in [0, 8, 14, 31, 33, 127, 133, 160, 255] {
-        let file = parted(rt.alloc(), TINY, other)?;
-        let run = Run::solve(&rt, file.as_slice())?;
-        assert_eq!(rt; run.said(), b"error short at 2\n".as_slice(), "at {other}");
+        assert!(rt; joins(&rt, other)?, "at {other}");
     }
     Ok(())
 }
@@ -140,8 +158,6 @@ fn parted(alloc: Global, file: &[u8], space: u8) -> Result<Vec<u8>, AllocError> 
 
 #[test]
 fn spellings_of_one_network(rt: HostRuntime) -> Result<(), Fail> {
-    let plain = Run::solve(&rt, TINY)?;
-    assert_eq!(rt; plain.status, 0);
     let rows: [&[u8]; 9] = [
         // leading zeros
         b"tiny 01 002 0001 00000000000000000000000010\n02\n01 00 003 001\n01 000001\n",
@@ -161,10 +177,7 @@ fn spellings_of_one_network(rt: HostRuntime) -> Result<(), Fail> {
         b"tiny 1 2 1 10\n2\n1 0 0 2\n0 3\n1 1\n",
     ];
     for file in rows {
-        let run = Run::solve(&rt, file)?;
-        assert_eq!(rt; run.status, 0);
-        assert_eq!(rt; run.said(), plain.said());
-        assert_eq!(rt; run.certificate(), plain.certificate());
+        assert!(rt; are_alike(&rt, TINY, file)?);
     }
     Ok(())
 }
@@ -176,10 +189,9 @@ fn minus_nothing_is_no_cost(rt: HostRuntime) -> Result<(), Fail> {
         b"free 1 2 1 10\n2\n1 0 -0 1\n0 3\n",
         b"free 1 2 2 10\n2\n1 0 3 1\n1 -00\n0 -0 0\n",
     ];
+    let lines = b"lower 0\nupper 0\nvalues 1\nresult optimum";
     for file in rows {
-        let run = Run::solve(&rt, file)?;
-        assert_eq!(rt; run.status, 0);
-        assert!(rt; run.says(b"lower 0\nupper 0\nvalues 1\nresult optimum"));
+        assert!(rt; says(&rt, &SOLVE, file, 0, lines)?);
     }
     Ok(())
 }
