@@ -1,35 +1,37 @@
-/* Refuses the allocation with the number REFUSE, counted from 1, and writes how many were asked for to REFUSE_COUNT. */
+/* Refuses the allocation with the number REFUSE, counted from 1 over all threads, and keeps how many were asked for in the
+   file REFUSE_COUNT, eight bytes: a program that ends at once runs no destructor, so the count lies there all the time. */
 #define _GNU_SOURCE
 #include <dlfcn.h>
 #include <errno.h>
-#include <stdio.h>
+#include <fcntl.h>
 #include <stdlib.h>
+#include <sys/mman.h>
+#include <unistd.h>
 
 static void *(*next_malloc)(size_t);
 static void *(*next_realloc)(void *, size_t);
-static long refused, asked;
+static long refused, unkept;
+static long *asked = &unkept;
 static int counting;
 
 __attribute__((constructor)) static void begin(void) {
-  const char *number = getenv("REFUSE");
+  const char *number = getenv("REFUSE"), *name = getenv("REFUSE_COUNT");
   next_malloc = dlsym(RTLD_NEXT, "malloc");
   next_realloc = dlsym(RTLD_NEXT, "realloc");
   refused = number ? atol(number) : 0;
+  int file = name ? open(name, O_RDWR | O_CREAT | O_TRUNC, 0600) : -1;
+  if (file >= 0 && ftruncate(file, sizeof *asked) == 0) {
+    void *kept = mmap(NULL, sizeof *asked, PROT_READ | PROT_WRITE, MAP_SHARED, file, 0);
+    if (kept != MAP_FAILED)
+      asked = kept;
+  }
+  if (file >= 0)
+    close(file);
   counting = 1;
 }
 
-__attribute__((destructor)) static void end(void) {
-  const char *name = getenv("REFUSE_COUNT");
-  counting = 0;
-  FILE *file = name ? fopen(name, "w") : NULL;
-  if (file) {
-    fprintf(file, "%ld\n", asked);
-    fclose(file);
-  }
-}
-
 static int is_refused(void) {
-  if (!counting || ++asked != refused)
+  if (!counting || __atomic_add_fetch(asked, 1, __ATOMIC_SEQ_CST) != refused)
     return 0;
   errno = ENOMEM;
   return 1;
