@@ -1,11 +1,11 @@
 //! What one dive makes of the task that a pool begins with.
 
-ghost use Rattle.std.specs.Prelude.{◌≡◌, ◌≤◌, None, IfSome};
+ghost use Rattle.std.specs.Prelude.{◌≡◌, ◌≤◌, None, IfOk, IfSome};
 ghost use Rattle.cfn_task.specs.Values.{IsTaskOf};
 
 use cfn_branch::Rule;
 use cfn_dive::{Dived, Diver};
-use cfn_low::{Incumbent, Low, Unnamed};
+use cfn_low::{Holder, Incumbent, Low, Unnamed};
 use cfn_net::{Builder, Network, Scored};
 use cfn_pool::{Pool, Taken};
 use cfn_proof::{End, NodeId, Tree};
@@ -42,6 +42,7 @@ struct Made {
 fn dive<M: Incumbent>(
     alloc: Global,
     network: &Network,
+    diver: &mut Diver<'_>,
     unnamed: Unnamed,
     empty: Scored,
     backtracks: u64,
@@ -49,32 +50,64 @@ fn dive<M: Incumbent>(
     requires table { M.table ≡ unnamed.table }
     requires network { M.network ≡ unnamed.network }
     requires own { network.now ≡ unnamed.network }
+    requires diver { diver.old ≡ unnamed.network }
     requires empty { empty ≡ record { network = unnamed.network; held = None } }
     requires some { 1 ≤ backtracks }
 {
-    let mut diver = Diver::make(alloc, network, Rule::Degrees)?;
     let (low, mut holder) = unnamed.named::<M>();
     let mut part = low.split(&mut holder, empty);
-    let Ok(held) = Pool::begin(alloc, network, holder, AMPLE) else {
-        return Err(AllocError);
-    };
-    let Some(task) = root_task(network, held) else {
-        return Ok(None);
-    };
-    match diver.dive(alloc, network, task, &low, &mut part, backtracks) {
-        Dived::Piece { piece, cut } => Ok(Some(told_by(&piece, cut))),
-        Dived::Memory { .. } => Err(AllocError),
+    match root_task(alloc, network, holder)? {
+        Some(task) => dive_below(alloc, network, diver, &low, &mut part, task, backtracks),
+        None => Ok(None),
     }
 }
 
+/// The task of a new pool's root. An `Err` is want of memory.
+fn root_task<M: Incumbent>(
+    alloc: Global,
+    network: &Network,
+    holder: Holder<M>,
+) -> Result<Option<Task>, AllocError>
+    requires own { network.now ≡ M.network }
+    requires none { holder.held ≡ None }
+    requires seen { holder.seen ≡ M.network.upper }
+    ensures { IfOk result (λ task. IfSome task (IsTaskOf M.network)) }
+{
+    let Ok(held) = Pool::begin(alloc, network, holder, AMPLE) else {
+        return Err(AllocError);
+    };
+    Ok(taken(network, held))
+}
+
 /// The task of a pool's root.
-fn root_task<M: Incumbent>(network: &Network, mut held: Pool<M>) -> Option<Task>
+fn taken<M: Incumbent>(network: &Network, mut held: Pool<M>) -> Option<Task>
     requires own { network.now ≡ M.network }
     ensures { IfSome result (IsTaskOf M.network) }
 {
     match held.take(network, 0, AMPLE) {
         Taken::Given { task } => Some(task),
         _ => None,
+    }
+}
+
+/// The dive below a task's leaf.
+fn dive_below<M: Incumbent>(
+    alloc: Global,
+    network: &Network,
+    diver: &mut Diver<'_>,
+    low: &Low<M>,
+    part: &mut Holder<M>,
+    task: Task,
+    backtracks: u64,
+) -> Result<Option<Made>, AllocError>
+    requires own { network.now ≡ M.network }
+    requires diver { diver.old ≡ M.network }
+    requires task { IsTaskOf M.network task }
+    requires some { 1 ≤ backtracks }
+{
+    match diver.dive(alloc, network, task, low, part, backtracks) {
+        Dived::Piece { piece, cut } => Ok(Some(told_by(&piece, cut))),
+        Dived::Memory { .. } => Err(AllocError),
     }
 }
 
@@ -108,7 +141,8 @@ fn dive_in_tri(alloc: Global, backtracks: u64) -> Result<Option<Made>, AllocErro
     let network = tri(alloc)?;
     let unnamed = Unnamed::make(alloc, &network)?;
     let empty = Scored::empty(alloc, &network)?;
-    dive::<Brand>(alloc, &network, unnamed, empty, backtracks)
+    let mut diver = Diver::make(alloc, &network, Rule::Degrees)?;
+    dive::<Brand>(alloc, &network, &mut diver, unnamed, empty, backtracks)
 }
 
 #[test]
