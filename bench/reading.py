@@ -1,9 +1,10 @@
 #!/usr/bin/env python3
 """How long the program reads large files, and the most memory that it has while it does.
 
-Makes two files in a scratch folder: one of ten functions of two variables, all of whose 40,000,000 tuples are listed,
-and one of 1,000,000 functions of two variables with two listed tuples each. In both the constant is the upper bound,
-so that the opening sweep closes the root and a run is reading and no search. It asserts nothing.
+Makes files in a scratch folder: `wide` has ten functions of two variables, all of whose 40,000,000 tuples are listed;
+`many` has 1,000,000 functions of two variables with two listed tuples each; `few` has 15 functions of two variables with
+60,000,000 tuples, of which 15,000 are listed. In the first two the constant is the upper bound, so that the opening sweep
+closes the root and `solve` is reading and no search. `cost` reads a file and makes no store. It asserts nothing.
 """
 
 import os
@@ -34,8 +35,25 @@ def write_many(path):
             file.write(f"2 {first} {second} 0 2\n0 0 1\n1 1 1\n")
 
 
-def measure(name, path, scratch):
-    command = [os.path.join(TOP, "wcspsolve"), "solve", path, os.path.join(scratch, "certificate")]
+def write_few(path):
+    size = 2000
+    with open(path, "w") as file:
+        file.write(f"few 2 {size} 15 1000\n{size} {size}\n")
+        for number in range(15):
+            file.write("2 0 1 0 1000\n")
+            file.write("".join(f"{2 * place} {(7 * place + number) % size} {1 + place % 9}\n" for place in range(1000)))
+
+
+def solve(path, scratch):
+    return ["solve", path, os.path.join(scratch, "certificate")]
+
+
+def cost(path, scratch):
+    return ["cost", path, "0", "0"]
+
+
+def measure(name, words, path):
+    command = [os.path.join(TOP, "wcspsolve")] + words
     process = subprocess.Popen(command, stdout=subprocess.DEVNULL)
     _, status, usage = os.wait4(process.pid, 0)
     seconds = usage.ru_utime + usage.ru_stime
@@ -46,10 +64,16 @@ def measure(name, path, scratch):
 
 def main():
     with tempfile.TemporaryDirectory() as scratch:
-        for name, write in (("wide", write_wide), ("many", write_many)):
+        rows = (
+            ("wide", write_wide, (solve, cost)),
+            ("many", write_many, (solve,)),
+            ("few", write_few, (cost,)),
+        )
+        for name, write, commands in rows:
             path = os.path.join(scratch, name + ".wcsp")
             write(path)
-            measure(name, path, scratch)
+            for command in commands:
+                measure(f"{name} {command.__name__}", command(path, scratch), path)
             os.remove(path)
 
 

@@ -1,22 +1,24 @@
 -- What reads is a network: each limit is kept by the check of its place.
-use Rattle.std.proofs.Common.{◌≡◌, ℕ, zero, suc, ◌+◌, ◌*◌, ◌<◌, ◌≤◌, ◌⊎◌, inl, inr, min, Bool, true, false, not, ◌&&◌, ◌||◌, cond, List, [], ◌∷◌, ◌++◌, length, map, get_or, Result, Ok, Err, Option, Some, None, ltb, refl, sym, ap, subst, ◌∙◌, arith}
-use Rattle.std.proofs.lemmas.Bool.{cases_lt, ltb-false, eq-eqb}
+use Rattle.std.proofs.Common.{◌≡◌, ℕ, zero, suc, ◌+◌, ◌-◌, ◌*◌, ◌<◌, ◌≤◌, ◌⊎◌, inl, inr, min, Bool, true, false, not, ◌&&◌, ◌||◌, cond, List, [], ◌∷◌, ◌++◌, length, map, get_or, Result, Ok, Err, Option, Some, None, ltb, refl, sym, ap, subst, ◌∙◌, arith}
+use Rattle.std.proofs.lemmas.Bool.{cases_lt, ltb-false, le-ltb, leb-true, eq-eqb, and_parts}
 use Rattle.std.proofs.lemmas.List.{get_or_append_left, get_or_push, length_push, map_push, get_or_past}
+use Rattle.std.proofs.lemmas.Slice.Eq.{bytes_eq-Decides}
 use Rattle.std.proofs.lemmas.List.Folds.{list_any_at}
 use Rattle.std.proofs.lemmas.List.Sums.{sum_by-cons}
 use Rattle.std.proofs.lemmas.List.FromFn.{length-map-range_with_len, get_or-map-range_with_len}
 use Rattle.std.proofs.Math.Nat.{mul_assoc}
-use Rattle.std.specs.Prelude.{ℤ, pos, negsuc, neg_ℤ, int_lt, nat_lt, unsigned_abs, ◌==◌, if◌then◌else◌, slice_index, slice_index_or, sum_by}
+use Rattle.std.specs.Prelude.{ℤ, pos, negsuc, neg_ℤ, int_lt, nat_eq, nat_le, nat_lt, unsigned_abs, ◌==◌, if◌then◌else◌, slice_index, slice_index_or, sum_by}
 use Rattle.std.specs.List.{list_any, range_with_len}
+use Rattle.std.specs.Cmp.Lexicographic.{pointwise}
 use Rattle.cfn_model.specs.declared.limits.TheConstants.{MOST_VARIABLES, MOST_VALUES, MOST_FUNCTIONS, MOST_TUPLES, MOST_CELLS}
 use Rattle.cfn_model.specs.declared.reading.NumberFault.{NumberFault}
 use Rattle.cfn_model.specs.declared.reading.NumberFault.TheVariants as faults
 use Rattle.cfn_model.specs.declared.reading.Kind.{Kind}
-use Rattle.cfn_model.specs.declared.reading.Kind.TheVariants.{NegativeCost, Keyword, VariableOutOfRange, RepeatedVariable, TableTooWide, TooMany}
+use Rattle.cfn_model.specs.declared.reading.Kind.TheVariants.{NegativeCost, Keyword, SharedTable, VariableOutOfRange, RepeatedVariable, TableTooWide, TooMany}
 use Rattle.cfn_model.specs.declared.reading.Refusal.{Refusal}
 use Rattle.cfn_model.specs.Network.{Function, IsFunction, IsNetwork, cells, dims, last_listed, function_of, no_function}
 use Rattle.cfn_model.specs.Words.{is_space, begins_word, with_first, words, IsWord, greatest, is_number, has_minus, magnitude, number_of}
-use Rattle.cfn_model.specs.Reading.{◌>>=◌, At, unless_refused, first_word, word_at, number_in, natural_at, check_variables, check_functions, check_cost, check_size, check_domain, check_arity, check_variable, check_default, check_count, sizes_at, scope_from, listings_at, function_from, functions_from, network_at}
+use Rattle.cfn_model.specs.Reading.{◌>>=◌, At, unless_refused, first_word, word_at, number_in, number_at, natural_at, check_variables, check_functions, check_cost, check_size, check_domain, check_variable, check_default, shared_table, can_share, check_count, sizes_at, scope_from, listings_at, own_table, table_at, function_from, functions_from, network_at}
 use Rattle.cfn_model.specs.Laws.{ReadNetworks}
 
 -- what does not fail, did not fail at its first part
@@ -89,14 +91,20 @@ not_refused : {A : Type 0} (fault : Option Kind) (n : ℕ) (x y : A) → unless_
 not_refused None n x y e = (refl, ok_is x y e)
 not_refused (Some kind) n x y e = absurd cc
 
+number_read : (s : At) (got : ℤ × At) → number_at s ≡ Ok got → unsigned_abs got.0 ≤ greatest
+number_read s got e =
+    let word = bind_ok (word_at s) _ got e in
+    let number = bind_ok (number_in (number_of word.0.0) s.next) _ got word.2 in
+    let is : number.0 ≡ got.0 = ap (λ (p : ℤ × At). p.0) (ok_is (number.0, word.0.1) got number.2) in
+    subst (λ z. unsigned_abs z ≤ greatest) is (read_number word.0.0 number.0 (in_number (number_of word.0.0) s.next number.0 number.1))
+
 read_at : (check : ℤ → Option Kind) (s : At) (got : ℕ × At) → natural_at check s ≡ Ok got → Passes check got.0
 unfolding natural_at
 read_at check s got e =
-    let word = bind_ok (word_at s) _ got e in
-    let number = bind_ok (number_in (number_of word.0.0) s.next) _ got word.2 in
-    let passed = not_refused (check number.0) s.next (unsigned_abs number.0, word.0.1) got number.2 in
-    let is : unsigned_abs number.0 ≡ got.0 = ap (λ (p : ℕ × At). p.0) passed.1 in
-    record { number = number.0; passes = passed.0; is = is; most = omega (arith, is, read_number word.0.0 number.0 (in_number (number_of word.0.0) s.next number.0 number.1)) }
+    let z = bind_ok (number_at s) _ got e in
+    let passed = not_refused (check z.0.0) s.next (unsigned_abs z.0.0, z.0.1) got z.2 in
+    let is : unsigned_abs z.0.0 ≡ got.0 = ap (λ (p : ℕ × At). p.0) passed.1 in
+    record { number = z.0.0; passes = passed.0; is = is; most = omega (arith, is, number_read s z.0 z.1) }
 
 two_pass : (a b : Bool) (k l : Kind) → cond a (Some k) (cond b (Some l) None) ≡ None → (a ≡ false) × (b ≡ false)
 two_pass true b k l e = absurd cc
@@ -220,21 +228,95 @@ function_kept sizes upper scope default listings is =
     capped_at amount n c (inl l) = omega (arith, get_or-map-range_with_len (λ c. min upper (amount c)) 0 n c c 0 l (omega arith))
     capped_at amount n c (inr l) = omega (arith, get_or_past (map (λ c. min upper (amount c)) (range_with_len 0 n)) c 0 (omega (arith, length-map-range_with_len (λ c. min upper (amount c)) 0 n)))
 
-function_read : (sizes : List ℕ) (upper so_far : ℕ) (s : At) (got : Function × At) → function_from sizes upper so_far s ≡ Ok got
-    → IsFunction sizes upper got.0 × (so_far + cells (dims sizes got.0.scope) ≤ MOST_CELLS)
-unfolding function_from
-function_read sizes upper so_far s got e =
-    let arity = bind_ok (natural_at check_arity s) _ got e in
-    let scope = bind_ok (scope_from sizes [] arity.0.0 arity.0.1) _ got arity.2 in
+-- each function of some
+AreKept : List ℕ → ℕ → List Function → Type 0
+AreKept sizes upper fs = (f : ℕ) → f < length fs → IsFunction sizes upper (slice_index_or fs f no_function)
+
+-- a function that has the table of a function of the same domain sizes
+other_scope_kept : (sizes : List ℕ) (upper : ℕ) (f : Function) (scope : List ℕ) → IsFunction sizes upper f → IsScope sizes scope → dims sizes f.scope ≡ dims sizes scope → IsFunction sizes upper (record f { scope = scope })
+other_scope_kept sizes upper f scope kept is same = record {
+  variables = is.variables;
+  different = is.different;
+  few = is.few;
+  default = kept.default;
+  table = kept.table ∙ ap cells same;
+  capped = kept.capped;
+}
+
+-- what the check of a shared table's number says
+record Shares (sizes : List ℕ) (shared : List Function) (scope : List ℕ) (j : ℕ) : Type 0 where
+  pub there : j ≤ length shared
+  pub same : dims sizes (shared_table shared j).scope ≡ dims sizes scope
+
+only_if : (can rest : Bool) (k l : Kind) → cond (true && not can) (Some k) (cond rest (Some l) None) ≡ None → can ≡ true
+only_if true rest k l e = refl
+only_if false rest k l e = absurd cc
+
+count_passes : (sizes : List ℕ) (shared : List Function) (arity : ℤ) (scope : List ℕ) (n : ℕ) → check_count sizes shared arity scope (negsuc n) ≡ None → Shares sizes shared scope (suc n)
+count_passes sizes shared arity scope n e =
+    let same = pointwise nat_eq (dims sizes (shared_table shared (suc n)).scope) (dims sizes scope) in
+    let can = only_if (can_share sizes shared arity scope (suc n)) (int_lt (pos MOST_CELLS) (negsuc n)) SharedTable TooMany e in
+    let parts = and_parts (nat_le (suc n) (length shared)) same (and_parts (not (int_lt arity (pos 0))) (nat_le (suc n) (length shared) && same) can).1 in
+    record { there = leb-true (suc n) (length shared) parts.0; same = (bytes_eq-Decides (dims sizes (shared_table shared (suc n)).scope) (dims sizes scope)).0 parts.1 }
+
+-- a function that was read has the scope that was read
+IsOver : List ℕ → ℕ → List ℕ → Function → Type 0
+IsOver sizes upper scope f = IsFunction sizes upper f × (f.scope ≡ scope)
+
+table_read : (sizes : List ℕ) (upper : ℕ) (shared : List Function) (arity : ℤ) (scope : List ℕ) (default : ℕ) (s : At) (got : Function × At) → AreKept sizes upper shared → IsScope sizes scope
+    → table_at sizes upper shared arity scope default s ≡ Ok got → IsOver sizes upper scope got.0
+unfolding table_at AreKept IsOver
+table_read sizes upper shared arity scope default s got kept is e =
+    let number = bind_ok (number_at s) _ got e in
+    let count = bind_ok (unless_refused (check_count sizes shared arity scope number.0.0) s.next number.0.0) _ got number.2 in
+    let passed = not_refused (check_count sizes shared arity scope number.0.0) s.next number.0.0 count.0 count.1 in
+    by_sign count.0 number.0.1 (subst (λ z. check_count sizes shared arity scope z ≡ None) passed.1 passed.0) count.2
+  where
+    by_sign : (z : ℤ) (after : At) → check_count sizes shared arity scope z ≡ None
+        → (if int_lt z (pos 0) then Ok (record (shared_table shared (unsigned_abs z)) { scope = scope }, after)
+        else own_table sizes upper scope default (unsigned_abs z) after) ≡ Ok got
+        → IsOver sizes upper scope got.0
+    by_sign (negsuc n) after passes e =
+        let shares = count_passes sizes shared arity scope n passes in
+        let made : Function × At = (record (shared_table shared (suc n)) { scope = scope }, after) in
+        subst (λ (p : Function × At). IsOver sizes upper scope p.0) {x = made} (ok_is made got e)
+        (other_scope_kept sizes upper (shared_table shared (suc n)) scope (kept (suc n - 1) (omega (arith, shares.there))) is shares.same, refl)
+    by_sign (pos n) after passes e =
+        let listings = bind_ok (listings_at (dims sizes scope) n after) _ got (rw (le-ltb n 0 (omega arith)) at e) in
+        let made : Function × At = (function_of sizes upper scope default listings.0.0, listings.0.1) in
+        subst (λ (p : Function × At). IsOver sizes upper scope p.0) {x = made} (ok_is made got listings.2) (function_kept sizes upper scope default listings.0.0 is, refl)
+
+-- the functions that have shared tables, behind one more
+sharing_kept : (sizes : List ℕ) (upper : ℕ) (shared : List Function) (f : Function) (own : Bool) → AreKept sizes upper shared → IsFunction sizes upper f → AreKept sizes upper (if own then shared ++ f ∷ [] else shared)
+unfolding AreKept
+sharing_kept sizes upper shared f false kept is = kept
+sharing_kept sizes upper shared f true kept is = λ j lt. elim (cases_lt j (length shared)) [
+  | inl before ↦ rw (get_or_append_left shared (f ∷ []) no_function j before) (kept j before)
+  | inr behind ↦ let here : length shared ≡ j = omega (arith, length_push shared f) in rw (get_or_push shared f no_function j here) is
+]
+
+record FunctionRead (sizes : List ℕ) (upper so_far : ℕ) (got : Function × List Function) : Type 0 where
+  pub is : IsFunction sizes upper got.0
+  pub shared : AreKept sizes upper got.1
+  pub few : so_far + cells (dims sizes got.0.scope) ≤ MOST_CELLS
+
+function_read : (sizes : List ℕ) (upper : ℕ) (shared : List Function) (so_far : ℕ) (s : At) (got : (Function × List Function) × At) → AreKept sizes upper shared → function_from sizes upper shared so_far s ≡ Ok got
+    → FunctionRead sizes upper so_far got.0
+unfolding function_from IsOver
+function_read sizes upper shared so_far s got kept e =
+    let arity = bind_ok (number_at s) _ got e in
+    let scope = bind_ok (scope_from sizes [] (unsigned_abs arity.0.0) arity.0.1) _ got arity.2 in
     let default = bind_ok (natural_at (check_default (so_far + cells (dims sizes scope.0.0))) scope.0.1) _ got scope.2 in
-    let count = bind_ok (natural_at check_count default.0.1) _ got default.2 in
-    let listings = bind_ok (listings_at (dims sizes scope.0.0) count.0.0 count.0.1) _ got count.2 in
-    let is = scope_kept sizes [] arity.0.0 arity.0.1 scope.0 (record { variables = λ place lt. absurd (omega arith); different = λ place other before lt. absurd (omega arith); few = omega arith }) scope.1 in
+    let f = bind_ok (table_at sizes upper shared arity.0.0 scope.0.0 default.0.0 default.0.1) _ got default.2 in
+    let own = int_lt arity.0.0 (pos 0) in
+    let empty : IsScope sizes [] = record { variables = λ place lt. absurd (omega arith); different = λ place other before lt. absurd (omega arith); few = omega arith } in
+    let is = scope_kept sizes [] (unsigned_abs arity.0.0) arity.0.1 scope.0 empty scope.1 in
     let one = read_at (check_default (so_far + cells (dims sizes scope.0.0))) scope.0.1 default.0 default.1 in
     let few = default_passes (so_far + cells (dims sizes scope.0.0)) one.number one.passes in
-    let made : Function × At = (function_of sizes upper scope.0.0 default.0.0 listings.0.0, listings.0.1) in
-    subst (λ (p : Function × At). IsFunction sizes upper p.0 × (so_far + cells (dims sizes p.0.scope) ≤ MOST_CELLS)) {x = made} (ok_is made got listings.2)
-    (function_kept sizes upper scope.0.0 default.0.0 listings.0.0 is, few)
+    let table = table_read sizes upper shared arity.0.0 scope.0.0 default.0.0 default.0.1 f.0 kept is f.1 in
+    let made : (Function × List Function) × At = ((f.0.0, if own then shared ++ f.0.0 ∷ [] else shared), f.0.1) in
+    subst (λ (p : (Function × List Function) × At). FunctionRead sizes upper so_far p.0) {x = made} (ok_is made got f.2)
+    (record { is = table.0; shared = sharing_kept sizes upper shared f.0.0 own kept table.0; few = rw table.1 few })
 
 -- so many functions
 record AreFunctions (sizes : List ℕ) (upper so_far n : ℕ) (fs : List Function) : Type 0 where
@@ -250,16 +332,17 @@ one_function_more sizes upper so_far n first others is are = record { many = ap 
     by_place zero lt = is
     by_place (suc f) lt = are.each f (omega arith)
 
-functions_read : (sizes : List ℕ) (upper so_far n : ℕ) (s : At) (got : List Function × At) → so_far ≤ MOST_CELLS → functions_from sizes upper so_far n s ≡ Ok got → AreFunctions sizes upper so_far n got.0
+functions_read : (sizes : List ℕ) (upper : ℕ) (shared : List Function) (so_far n : ℕ) (s : At) (got : List Function × At) → so_far ≤ MOST_CELLS → AreKept sizes upper shared → functions_from sizes upper shared so_far n s ≡ Ok got
+    → AreFunctions sizes upper so_far n got.0
 unfolding functions_from
-functions_read sizes upper so_far zero s got low e =
+functions_read sizes upper shared so_far zero s got low kept e =
     subst (λ (p : List Function × At). AreFunctions sizes upper so_far 0 p.0) (ok_is ([], s) got e) (record { many = refl; each = λ f lt. absurd (omega arith); few = omega arith })
-functions_read sizes upper so_far (suc n) s got low e =
-    let f = bind_ok (function_from sizes upper so_far s) _ got e in
-    let fs = bind_ok (functions_from sizes upper (so_far + cells (dims sizes f.0.0.scope)) n f.0.1) _ got f.2 in
-    let one = function_read sizes upper so_far s f.0 f.1 in
-    let others = functions_read sizes upper (so_far + cells (dims sizes f.0.0.scope)) n f.0.1 fs.0 one.1 fs.1 in
-    subst (λ (p : List Function × At). AreFunctions sizes upper so_far (suc n) p.0) (ok_is (f.0.0 ∷ fs.0.0, fs.0.1) got fs.2) (one_function_more sizes upper so_far n f.0.0 fs.0.0 one.0 others)
+functions_read sizes upper shared so_far (suc n) s got low kept e =
+    let f = bind_ok (function_from sizes upper shared so_far s) _ got e in
+    let fs = bind_ok (functions_from sizes upper f.0.0.1 (so_far + cells (dims sizes f.0.0.0.scope)) n f.0.1) _ got f.2 in
+    let one = function_read sizes upper shared so_far s f.0 kept f.1 in
+    let others = functions_read sizes upper f.0.0.1 (so_far + cells (dims sizes f.0.0.0.scope)) n f.0.1 fs.0 one.few one.shared fs.1 in
+    subst (λ (p : List Function × At). AreFunctions sizes upper so_far (suc n) p.0) (ok_is (f.0.0.0 ∷ fs.0.0, fs.0.1) got fs.2) (one_function_more sizes upper so_far n f.0.0.0 fs.0.0 one.is others)
 
 -- a name is a word
 name_read : (ws : List (List ℕ)) (n : ℕ) (got : List ℕ × At) → FirstIsWord ws → first_word ws n ≡ Ok got → IsWord got.0
@@ -267,7 +350,7 @@ name_read [] n got is e = absurd cc
 name_read (word ∷ rest) n got is e = subst (λ (p : List ℕ × At). IsWord p.0) (ok_is (word, record { words = rest; next = n + 1 }) got e) is.0
 
 pub read_networks : ReadNetworks
-unfolding network_at AreSizes
+unfolding network_at AreSizes AreKept
 read_networks bytes P e =
     let start : At = record { words = words bytes; next = 1 } in
     let name = bind_ok (word_at start) _ P e in
@@ -276,13 +359,13 @@ read_networks bytes P e =
     let functions = bind_ok (natural_at check_functions widest.0.1) _ P widest.2 in
     let upper = bind_ok (natural_at check_cost functions.0.1) _ P functions.2 in
     let sizes = bind_ok (sizes_at variables.0.0 upper.0.1) _ P upper.2 in
-    let fs = bind_ok (functions_from sizes.0.0 upper.0.0 0 functions.0.0 sizes.0.1) _ P sizes.2 in
+    let fs = bind_ok (functions_from sizes.0.0 upper.0.0 [] 0 functions.0.0 sizes.0.1) _ P sizes.2 in
     let n = read_at check_variables name.0.1 variables.0 variables.1 in
     let many = variables_pass n.number n.passes in
     let count = read_at check_functions widest.0.1 functions.0 functions.1 in
     let top = read_at check_cost functions.0.1 upper.0 upper.1 in
     let domains = sizes_kept variables.0.0 upper.0.1 sizes.0 sizes.1 in
-    let tables = functions_read sizes.0.0 upper.0.0 0 functions.0.0 sizes.0.1 fs.0 (omega arith) fs.1 in
+    let tables = functions_read sizes.0.0 upper.0.0 [] 0 functions.0.0 sizes.0.1 fs.0 (omega arith) (λ f lt. absurd (omega arith)) fs.1 in
     subst IsNetwork (ok_is (record { name = name.0.0; sizes = sizes.0.0; upper = upper.0.0; functions = fs.0.0 }) P fs.2) (record {
       name = name_read (words bytes) 1 name.0 (first_is_word bytes) name.1;
       some = omega (arith, many.0, n.is, domains.0);

@@ -1,14 +1,15 @@
 -- What a wcsp file reads as, and its first refusal (toulbar2 user manual, wcsp format).
 -- Words are read from left to right; at each place the checks run in their order, and the first that fails decides.
-use Rattle.std.specs.Prelude.{◌≡◌, ℕ, zero, suc, ◌+◌, ◌*◌, ◌&&◌, ◌||◌, List, [], ◌∷◌, ◌++◌, length, slice_index, ℤ, pos, negsuc, Option, Some, None, Result, Ok, Err, if◌then◌else◌, ◌==◌, nat_lt, int_lt, unsigned_abs}
+use Rattle.std.specs.Prelude.{◌≡◌, ℕ, zero, suc, ◌+◌, ◌-◌, ◌*◌, Bool, not, ◌&&◌, ◌||◌, List, [], ◌∷◌, ◌++◌, length, slice_index, slice_index_or, ℤ, pos, negsuc, Option, Some, None, Result, Ok, Err, if◌then◌else◌, ◌==◌, nat_eq, nat_le, nat_lt, int_lt, unsigned_abs}
 use Rattle.std.specs.List.{list_any}
+use Rattle.std.specs.Cmp.Lexicographic.{pointwise}
 use Rattle.cfn_model.specs.declared.limits.TheConstants.{MOST_VARIABLES, MOST_VALUES, MOST_FUNCTIONS, MOST_TUPLES, MOST_CELLS}
 use Rattle.cfn_model.specs.declared.reading.NumberFault.{NumberFault}
 use Rattle.cfn_model.specs.declared.reading.NumberFault.TheVariants as faults
 use Rattle.cfn_model.specs.declared.reading.Kind.{Kind}
 use Rattle.cfn_model.specs.declared.reading.Kind.TheVariants.{Short, NotNumber, TooLarge, NoVariables, NegativeCount, EmptyDomain, IntervalDomain, DomainTooLarge, NegativeCost, Keyword, SharedTable, VariableOutOfRange, RepeatedVariable, ValueOutOfRange, TableTooWide, TooMany}
 use Rattle.cfn_model.specs.declared.reading.Refusal.{Refusal}
-use Rattle.cfn_model.specs.Network.{Function, Network, cells, dims, function_of}
+use Rattle.cfn_model.specs.Network.{Function, Network, cells, dims, function_of, no_function}
 use Rattle.cfn_model.specs.Words.{words, number_of}
 
 -- The words that are left, and the ordinal of the next one.
@@ -41,12 +42,18 @@ number_in (Ok z) n = Ok z
 number_in (Err faults.NotNumber) n = Err (record { kind = NotNumber; ordinal = n })
 number_in (Err faults.TooLarge) n = Err (record { kind = TooLarge; ordinal = n })
 
--- The next word as a number that passes the checks of its place.
-unfoldable pub natural_at : (ℤ → Option Kind) → At → Result (ℕ × At) Refusal
-natural_at check s = do
+-- The next word as a number.
+abbrev pub number_at : At → Result (ℤ × At) Refusal
+number_at s = do
   word ← word_at s
   z ← number_in (number_of word.0) s.next
-  unless_refused (check z) s.next (unsigned_abs z, word.1)
+  Ok (z, word.1)
+
+-- The next word as a number that passes the checks of its place, without its sign.
+unfoldable pub natural_at : (ℤ → Option Kind) → At → Result (ℕ × At) Refusal
+natural_at check s = do
+  z ← number_at s
+  unless_refused (check z.0) s.next (unsigned_abs z.0, z.1)
 
 -- The checks of each place.
 abbrev pub check_variables : ℤ → Option Kind
@@ -66,9 +73,6 @@ check_domain z =
     if int_lt z (pos 0) then Some IntervalDomain
     else (if int_lt z (pos 1) then Some EmptyDomain else (if int_lt (pos MOST_VALUES) z then Some DomainTooLarge else None))
 
-abbrev pub check_arity : ℤ → Option Kind
-check_arity z = if int_lt z (pos 0) then Some SharedTable else None
-
 -- A scope's next variable, behind those that the scope has so far.
 abbrev pub check_variable : List ℕ → List ℕ → ℤ → Option Kind
 check_variable sizes scope z =
@@ -82,8 +86,21 @@ check_default all_cells z =
     if int_lt (negsuc 1) z && int_lt z (pos 0) then Some Keyword
     else (if int_lt z (pos 0) then Some NegativeCost else (if nat_lt MOST_CELLS all_cells then Some TooMany else None))
 
-abbrev pub check_count : ℤ → Option Kind
-check_count z = if int_lt z (pos 0) then Some SharedTable else (if int_lt (pos MOST_CELLS) z then Some TooMany else None)
+-- The shared table with a number, counted from 1, where these functions have the shared tables.
+abbrev pub shared_table : List Function → ℕ → Function
+shared_table shared j = slice_index_or shared (j - 1) no_function
+
+-- A function of this arity and scope can have shared table j: its own table does not become shared, there are so many
+-- shared tables, and table j is of the same domain sizes.
+abbrev pub can_share : List ℕ → List Function → ℤ → List ℕ → ℕ → Bool
+can_share sizes shared arity scope j =
+    not (int_lt arity (pos 0)) && (nat_le j (length shared) && pointwise nat_eq (dims sizes (shared_table shared j).scope) (dims sizes scope))
+
+-- How many tuples are listed, or, below 0, which shared table the function has.
+abbrev pub check_count : List ℕ → List Function → ℤ → List ℕ → ℤ → Option Kind
+check_count sizes shared arity scope z =
+    if int_lt z (pos 0) && not (can_share sizes shared arity scope (unsigned_abs z)) then Some SharedTable
+    else (if int_lt (pos MOST_CELLS) z then Some TooMany else None)
 
 abbrev pub check_value : ℕ → ℤ → Option Kind
 check_value size z = if int_lt z (pos 0) || int_lt (pos size) (pos (suc (unsigned_abs z))) then Some ValueOutOfRange else None
@@ -126,23 +143,38 @@ listings_at sizes (suc n) s = do
   listings ← listings_at sizes n listing.1
   Ok (listing.0 ∷ listings.0, listings.1)
 
--- A cost function, behind functions that have so many cells.
-unfoldable pub function_from : List ℕ → ℕ → ℕ → At → Result (Function × At) Refusal
-function_from sizes upper so_far s = do
-  arity ← natural_at check_arity s
-  scope ← scope_from sizes [] arity.0 arity.1
-  default ← natural_at (check_default (so_far + cells (dims sizes scope.0))) scope.1
-  count ← natural_at check_count default.1
-  listings ← listings_at (dims sizes scope.0) count.0 count.1
-  Ok (function_of sizes upper scope.0 default.0 listings.0, listings.1)
+-- A function's own table, of so many listings.
+abbrev pub own_table : List ℕ → ℕ → List ℕ → ℕ → ℕ → At → Result (Function × At) Refusal
+own_table sizes upper scope default count s = do
+  listings ← listings_at (dims sizes scope) count s
+  Ok (function_of sizes upper scope default listings.0, listings.1)
 
--- So many cost functions, behind functions that have so many cells.
-unfoldable pub functions_from : List ℕ → ℕ → ℕ → ℕ → At → Result (List Function × At) Refusal
-functions_from sizes upper so_far zero s = Ok ([], s)
-functions_from sizes upper so_far (suc n) s = do
-  f ← function_from sizes upper so_far s
-  fs ← functions_from sizes upper (so_far + cells (dims sizes f.0.scope)) n f.1
-  Ok (f.0 ∷ fs.0, fs.1)
+-- The function of a scope and a default: with its own table of so many listings, or, where that number is -j, with the
+-- default and the entries of shared table j.
+unfoldable pub table_at : List ℕ → ℕ → List Function → ℤ → List ℕ → ℕ → At → Result (Function × At) Refusal
+table_at sizes upper shared arity scope default s = do
+  number ← number_at s
+  count ← unless_refused (check_count sizes shared arity scope number.0) s.next number.0
+  if int_lt count (pos 0) then Ok (record (shared_table shared (unsigned_abs count)) { scope = scope }, number.1)
+      else own_table sizes upper scope default (unsigned_abs count) number.1
+
+-- A cost function, behind functions that have so many cells, and of which these have shared tables; and those that have
+-- shared tables behind it, itself included where its arity is below 0.
+unfoldable pub function_from : List ℕ → ℕ → List Function → ℕ → At → Result ((Function × List Function) × At) Refusal
+function_from sizes upper shared so_far s = do
+  arity ← number_at s
+  scope ← scope_from sizes [] (unsigned_abs arity.0) arity.1
+  default ← natural_at (check_default (so_far + cells (dims sizes scope.0))) scope.1
+  f ← table_at sizes upper shared arity.0 scope.0 default.0 default.1
+  Ok ((f.0, if int_lt arity.0 (pos 0) then shared ++ f.0 ∷ [] else shared), f.1)
+
+-- So many cost functions, behind functions that have so many cells, and of which these have shared tables.
+unfoldable pub functions_from : List ℕ → ℕ → List Function → ℕ → ℕ → At → Result (List Function × At) Refusal
+functions_from sizes upper shared so_far zero s = Ok ([], s)
+functions_from sizes upper shared so_far (suc n) s = do
+  f ← function_from sizes upper shared so_far s
+  fs ← functions_from sizes upper f.0.1 (so_far + cells (dims sizes f.0.0.scope)) n f.1
+  Ok (f.0.0 ∷ fs.0, fs.1)
 
 -- A network: its name, the number of variables, the greatest domain size (which is not used), the number of
 -- functions, the upper bound, the domain sizes, and the functions. What follows is not looked at.
@@ -154,7 +186,7 @@ network_at s = do
   functions ← natural_at check_functions widest.1
   upper ← natural_at check_cost functions.1
   sizes ← sizes_at variables.0 upper.1
-  fs ← functions_from sizes.0 upper.0 0 functions.0 sizes.1
+  fs ← functions_from sizes.0 upper.0 [] 0 functions.0 sizes.1
   Ok (record { name = name.0; sizes = sizes.0; upper = upper.0; functions = fs.0 })
 
 -- What a file's bytes read as.

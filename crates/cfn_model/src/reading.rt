@@ -32,7 +32,7 @@ pub enum Kind {
     NegativeCost,
     /// A function is given by a keyword (a default cost of -1).
     Keyword,
-    /// A table is shared (a negative arity or a negative number of tuples).
+    /// A negative number of tuples names no shared table that the function can have.
     SharedTable,
     /// A scope names a variable that is not there.
     VariableOutOfRange,

@@ -3,4 +3,8 @@ pub mod Digits
 pub mod Costs
 pub mod Constants
 pub mod Listings
+pub mod Spreads
+pub mod Keeping
+pub mod Drafting
+pub mod Expanding
 pub mod CallerLemmas

@@ -5,10 +5,9 @@ use Rattle.std.specs.Borrow.{Bor}
 use Rattle.std.specs.List.{range_with_len}
 use Rattle.std.proofs.lemmas.Bool.{cases_lt, cases_eq, eq-eqb, ne_eqb}
 use Rattle.std.proofs.lemmas.List.{ext_get_or, get_or_past, get_or-set_same, get_or-set_other, length-set, length_push, set_at, get_or_at, map_more}
-use Rattle.std.proofs.lemmas.List.Sums.{sum_by_push}
 use Rattle.std.proofs.lemmas.List.FromFn.{length-map-range_with_len, get_or-map-range_with_len}
 use Rattle.cfn_model.specs.Network.{Function, Network, IsFunction, cells, cell, dims, dims_at, last_listed, function_of, function_at, no_function}
-use Rattle.cfn_net.specs.Building.{IsScope, ListingLaw, all_cells, last, list_at_end, listings_of, with_entry, with_function, with_last}
+use Rattle.cfn_net.specs.Building.{IsScope, ListingLaw, last, list_at_end, listings_of, with_entry, with_function, with_last}
 
 -- a function of listings keeps the limits of functions
 pub IsFunction-function_of : (sizes : List ℕ) (upper : ℕ) (scope : List ℕ) (default : ℕ) (listings : List (List ℕ × ℕ)) → IsScope sizes scope → IsFunction sizes upper (function_of sizes upper scope default listings)
@@ -94,17 +93,6 @@ the_listing_law = record {
   at_end = function_at-with_function;
   listed = list_at_end-with_function;
 }
-
-pub all_cells-with_function : (P : Network) (f : Function) → all_cells (with_function P f) ≡ all_cells P + cells (dims P.sizes f.scope)
-all_cells-with_function P f = sum_by_push (λ g. cells (dims P.sizes g.scope)) P.functions f
-
--- the count of cells, after a function with no listings was added
-pub all_cells-added : (P Q N : Network) (f : Function) (scope : List ℕ) (default : ℕ) (entries : List ℕ) (n : ℕ) → P ≡ Q → IsScope Q.sizes scope → f ≡ function_of P.sizes P.upper scope default [] → entries ≡ f.entries → N ≡ with_function P f → n ≡ all_cells P → n + length entries ≡ all_cells N
-all_cells-added P Q N f scope default entries n same s is are added count =
-    let t : length (function_of P.sizes P.upper scope default []).entries ≡ cells (dims P.sizes scope) = length-map-range_with_len (λ c. min P.upper (last_listed (dims P.sizes scope) default [] c)) 0 (cells (dims P.sizes scope)) in
-    let g : length entries ≡ cells (dims P.sizes scope) = ap length are ∙ ap (λ (h : Function). length h.entries) is ∙ t in
-    let k : all_cells N ≡ all_cells P + cells (dims P.sizes scope) = ap all_cells added ∙ all_cells-with_function P f ∙ ap (λ (h : Function). all_cells P + cells (dims P.sizes h.scope)) is in
-    omega arith
 
 -- a loop that lists a tuple has one more listing
 pub listed_more : (P S Q N : Network) (scope : List ℕ) (default : ℕ) (listed : List (Bor (List ℕ) × ℕ)) (i : ℕ) (d : Bor (List ℕ) × ℕ) (k place : ℕ) → Q ≡ S → S ≡ with_function P (function_of P.sizes P.upper scope default (listings_of (take i listed))) → i < length listed → place ≡ length P.functions → k ≡ cell (dims_at Q place) (get_or listed i d).0.now → N ≡ list_at_end S k (get_or listed i d).1 → N ≡ with_function P (function_of P.sizes P.upper scope default (listings_of (take (i + 1) listed)))

@@ -34,6 +34,14 @@ pub record CanTake (P : Network) (variables : List ℕ) : Type 0 where
 abbrev pub with_function : Network → Function → Network
 with_function P f = record P { functions = P.functions ++ f ∷ [] }
 
+-- The function of a scope, a default and entries.
+abbrev pub function : List ℕ → ℕ → List ℕ → Function
+function scope default entries = record { scope = scope; default = default; entries = entries }
+
+-- The function of a scope with the default and the entries of an earlier function.
+abbrev pub share_of : Network → ℕ → List ℕ → Function
+share_of P earlier scope = record (function_at P earlier) { scope = scope }
+
 -- The number of the last function, and the network with another function in its place.
 abbrev pub last : Network → ℕ
 last P = length P.functions - 1

@@ -3,9 +3,9 @@ ghost use Rattle.std.specs.Prelude.{◌≡◌, ℕ, ◌+◌, ◌-◌, ◌<◌, �
 ghost use Rattle.cfn_model.specs.declared.limits.TheConstants.{GREATEST};
 ghost use Rattle.cfn_model.specs.Words.{IsWord};
 ghost use Rattle.cfn_model.specs.Network.{Fits, cells, cell, dims, function_of, dims_at, function_at};
-ghost use Rattle.cfn_net.specs.Building.{AreSizes, CanTake, ListingLaw, all_cells, last, list_at_end, listings_of, new_network, with_function};
+ghost use Rattle.cfn_net.specs.Building.{AreSizes, CanTake, ListingLaw, all_cells, last, list_at_end, listings_of, new_network, share_of, with_function};
 
-use crate::function::Function;
+use crate::draft::Draft;
 use crate::network::Network;
 use std::alloc::{AllocError, Global};
 use std::marker::Model;
@@ -13,7 +13,7 @@ use std::marker::Model;
 /// A network that is being built: its name, domains and upper bound stand from the start, and functions are added.
 #[derive(Drop)]
 pub struct Builder {
-    network: Network,
+    draft: Draft,
     cells: u64,
 }
 
@@ -24,9 +24,9 @@ impl Model for Builder {
 
     ghost Value = { CostNetwork };
 
-    ghost view = { λ b. b.network };
+    ghost view = { λ b. b.draft };
 
-    ghost invariant = { λ b. b.cells ≡ all_cells b.network };
+    ghost invariant = { λ b. b.cells ≡ all_cells b.draft };
 }
 
 impl Builder {
@@ -38,7 +38,7 @@ impl Builder {
         ensures { IfOk result (λ b. b ≡ new_network name.now sizes.now ub) }
     {
         Ok(Builder {
-            network: Network::bare(alloc, name, sizes, ub)?,
+            draft: Draft::of(Network::bare(alloc, name, sizes, ub)?),
             cells: 0,
         })
     }
@@ -47,7 +47,7 @@ impl Builder {
     pub fn functions(&self) -> u32
         ensures { result ≡ length self.now.functions }
     {
-        self.network.functions()
+        self.draft.functions()
     }
 
     /// The number of cells of all functions so far, at most 67,108,864.
@@ -58,10 +58,10 @@ impl Builder {
     }
 
     /// What is built so far, as a network.
-    pub fn network(&self) -> &Network
+    pub fn network(&self) -> &Draft
         ensures { result.now ≡ self.now }
     {
-        &self.network
+        &self.draft
     }
 
     /// Adds a function that has a cost for each tuple that is listed, the last listing of a tuple counting, and the
@@ -80,9 +80,8 @@ impl Builder {
         ensures err { OnErr result (self.new ≡ self.old) }
     {
         self.begin(scope, default)?;
-        let last = self.network.functions() - 1;
         for (tuple, cost) in listed {
-            let cell = self.network.cell(last, tuple);
+            let cell = self.draft.cell(tuple);
             self.list(cell, *cost);
         }
         Ok(())
@@ -96,10 +95,20 @@ impl Builder {
             (function_of self.old.sizes self.old.upper scope.now default [])) }
         ensures err { OnErr result (self.new ≡ self.old) }
     {
-        let function = self.network.constant(scope, default)?;
-        let cells = function.entries().len() as u64;
-        self.network.push(function)?;
-        self.cells += cells;
+        self.cells += u64::from(self.draft.begin(scope, default)?);
+        Ok(())
+    }
+
+    /// Adds a function with the default and the entries of an earlier function, whose variables have as many values each
+    /// as those of the scope. The two share one table. An error leaves the builder unchanged.
+    pub fn shared(&mut self, scope: &[u32], earlier: u32) -> Result<(), AllocError>
+        requires room { CanTake self.old scope.now }
+        requires earlier { earlier < length self.old.functions }
+        requires dims { dims self.old.sizes scope.now ≡ dims_at self.old earlier }
+        ensures ok { OnOk result (self.new ≡ with_function self.old (share_of self.old earlier scope.now)) }
+        ensures err { OnErr result (self.new ≡ self.old) }
+    {
+        self.cells += u64::from(self.draft.share(scope, earlier)?);
         Ok(())
     }
 
@@ -110,7 +119,7 @@ impl Builder {
         requires cell { cell < cells (dims_at self.old (last self.old)) }
         ensures { self.new ≡ list_at_end self.old cell cost }
     {
-        self.network.set_last(cell, cost);
+        self.draft.set_last(cell, cost);
     }
 
     /// The network that was built. The builder keeps its name, domain sizes and upper bound, and has no functions
@@ -120,9 +129,9 @@ impl Builder {
         ensures emptied { OnOk result (self.new ≡ new_network self.old.name self.old.sizes self.old.upper) }
         ensures err { OnErr result (self.new ≡ self.old) }
     {
-        let next = self.network.without_functions()?;
+        let network = self.draft.finish()?;
         self.cells = 0;
-        Ok(std::mem::replace(&mut self.network, next))
+        Ok(network)
     }
 }
 

@@ -1,56 +1,39 @@
-//! One cost function: its scope, and a dense table with a cost of 8 bytes for each tuple, the last variable running
-//! fastest.
-ghost use Rattle.std.specs.Prelude.{◌≡◌, ℕ, ◌+◌, ◌<◌, ◌≤◌, min, List, [], length, slice_index, slice_set, IfOk};
-ghost use Rattle.cfn_model.specs.Network.{Fits, cells, cell, dims, restrict, entry, function_of};
+//! One cost function, lent by its network: its scope, its default, and its table with a cost for each tuple, the last
+//! variable running fastest.
+ghost use Rattle.std.specs.Prelude.{◌≡◌, ◌↔◌, ℕ, ◌+◌, ◌^◌, ◌<◌, ◌≤◌, List, length, slice_index, IfSome, IsNone};
+ghost use Rattle.cfn_model.specs.Network.{Fits, cells, cell, dims, restrict, entry};
 ghost use Rattle.cfn_model.specs.declared.limits.TheConstants.{MOST_TUPLES};
-ghost use Rattle.cfn_net.specs.Building.{IsScope, with_entry};
+ghost use Rattle.cfn_net.specs.Building.{IsScope};
+ghost use Rattle.cfn_net.specs.Listed.{spread};
+ghost use Rattle.cfn_net.specs.Tables.{IsSparse};
 
-use smallvec::SmallVec;
-use std::alloc::{AllocError, Global};
+use crate::sparse::Listed;
+use crate::table::Table;
 use std::marker::Model;
 
-/// Scopes of up to four variables lie in the function itself.
 #[derive(Drop)]
-pub(crate) struct Function {
-    scope: SmallVec<u32, 4>,
-    default: u64,
-    entries: Vec<u64>,
+pub(crate) struct Function<'a> {
+    pub(crate) scope: &'a [u32],
+    pub(crate) default: u64,
+    pub(crate) table: &'a Table,
 }
 
-impl Model for Function {
+impl<'a> Model for Function<'a> {
     ghost use Rattle.cfn_model.specs.Network.{Function as CostFunction};
+    ghost use Rattle.cfn_net.specs.Tables.{IsForm, entries_of};
 
     ghost Value = { CostFunction };
 
-    ghost view = { λ f. record { scope = f.scope.items; default = f.default; entries = f.entries.items } };
+    ghost view = { λ f. record { scope = f.scope.now; default = f.default; entries = entries_of f.table.now } };
+
+    ghost invariant = { λ f. IsForm f.default f.table.now };
 }
 
-impl Function {
-    /// The function of a scope whose every tuple costs `default`, or the upper bound where that is less.
-    pub(crate) fn constant(
-        alloc: Global,
-        sizes: &[u32],
-        upper: u64,
-        scope: &[u32],
-        default: u64,
-    ) -> Result<Function, AllocError>
-        requires scope { IsScope sizes.now scope.now }
-        requires sizes { (x : ℕ) → x < length sizes.now → 0 < slice_index sizes.now x }
-        ensures { IfOk result (λ f. f ≡ function_of sizes.now upper scope.now default []) }
-    {
-        let default = upper.min(default);
-        let cells = cells_of(sizes, scope);
-        Ok(Function {
-            scope: SmallVec::from_slice(alloc, scope)?,
-            default,
-            entries: vec![in alloc; default; cells as usize]?,
-        })
-    }
-
-    pub(crate) fn scope(&self) -> &[u32]
+impl<'a> Function<'a> {
+    pub(crate) fn scope(&self) -> &'a [u32]
         ensures { result.now ≡ self.now.scope }
     {
-        self.scope.as_slice()
+        self.scope
     }
 
     pub(crate) fn default(&self) -> u64
@@ -59,18 +42,43 @@ impl Function {
         self.default
     }
 
-    pub(crate) fn entries(&self) -> &[u64]
-        ensures { result.now ≡ self.now.entries }
+    /// The number of cells.
+    pub(crate) fn cells(&self) -> u32
+        requires { length self.now.entries < 2 ^ 32 }
+        ensures { result ≡ length self.now.entries }
     {
-        self.entries.as_slice()
+        self.table.len() as u32
     }
 
-    /// Writes the entry at a cell.
-    pub(crate) fn set_entry(&mut self, cell: usize, upper: u64, cost: u64)
-        requires { cell < length self.old.entries }
-        ensures { self.new ≡ with_entry upper cell cost self.old }
+    /// All entries, where they are kept densely.
+    pub(crate) fn table(&self) -> Option<&'a [u64]>
+        ensures entries { IfSome result (λ entries. entries.now ≡ self.now.entries) }
+        ensures form { IsNone result ↔ IsSparse self.now }
     {
-        self.entries[cell] = cost.min(upper);
+        self.table.dense()
+    }
+
+    /// The entries that are listed, where they are not kept densely.
+    pub(crate) fn listed(&self) -> Option<Listed<'a>>
+        ensures { IfSome result (λ listed. spread (length self.now.entries) listed.rest listed.cells.now ≡ self.now.entries) }
+    {
+        self.table.listed()
+    }
+
+    /// The entry at a cell.
+    pub(crate) fn entry(&self, cell: u32) -> u64
+        requires { cell < length self.now.entries }
+        ensures { result ≡ slice_index self.now.entries cell }
+    {
+        self.table.entry(cell)
+    }
+
+    /// Writes all entries.
+    pub(crate) fn write_to(&self, entries: &mut [u64])
+        requires { length entries.old ≡ length self.now.entries }
+        ensures { entries.new ≡ self.now.entries }
+    {
+        self.table.write_to(entries);
     }
 
     /// The number of a tuple.
@@ -80,11 +88,7 @@ impl Function {
         ensures value { result ≡ cell (dims sizes.now self.now.scope) tuple.now }
         ensures below { result < cells (dims sizes.now self.now.scope) }
     {
-        let mut cell = 0;
-        for (place, x) in self.scope().iter().enumerate() {
-            cell = cell * sizes[*x as usize] + tuple[place];
-        }
-        cell
+        cell_of(sizes, self.scope(), tuple)
     }
 
     /// The value at a place of the tuple with a number.
@@ -115,7 +119,7 @@ impl Function {
         for x in self.scope() {
             cell = cell * sizes[*x as usize] + values[*x as usize];
         }
-        self.entries[cell as usize]
+        self.table.entry(cell)
     }
 }
 
@@ -131,4 +135,18 @@ pub(crate) fn cells_of(sizes: &[u32], scope: &[u32]) -> u32
         cells *= sizes[*x as usize];
     }
     cells
+}
+
+/// The number of a tuple of a scope.
+pub(crate) fn cell_of(sizes: &[u32], scope: &[u32], tuple: &[u32]) -> u32
+    requires scope { IsScope sizes.now scope.now }
+    requires fits { Fits (dims sizes.now scope.now) tuple.now }
+    ensures value { result ≡ cell (dims sizes.now scope.now) tuple.now }
+    ensures below { result < cells (dims sizes.now scope.now) }
+{
+    let mut cell = 0;
+    for (place, x) in scope.iter().enumerate() {
+        cell = cell * sizes[*x as usize] + tuple[place];
+    }
+    cell
 }

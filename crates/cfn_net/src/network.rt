@@ -1,20 +1,26 @@
 //! The network, which does not change once it is built.
-ghost use Rattle.std.specs.Prelude.{◌≡◌, ◌≢◌, ℕ, ◌+◌, ◌-◌, ◌*◌, ◌^◌, ◌<◌, ◌≤◌, ◌↔◌, List, [], length, slice_index, IfOk, OnOk, OnErr};
+ghost use Rattle.std.specs.Prelude.{◌≡◌, ◌≢◌, ℕ, ◌+◌, ◌-◌, ◌*◌, ◌^◌, ◌<◌, ◌≤◌, ◌↔◌, List, [], length, slice_index, IfOk, IfSome, IsNone, OnOk, OnErr};
 ghost use Rattle.cfn_model.specs.declared.limits.TheConstants.{GREATEST};
 ghost use Rattle.cfn_model.specs.Words.{IsWord};
-ghost use Rattle.cfn_model.specs.Network.{Fits, IsFunction, IsNetwork, function_at, scope_at, arity, dims_at, entry_at, restrict, cells, cell, cost, function_of};
+ghost use Rattle.cfn_model.specs.Network.{Fits, IsFunction, IsNetwork, function_at, scope_at, arity, dims_at, entry_at, restrict, cells, cell, cost, dims};
 ghost use Rattle.cfn_model.specs.Sums.{constant, floor};
-ghost use Rattle.cfn_net.specs.Building.{AreSizes, CanTake, IsScope, last, list_at_end, new_network, with_function};
+ghost use Rattle.cfn_net.specs.Building.{AreSizes, CanTake, IsScope, function, new_network, share_of, with_function};
 ghost use Rattle.cfn_net.specs.Fitting.{IsFirstMisfit};
+ghost use Rattle.cfn_net.specs.Listed.{spread};
+ghost use Rattle.cfn_net.specs.Tables.{IsSparse};
 
 use crate::fit::Fit;
-use crate::function::Function;
+use crate::function::{Function, cell_of, cells_of};
+use crate::kept::Kept;
+use crate::sparse::Listed;
+use crate::table::Table;
 use cfn_cost::Cost;
+use smallvec::SmallVec;
 use std::alloc::{AllocError, Global};
 use std::marker::Model;
 
 /// A weighted constraint network (a cost function network): variables with finite domains, cost functions over
-/// them as dense tables, and an upper bound that costs are capped at.
+/// them as tables, and an upper bound that costs are capped at.
 ///
 /// Variables, values, functions, places and cells are numbered from 0. Each limit of `IsNetwork` holds: 1 to
 /// 1,048,576 variables with domains of 1 to 4,096 values, at most 1,048,576 functions with at most 4,194,304 cells
@@ -24,17 +30,19 @@ pub struct Network {
     name: Vec<u8>,
     sizes: Vec<u32>,
     upper: u64,
-    functions: Vec<Function>,
+    pub(crate) functions: Vec<Kept>,
+    pub(crate) tables: Vec<Table>,
 }
 
 impl Model for Network {
     ghost use Rattle.cfn_model.specs.Network.{Network as CostNetwork, IsNetwork};
+    ghost use Rattle.cfn_net.specs.Keeping.{IsKeeping, functions_of};
 
     ghost Value = { CostNetwork };
 
-    ghost view = { λ n. record { name = n.name.items; sizes = n.sizes.items; upper = n.upper; functions = n.functions.items } };
+    ghost view = { λ n. record { name = n.name.items; sizes = n.sizes.items; upper = n.upper; functions = functions_of n.tables.items n.functions.items } };
 
-    ghost invariant = { λ n. IsNetwork (record { name = n.name.items; sizes = n.sizes.items; upper = n.upper; functions = n.functions.items }) };
+    ghost invariant = { λ n. IsKeeping n.tables.items n.functions.items × IsNetwork (record { name = n.name.items; sizes = n.sizes.items; upper = n.upper; functions = functions_of n.tables.items n.functions.items }) };
 }
 
 impl Network {
@@ -109,15 +117,29 @@ impl Network {
         requires { f < length self.now.functions }
         ensures { result ≡ cells (dims_at self.now f) }
     {
-        self.function(f).entries().len() as u32
+        self.limits();
+        self.function(f).cells()
     }
 
-    /// The entries of a function, one at each cell, at most the upper bound each.
-    pub fn table(&self, f: u32) -> &[u64]
+    /// The entries of a function, one at each cell, at most the upper bound each. There is no such table of a function
+    /// whose entries differ from its default in fewer than one eighth of its cells: those are listed alone.
+    pub fn table(&self, f: u32) -> Option<&[u64]>
         requires { f < length self.now.functions }
-        ensures { result.now ≡ (function_at self.now f).entries }
+        ensures entries { IfSome result (λ entries. entries.now ≡ (function_at self.now f).entries) }
+        ensures form { IsNone result ↔ IsSparse (function_at self.now f) }
     {
-        self.function(f).entries()
+        self.function(f).table()
+    }
+
+    /// The cells of a function without a table whose entries are listed, each with its entry, and the entry of all its
+    /// other cells.
+    pub fn listed(&self, f: u32) -> Option<Listed<'_>>
+        requires { f < length self.now.functions }
+        ensures { IfSome result (λ listed. spread (cells (dims_at self.now f)) listed.rest listed.cells.now
+            ≡ (function_at self.now f).entries) }
+    {
+        self.limits();
+        self.function(f).listed()
     }
 
     /// The entry of a function at a cell, at most the upper bound.
@@ -126,7 +148,7 @@ impl Network {
         requires number { number < cells (dims_at self.now f) }
         ensures { result ≡ slice_index (function_at self.now f).entries number }
     {
-        self.function(f).entries()[number as usize]
+        self.function(f).entry(number)
     }
 
     /// The sum of the functions of arity 0, which is the floor before any step. It is not capped at the upper bound.
@@ -223,6 +245,7 @@ impl Network {
             sizes: sizes.to_vec(alloc)?,
             upper,
             functions: Vec::new(alloc),
+            tables: Vec::new(alloc),
         })
     }
 
@@ -230,7 +253,7 @@ impl Network {
     pub(crate) fn without_functions(&self) -> Result<Network, AllocError>
         ensures { IfOk result (λ n. n ≡ new_network self.now.name self.now.sizes self.now.upper) }
     {
-        let alloc = *self.name.allocator();
+        let alloc = self.alloc();
         Network::bare(
             alloc,
             self.name.as_slice(),
@@ -239,35 +262,86 @@ impl Network {
         )
     }
 
-    /// A function with no listings, over variables of this network.
-    pub(crate) fn constant(&self, scope: &[u32], default: u64) -> Result<Function, AllocError>
-        requires { IsScope self.now.sizes scope.now }
-        ensures { IfOk result (λ f. f ≡ function_of self.now.sizes self.now.upper scope.now default []) }
-    {
-        let alloc = *self.name.allocator();
-        Function::constant(alloc, self.sizes.as_slice(), self.upper, scope, default)
+    /// What gives the network its memory.
+    pub(crate) fn alloc(&self) -> Global {
+        *self.name.allocator()
     }
 
-    /// Adds a function at the end. An error leaves the network unchanged.
-    pub(crate) fn push(&mut self, function: Function) -> Result<(), AllocError>
-        requires room { CanTake self.old function.scope }
-        requires function { IsFunction self.old.sizes self.old.upper function }
-        ensures ok { OnOk result (self.new ≡ with_function self.old function) }
-        ensures err { OnErr result (self.new ≡ self.old) }
+    /// The number of tuples of a scope of this network.
+    pub(crate) fn cells_in(&self, scope: &[u32]) -> u32
+        requires { IsScope self.now.sizes scope.now }
+        ensures { result ≡ cells (dims self.now.sizes scope.now) }
     {
-        self.functions.push(function)?;
+        cells_of(self.sizes.as_slice(), scope)
+    }
+
+    /// The number of a tuple of a scope of this network.
+    pub(crate) fn cell_in(&self, scope: &[u32], tuple: &[u32]) -> u32
+        requires scope { IsScope self.now.sizes scope.now }
+        requires fits { Fits (dims self.now.sizes scope.now) tuple.now }
+        ensures value { result ≡ cell (dims self.now.sizes scope.now) tuple.now }
+        ensures below { result < cells (dims self.now.sizes scope.now) }
+    {
+        cell_of(self.sizes.as_slice(), scope, tuple)
+    }
+
+    /// Writes all entries of a function.
+    pub(crate) fn write_table(&self, f: u32, entries: &mut [u64])
+        requires function { f < length self.now.functions }
+        requires cells { length entries.old ≡ cells (dims_at self.now f) }
+        ensures { entries.new ≡ (function_at self.now f).entries }
+    {
+        self.function(f).write_to(entries);
+    }
+
+    /// Adds a function with a table of its own. The entries are moved into it, or copied. An error leaves the network and
+    /// the entries unchanged.
+    pub(crate) fn push(
+        &mut self,
+        scope: &[u32],
+        default: u64,
+        entries: &mut Vec<u64>,
+    ) -> Result<(), AllocError>
+        requires room { CanTake self.old scope.now }
+        requires function { IsFunction self.old.sizes self.old.upper (function scope.now default entries.old.items) }
+        ensures ok { OnOk result (self.new ≡ with_function self.old (function scope.now default entries.old.items)) }
+        ensures err { OnErr result (self.new ≡ self.old) }
+        ensures entries { OnErr result (entries.new ≡ entries.old) }
+    {
+        let alloc = self.alloc();
+        let scope = SmallVec::from_slice(alloc, scope)?;
+        self.functions.reserve(1)?;
+        self.tables.reserve(1)?;
+        let table = Table::of(alloc, entries, default)?;
+        let number = self.tables.len() as u32;
+        self.tables.push_reserved(table);
+        self.functions.push_reserved(Kept {
+            scope,
+            default,
+            table: number,
+        });
         Ok(())
     }
 
-    /// Writes the entry of the last function at a cell.
-    pub(crate) fn set_last(&mut self, cell: u32, cost: u64)
-        requires some { 0 < length self.old.functions }
-        requires cell { cell < cells (dims_at self.old (last self.old)) }
-        ensures { self.new ≡ list_at_end self.old cell cost }
+    /// Adds a function with the default and the table of an earlier one. An error leaves the network unchanged.
+    pub(crate) fn share(&mut self, scope: &[u32], earlier: u32) -> Result<(), AllocError>
+        requires room { CanTake self.old scope.now }
+        requires earlier { earlier < length self.old.functions }
+        requires dims { dims self.old.sizes scope.now ≡ dims_at self.old earlier }
+        ensures ok { OnOk result (self.new ≡ with_function self.old (share_of self.old earlier scope.now)) }
+        ensures err { OnErr result (self.new ≡ self.old) }
     {
-        let upper = self.upper;
-        let place = self.functions.len() - 1;
-        self.functions[place].set_entry(cell as usize, upper, cost);
+        let alloc = self.alloc();
+        let scope = SmallVec::from_slice(alloc, scope)?;
+        let kept = &self.functions[earlier as usize];
+        let default = kept.default;
+        let table = kept.table;
+        self.functions.push(Kept {
+            scope,
+            default,
+            table,
+        })?;
+        Ok(())
     }
 
     /// What one function adds to the cost of an assignment.
@@ -294,11 +368,16 @@ impl Network {
         }
     }
 
-    fn function(&self, f: u32) -> &Function
+    fn function(&self, f: u32) -> Function<'_>
         requires { f < length self.now.functions }
-        ensures value { result.now ≡ function_at self.now f }
-        ensures limits { IsFunction self.now.sizes self.now.upper result.now }
+        ensures value { result ≡ function_at self.now f }
+        ensures limits { IsFunction self.now.sizes self.now.upper result }
     {
-        &self.functions[f as usize]
+        let kept = &self.functions[f as usize];
+        Function {
+            scope: kept.scope.as_slice(),
+            default: kept.default,
+            table: &self.tables[kept.table as usize],
+        }
     }
 }

@@ -1,5 +1,6 @@
 pub mod Wrapped
 pub mod Unaries
+pub mod Shelf
 pub mod Shifts
 pub mod Exact
 pub mod Events

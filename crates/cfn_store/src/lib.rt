@@ -7,6 +7,9 @@
 //!   variables seen from one of them, and its `Line` tells the residual costs along the values of the other one;
 //!   `Unaries` are the unary costs of one variable's values.
 //!
+//! The tables of functions of which the network keeps only what differs from a default are written out in `Tables`, a
+//! store's own or shared with other stores (`shelf.rt`).
+//!
 //! Inside, `State` keeps the events and undoes each as it was made: `Sums` has the costs (`sums.rt`), `Cuts` which tuples
 //! are cut, and `cfn_live` which values are live. `scan.rt` is the only loop over tables; `block.rt` packs the newest steps.
 #![tactic(auto)]
@@ -16,6 +19,7 @@ mod cuts;
 mod line;
 mod mark;
 mod scan;
+mod shelf;
 mod state;
 mod store;
 mod sums;

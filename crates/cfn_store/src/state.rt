@@ -19,7 +19,7 @@ use crate::scan::{Extreme, Pin, Scan, Sense, Spot};
 use crate::sums::Sums;
 use cfn_live::LiveSets;
 use cfn_model::{Event, Step};
-use cfn_net::Network;
+use cfn_net::{Network, Tables};
 use std::alloc::{AllocError, Global};
 
 /// A path of more events has no room in any memory.
@@ -69,18 +69,20 @@ impl State {
     pub(crate) fn first(
         &self,
         network: &Network,
+        tables: &Tables,
         f: u32,
         one: Pin,
         two: Pin,
         sense: Sense,
     ) -> Option<Extreme>
         requires state { IsState network.now self.now }
+        requires tables { tables.now ≡ network.now }
         requires one { IsPlace network.now f one.place one.value }
         requires two { IsPlace network.now f two.place two.value }
         ensures { MatchOption result (NoneBetween network.now (history_of self.now) f one.place one.value two.place two.value)
             (IsExtremeBetween network.now (history_of self.now) f one.place one.value two.place two.value sense) }
     {
-        let scan = self.scan(network, f, one, two, sense);
+        let scan = self.scan(network, tables, f, one, two, sense);
         let start = Spot {
             cell: 0,
             shift: 0,
@@ -95,12 +97,14 @@ impl State {
     fn scan<'a>(
         &'a self,
         network: &'a Network,
+        tables: &'a Tables,
         f: u32,
         one: Pin,
         two: Pin,
         sense: Sense,
     ) -> Scan<'a>
         requires state { IsState network.now self.now }
+        requires tables { tables.now ≡ network.now }
         requires one { IsPlace network.now f one.place one.value }
         requires two { IsPlace network.now f two.place two.value }
         ensures reads { Reads network.now (history_of self.now) f result }
@@ -113,7 +117,7 @@ impl State {
         let _ = network.scope(f);
         Scan {
             sizes: network.sizes(),
-            table: network.table(f),
+            table: tables.table(network, f),
             shifts: self.sums.shifts.row(f as usize),
             flags: self.cuts.flags.row(f as usize),
             live: &self.live,
@@ -126,8 +130,15 @@ impl State {
 
     /// A function of two variables, seen from a place.
     #[inline]
-    pub(crate) fn side<'a>(&'a self, network: &'a Network, f: u32, place: usize) -> Side<'a>
+    pub(crate) fn side<'a>(
+        &'a self,
+        network: &'a Network,
+        tables: &'a Tables,
+        f: u32,
+        place: usize,
+    ) -> Side<'a>
         requires state { IsState network.now self.now }
+        requires tables { tables.now ≡ network.now }
         requires function { f < length network.now.functions }
         requires two { arity network.now f ≡ 2 }
         requires place { place < 2 }
@@ -136,7 +147,7 @@ impl State {
         network.limits();
         let scope = network.scope(f);
         let pin = Pin { place, value: 0 };
-        let scan = self.scan(network, f, pin, pin, Sense::Least);
+        let scan = self.scan(network, tables, f, pin, pin, Sense::Least);
         Side::of(&scan, scope[0], scope[1], place)
     }
 

@@ -16,6 +16,7 @@ ghost use Rattle.cfn_store.specs.declared.scan.Sense.TheVariants.{Least, Greates
 ghost use Rattle.cfn_store.specs.Extremes.{NonePicked, IsExtreme, NoneBetween, IsLeastBetween, IsFree};
 ghost use Rattle.cfn_store.specs.Lines.{IsLine, IsSide};
 ghost use Rattle.cfn_store.specs.Unaries.{AreUnaries};
+ghost use Rattle.cfn_store.specs.Shelf.{on_shelf};
 ghost use Rattle.cfn_store.specs.Rooms.{sets_of, IsProjectRoom, IsExtendRoom, IsLiftRoom, IsAbove, IsToExtend};
 ghost use Rattle.cfn_store.specs.Marking.{IsMark, IsBehind, back_at};
 ghost use Rattle.cfn_store.specs.Standing.{history, at_root, with_step, with_side, FitsProject, FitsExtend, FitsLift};
@@ -24,11 +25,12 @@ use crate::block::{block_from, step_from};
 use crate::line::{Line, Side, costs_nothing, lesser};
 use crate::mark::Mark;
 use crate::scan::{Extreme, Pin, Sense};
+use crate::shelf::Shelf;
 use crate::state::{State, in_common};
 use crate::supports::Supports;
 use crate::unaries::Unaries;
 use cfn_model::{Decision, Event, GREATEST, Step};
-use cfn_net::Network;
+use cfn_net::{Network, Tables};
 use cfn_proof::{Block, Path};
 use std::alloc::{AllocError, Global};
 use std::marker::Model;
@@ -36,10 +38,12 @@ use std::marker::Model;
 /// What the events along a path make of a network: the floor, the unary and residual costs, and what is live. Contracts
 /// see the network, the events up to the newest decision, the steps since, and for how many more there is room.
 ///
-/// Only `build`, `reserve`, `replay` and `block` take memory. Costs of what is dead are kept modulo 2^64.
+/// Only `build`, `over`, `reserve`, `replay` and `block` take memory. Costs of what is dead are kept modulo 2^64.
 #[derive(Drop)]
 pub struct Store<'n> {
     network: &'n Network,
+    /// The tables for which the network has none.
+    tables: Shelf<'n>,
     state: State,
     /// How many events stand before the steps since the newest decision.
     base: usize,
@@ -50,7 +54,7 @@ pub struct Store<'n> {
 }
 
 impl<'n> Model for Store<'n> {
-    ghost use Rattle.std.specs.Prelude.{◌-◌, length, reverse, take, drop};
+    ghost use Rattle.std.specs.Prelude.{◌≡◌, ◌-◌, length, reverse, take, drop};
     ghost use Rattle.cfn_live.specs.Sets.{AreLive, live_count};
     ghost use Rattle.cfn_store.specs.declared.scan.Sense.TheVariants.{Least, Greatest};
     ghost use Rattle.cfn_store.specs.Extremes.{NonePicked, IsExtreme, NoneBetween, IsLeastBetween, IsFree};
@@ -59,6 +63,7 @@ impl<'n> Model for Store<'n> {
     ghost use Rattle.cfn_store.specs.Standing.{Standing};
     ghost use Rattle.cfn_store.specs.Events.{steps_in};
     ghost use Rattle.cfn_store.specs.Kept.{IsStore};
+    ghost use Rattle.cfn_store.specs.Shelf.{on_shelf};
 
     ghost Value = { Standing };
 
@@ -69,7 +74,7 @@ impl<'n> Model for Store<'n> {
       spare = s.room - length s.state.trail.items;
     } };
 
-    ghost invariant = { λ s. IsStore s.network.now s.base s.room s.state };
+    ghost invariant = { λ s. IsStore s.network.now s.base s.room s.state × (on_shelf s.tables ≡ s.network.now) };
 }
 
 impl<'n> Store<'n> {
@@ -77,8 +82,29 @@ impl<'n> Store<'n> {
     pub fn build(alloc: Global, network: &'n Network) -> Result<Store<'n>, AllocError>
         ensures { IfOk result (λ store. store ≡ at_root network.now) }
     {
+        let tables = Shelf::Own(Tables::expand(alloc, network)?);
+        Store::on(alloc, network, tables)
+    }
+
+    /// The same, over tables of the network that other stores may have too.
+    pub fn over(
+        alloc: Global,
+        network: &'n Network,
+        tables: &'n Tables,
+    ) -> Result<Store<'n>, AllocError>
+        requires { tables.now ≡ network.now }
+        ensures { IfOk result (λ store. store ≡ at_root network.now) }
+    {
+        Store::on(alloc, network, Shelf::Lent(tables))
+    }
+
+    fn on(alloc: Global, network: &'n Network, tables: Shelf<'n>) -> Result<Store<'n>, AllocError>
+        requires { on_shelf tables ≡ network.now }
+        ensures { IfOk result (λ store. store ≡ at_root network.now) }
+    {
         Ok(Store {
             network,
+            tables,
             state: State::at_root(alloc, network)?,
             base: 0,
             room: 0,
@@ -315,7 +341,14 @@ impl<'n> Store<'n> {
             place: place as usize,
             value,
         };
-        self.state.first(self.network, f, pin, pin, Sense::Least)
+        self.state.first(
+            self.network,
+            self.tables.tables(),
+            f,
+            pin,
+            pin,
+            Sense::Least,
+        )
     }
 
     /// The same of a value that is likely to cost nothing where it did so last: that is looked at first. Where it costs nothing
@@ -486,7 +519,14 @@ impl<'n> Store<'n> {
             place: place as usize,
             value,
         };
-        self.state.first(self.network, f, pin, pin, Sense::Greatest)
+        self.state.first(
+            self.network,
+            self.tables.tables(),
+            f,
+            pin,
+            pin,
+            Sense::Greatest,
+        )
     }
 
     /// The least residual cost of the live tuples of `f` with `value` at `place` and `other_value` at `other`, and the
@@ -513,7 +553,14 @@ impl<'n> Store<'n> {
             place: other as usize,
             value: other_value,
         };
-        self.state.first(self.network, f, one, two, Sense::Least)
+        self.state.first(
+            self.network,
+            self.tables.tables(),
+            f,
+            one,
+            two,
+            Sense::Least,
+        )
     }
 
     /// A function of two variables, seen from a place; `None` where `f` has another number of variables.
@@ -528,7 +575,10 @@ impl<'n> Store<'n> {
         if self.network.scope(f).len() != 2 {
             return None;
         }
-        Some(self.state.side(self.network, f, place as usize))
+        Some(
+            self.state
+                .side(self.network, self.tables.tables(), f, place as usize),
+        )
     }
 
     /// The tuples of `f`, a function of two variables, with a live `value` at `place`, along the other variable's values; `None`

@@ -1,7 +1,8 @@
-//! Tests of networks that are said as a wcsp file.
+//! Tests of networks that are said as a wcsp file, also where they were read from one.
 
 use cfn_desk::{Failed, MemoryDesk};
-use cfn_net::{Builder, Network};
+use cfn_net::{Builder, Fit, Network};
+use cfn_wcsp::read;
 use cfn_wcspwrite::write;
 use std::alloc::AllocError;
 use std::test::Fail;
@@ -39,4 +40,36 @@ fn says_each_line(rt: HostRuntime) -> Result<(), Fail> {
 fn failed_say_is_a_failure(rt: HostRuntime) -> Result<(), Fail> {
     assert!(rt; say_small(&rt, &[1], b"")? == (Err(Failed), true));
     Ok(())
+}
+
+/// A function that has a shared table is said as any other, and its own default cost does not count.
+#[test]
+fn says_shared_tables_plainly(rt: HostRuntime) -> Result<(), Fail> {
+    let text = b"share 3 2 2 10\n2 2 2\n2 0 1 0 1\n0 0 4\n2 1 2 0 1\n0 0 4\n";
+    for file in [
+        b"share 3 2 2 10\n2 2 2\n-2 0 1 0 1\n0 0 4\n2 1 2 0 -1\n".as_slice(),
+        b"share 3 2 2 10\n2 2 2\n-2 0 1 0 1\n0 0 4\n2 1 2 1 -1\n",
+        text,
+    ] {
+        let network = read(rt.alloc(), file)
+            .ok()
+            .expect(&rt, "the file is a network");
+        let mut desk = MemoryDesk::make(rt.alloc(), &[], 0, 100, &[])?;
+        assert!(rt; write(&network, &mut desk) == Ok(()));
+        assert!(rt; desk.said_bytes() == text.as_slice());
+    }
+    Ok(())
+}
+
+/// The cost of an assignment counts each function that has a shared table.
+#[test]
+fn shared_tables_cost(rt: HostRuntime) {
+    let file = b"share 3 2 2 10\n2 2 2\n-2 0 1 0 1\n0 0 4\n2 1 2 0 -1\n";
+    let network = read(rt.alloc(), file)
+        .ok()
+        .expect(&rt, "the file is a network");
+    assert!(rt; network.fits(&[0, 0, 0]) == Fit::Fits);
+    assert_eq!(rt; network.cost(&[0, 0, 0]).value(), 8);
+    assert!(rt; network.fits(&[1, 0, 0]) == Fit::Fits);
+    assert_eq!(rt; network.cost(&[1, 0, 0]).value(), 4);
 }

@@ -37,7 +37,7 @@ fn refusals(rt: HostRuntime) {
         (b"low 1 2 1 -1", Kind::NegativeCost, 5),
         (b"int 1 3 0 10\n-3", Kind::IntervalDomain, 6),
         (b"huge 1 3 0 10\n4097", Kind::DomainTooLarge, 6),
-        (b"shared 1 2 1 10\n2\n-1 0", Kind::SharedTable, 7),
+        (b"shared 1 2 1 10\n2\n-1 0", Kind::Short, 9),
         (b"out 1 2 1 10\n2\n1 1 0 0", Kind::VariableOutOfRange, 8),
         (b"rep 2 2 1 10\n2 2\n2 0 0 0 0", Kind::RepeatedVariable, 10),
         (
@@ -47,17 +47,64 @@ fn refusals(rt: HostRuntime) {
         ),
         (b"key 2 2 1 10\n2 2\n2 0 1 -1 >= 0 0", Kind::Keyword, 11),
         (b"cost 2 2 1 10\n2 2\n2 0 1 -2 0", Kind::NegativeCost, 11),
+        // shared tables: there is none, the function's own becomes shared, there are fewer, another arity, other
+        // sizes, the same in another order, the table of a function of arity -0
         (b"shared 1 2 1 10\n2\n1 0 3 -1", Kind::SharedTable, 10),
+        (b"shared 1 2 1 10\n2\n-1 0 3 -1", Kind::SharedTable, 10),
+        (
+            b"share 3 2 2 10\n2 2 2\n-2 0 1 0 1\n0 0 4\n2 1 2 0 -2",
+            Kind::SharedTable,
+            21,
+        ),
+        (
+            b"share 3 2 2 10\n2 2 2\n-2 0 1 0 1\n0 0 4\n-2 1 2 0 -1",
+            Kind::SharedTable,
+            21,
+        ),
+        (
+            b"share 3 2 2 10\n2 2 2\n-2 0 1 0 1\n0 0 4\n1 2 0 -1",
+            Kind::SharedTable,
+            20,
+        ),
+        (
+            b"share 3 3 2 10\n2 2 3\n-2 0 1 0 1\n0 0 4\n2 1 2 0 -1",
+            Kind::SharedTable,
+            21,
+        ),
+        (
+            b"share 3 3 2 10\n2 3 2\n-2 0 1 0 1\n0 0 4\n2 1 2 0 -1",
+            Kind::SharedTable,
+            21,
+        ),
+        (b"zero 1 2 2 10\n2\n-0 4 0\n0 4 -1", Kind::SharedTable, 12),
+        // what stands before the number of tuples is refused before it
+        (b"share 1 2 1 10\n2\n-1 1 3 -1", Kind::VariableOutOfRange, 8),
+        (b"share 1 2 1 10\n2\n-1 0 -1 -1", Kind::Keyword, 9),
         (
             b"value 1 2 1 10\n2\n1 0 3 1\n2 1",
             Kind::ValueOutOfRange,
             11,
+        ),
+        (
+            b"share 1 2 1 10\n2\n1 0 3 -9223372036854775808",
+            Kind::TooLarge,
+            10,
         ),
         // numbers that a file of ten words merely claims
         (
             b"claim 1 2 1 10\n2\n9223372036854775807 0 0 0",
             Kind::RepeatedVariable,
             9,
+        ),
+        (
+            b"claim 1 2 1 10\n2\n-9223372036854775807 0 0 0",
+            Kind::RepeatedVariable,
+            9,
+        ),
+        (
+            b"claim 1 2 1 10\n2\n1 0 3 -9223372036854775807",
+            Kind::SharedTable,
+            10,
         ),
         (b"claim 1 2 1 10\n2\n1 0 3 67108864", Kind::Short, 11),
         (b"claim 1 2 1 10\n2\n1 0 3 67108865", Kind::TooMany, 10),
@@ -72,6 +119,8 @@ fn tables(rt: HostRuntime) {
         (b"tiny 1 2 1 10\n2\n1 0 3 1\n1 1\n".as_slice(), 3, 1),
         (b"tiny 1 2 1 10 2 1 0 3 1 1 1 and words after it", 3, 1),
         (b"\x0btiny\t01\x0c2\r1\r\n0010\x0b2 1 -0 3 001 1 1", 3, 1),
+        (b"tiny 1 2 1 10\n2\n-1 0 3 1\n1 1\n", 3, 1),
+        (b"tiny 1 2 1 10\n2\n-1 0 3 -0\n", 3, 3),
         (b"tiny 1 2 1 10\n2\n1 0 3 3\n1 1\n0 9\n1 4\n", 9, 4),
         (
             b"tiny 1 2 1 10\n2\n1 0 30 1\n1 9223372036854775807\n",
@@ -88,6 +137,29 @@ fn tables(rt: HostRuntime) {
         assert_eq!(rt; network.cells(0), 2);
         assert_eq!(rt; network.entry(0, 0), zero);
         assert_eq!(rt; network.entry(0, 1), one);
+    }
+}
+
+/// Shared tables are numbered from 1 in the order of their functions; a function that has one of them has its entries and
+/// its default cost, whatever its own is, and shares none.
+#[test]
+fn shared(rt: HostRuntime) {
+    for (file, first, last) in [
+        (
+            b"n 1 2 3 10\n2\n-1 0 1 1\n1 7\n1 0 2 0\n1 0 5 -1".as_slice(),
+            1,
+            7,
+        ),
+        (b"n 1 2 3 10\n2\n-1 0 1 0\n-1 0 2 1\n0 4\n1 0 2 -2", 4, 2),
+        (b"n 1 2 3 10\n2\n-1 0 30 1\n1 6\n1 0 0 -1\n1 0 0 -1", 10, 6),
+    ] {
+        let network = read(rt.alloc(), file)
+            .ok()
+            .expect(&rt, "the file is a network");
+        assert_eq!(rt; network.functions(), 3);
+        assert_eq!(rt; network.cells(2), 2);
+        assert_eq!(rt; network.entry(2, 0), first);
+        assert_eq!(rt; network.entry(2, 1), last);
     }
 }
 

@@ -1,8 +1,9 @@
 //! The amounts at which virtual arc consistency is tried: none is above what a live value or a tuple costs.
 
-ghost use Rattle.std.specs.Prelude.{◌<◌, ◌≤◌};
+ghost use Rattle.std.specs.Prelude.{◌<◌, ◌≤◌, length};
 
 use crate::power::power_within;
+use cfn_net::Network;
 use cfn_store::Store;
 
 /// The greatest power of two that is at most a threshold, and at most the greatest cost that something live had before it was
@@ -31,15 +32,34 @@ fn greatest_unary(store: &Store<'_>) -> u64 {
 /// The greatest entry of a function below the upper bound, or 0.
 fn greatest_entry(store: &Store<'_>) -> u64 {
     let network = store.network();
-    network.limits();
-    let upper = network.ub();
     let mut greatest = 0;
     for f in 0..network.functions() {
-        for entry in network.table(f) {
-            if *entry < upper {
-                greatest = greatest.max(*entry);
-            }
+        greatest = greatest.max(greatest_of(network, f));
+    }
+    greatest
+}
+
+/// The greatest entry of one function below the upper bound, or 0.
+fn greatest_of(network: &Network, f: u32) -> u64
+    requires { f < length network.now.functions }
+{
+    let upper = network.ub();
+    let mut greatest = 0;
+    if let Some(table) = network.table(f) {
+        for entry in table {
+            greatest = greatest.max(below(*entry, upper));
+        }
+    }
+    if let Some(listed) = network.listed(f) {
+        greatest = below(listed.rest, upper);
+        for (_, entry) in listed.cells {
+            greatest = greatest.max(below(*entry, upper));
         }
     }
     greatest
+}
+
+/// An entry that is below the upper bound, and 0 for another.
+fn below(entry: u64, upper: u64) -> u64 {
+    if entry < upper { entry } else { 0 }
 }

@@ -38,7 +38,7 @@ unfolding tuple_at
 none c size rest s r h = rw h refl
 
 -- what a place has
-at_place : (ds : List ℕ) (i size : ℕ) → i < length ds → size ≡ get_or ds i 0 → drop i ds ≡ size ∷ drop (i + 1) ds
+pub at_place : (ds : List ℕ) (i size : ℕ) → i < length ds → size ≡ get_or ds i 0 → drop i ds ≡ size ∷ drop (i + 1) ds
 at_place ds i size lt is = drop_more ds i 0 lt ∙ ap (λ n. n ∷ drop (i + 1) ds) (sym is)
 
 pub go_on : (c : ℕ) (ds : List ℕ) (i size v : ℕ) (s after : At) (total : Result (ℕ × At) Refusal) → i < length ds → size ≡ get_or ds i 0 → natural_at (check_value size) s ≡ Ok (v, after)

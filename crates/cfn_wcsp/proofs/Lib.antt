@@ -4,3 +4,4 @@ pub mod Cells
 pub mod Steps
 pub mod Listing
 pub mod Adding
+pub mod SharedTables

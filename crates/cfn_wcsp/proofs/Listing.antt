@@ -2,13 +2,13 @@
 use Rattle.std.proofs.Common.{◌≡◌, ℕ, suc, ◌-◌, ◌+◌, ◌≤◌, ◌<◌, List, [], ◌∷◌, ◌++◌, length, get_or, set, Result, Ok, Err, refl, sym, ap, ◌∙◌, append_assoc, arith}
 use Rattle.std.proofs.lemmas.List.{length-set, set-set, set-get_or, get_or-set_same, append-nil}
 use Rattle.cfn_model.specs.declared.reading.Refusal.{Refusal}
-use Rattle.cfn_model.specs.Network.{Function, Network, cells, cell, dims, dims_at, function_of, function_at, no_function}
-use Rattle.cfn_model.specs.Reading.{◌>>=◌, At, natural_at, tuple_at, listing_at, listings_at, scope_from, function_from, check_cost, check_arity, check_default, check_count}
-use Rattle.cfn_net.specs.Building.{ListingLaw, all_cells, last, with_entry, with_function, with_last}
+use Rattle.cfn_model.specs.Network.{Function, Network, cell, dims, dims_at, function_of, function_at, no_function}
+use Rattle.cfn_model.specs.Reading.{◌>>=◌, At, natural_at, tuple_at, listing_at, listings_at, check_cost}
+use Rattle.cfn_net.specs.Building.{ListingLaw, last, with_entry, with_function, with_last}
 use Rattle.cfn_wcsp.specs.declared.fault.ReadFault.{ReadFault}
 use Rattle.cfn_wcsp.specs.declared.fault.ReadFault.TheVariants.{Refused, Memory}
 use Rattle.cfn_wcsp.specs.Giving.{Fails}
-use Rattle.cfn_wcsp.specs.Tables.{cell_at, listed, into_last, listings_into, function_onto}
+use Rattle.cfn_wcsp.specs.Tables.{cell_at, listed, into_last, listings_into}
 use Rattle.cfn_wcsp.proofs.Steps.{bind_ok, bind_err, ok_is}
 
 pub at_last : (P : Network) (f : Function) → 0 < length P.functions → function_at (with_last P f) (last (with_last P f)) ≡ f
@@ -113,7 +113,7 @@ function_in P scope default read = read >>= λ ls. Ok (function_of P.sizes P.upp
 abbrev onto : Network → Result (Function × At) Refusal → Result (Network × At) Refusal
 onto P read = read >>= λ f. Ok (with_function P f.0, f.1)
 
-whole : ListingLaw → (P : Network) (scope : List ℕ) (default : ℕ) (read : Result (List (List ℕ × ℕ) × At) Refusal)
+pub whole : ListingLaw → (P : Network) (scope : List ℕ) (default : ℕ) (read : Result (List (List ℕ × ℕ) × At) Refusal)
     → onto P (function_in P scope default read) ≡ into_last (with_function P (function_of P.sizes P.upper scope default [])) (dims P.sizes scope) read
 whole law P scope default (Ok x) =
     let f = function_of P.sizes P.upper scope default [] in
@@ -122,28 +122,3 @@ whole law P scope default (Ok x) =
     ∙ ap (λ Q. Ok (Q, x.1)) (law.replaced P f g)
     ∙ ap (λ h. Ok (with_function P h, x.1)) (listed_is law P.sizes P.upper scope default [] x.0))
 whole law P scope default (Err e) = refl
-
--- a function whose arity and scope were read, and then its default cost and its number of tuples, or not
-pub no_default : (e : ReadFault) (P : Network) (s s1 s2 : At) (arity : ℕ) (scope : List ℕ) (all : ℕ) → natural_at check_arity s ≡ Ok (arity, s1) → scope_from P.sizes [] arity s1 ≡ Ok (scope, s2)
-    → all ≡ all_cells P + cells (dims P.sizes scope) → Fails e (natural_at (check_default all) s2) → Fails e (function_onto P s)
-unfolding function_from
-no_default Memory P s s1 s2 arity scope all h1 h2 is h3 = tt
-no_default (Refused r) P s s1 s2 arity scope all h1 h2 is h3 =
-    let h : natural_at (check_default (all_cells P + cells (dims P.sizes scope))) s2 ≡ Err r = ap (λ n. natural_at (check_default n) s2) (sym is) ∙ h3 in
-    rw (h1, h2, h) refl
-
-pub no_count : (e : ReadFault) (P : Network) (s s1 s2 s3 : At) (arity : ℕ) (scope : List ℕ) (all default : ℕ) → natural_at check_arity s ≡ Ok (arity, s1) → scope_from P.sizes [] arity s1 ≡ Ok (scope, s2)
-    → all ≡ all_cells P + cells (dims P.sizes scope) → natural_at (check_default all) s2 ≡ Ok (default, s3) → Fails e (natural_at check_count s3) → Fails e (function_onto P s)
-unfolding function_from
-no_count Memory P s s1 s2 s3 arity scope all default h1 h2 is h3 h4 = tt
-no_count (Refused r) P s s1 s2 s3 arity scope all default h1 h2 is h3 h4 =
-    let h : natural_at (check_default (all_cells P + cells (dims P.sizes scope))) s2 ≡ Ok (default, s3) = ap (λ n. natural_at (check_default n) s2) (sym is) ∙ h3 in
-    rw (h1, h2, h, h4) refl
-
-pub function_is : ListingLaw → (P : Network) (s s1 s2 s3 s4 : At) (arity : ℕ) (scope : List ℕ) (all default count : ℕ) → natural_at check_arity s ≡ Ok (arity, s1) → scope_from P.sizes [] arity s1 ≡ Ok (scope, s2)
-    → all ≡ all_cells P + cells (dims P.sizes scope) → natural_at (check_default all) s2 ≡ Ok (default, s3) → natural_at check_count s3 ≡ Ok (count, s4)
-    → listings_into (with_function P (function_of P.sizes P.upper scope default [])) (dims P.sizes scope) count s4 ≡ function_onto P s
-unfolding function_from
-function_is law P s s1 s2 s3 s4 arity scope all default count h1 h2 is h3 h4 =
-    let h : natural_at (check_default (all_cells P + cells (dims P.sizes scope))) s2 ≡ Ok (default, s3) = ap (λ n. natural_at (check_default n) s2) (sym is) ∙ h3 in
-    sym (rw (h1, h2, h, h4) (whole law P scope default (listings_at (dims P.sizes scope) count s4)))

@@ -2,9 +2,9 @@
 use Rattle.std.specs.Prelude.{ℕ, ◌<◌, ◌≤◌, ℤ, Option}
 use Rattle.cfn_model.specs.declared.limits.TheConstants.{GREATEST, MOST_VARIABLES, MOST_VALUES, MOST_FUNCTIONS, MOST_CELLS}
 use Rattle.cfn_model.specs.declared.reading.Kind.{Kind}
-use Rattle.cfn_model.specs.Reading.{check_variables, check_size, check_functions, check_cost, check_domain, check_arity, check_default, check_count, check_value}
+use Rattle.cfn_model.specs.Reading.{check_variables, check_size, check_functions, check_cost, check_domain, check_default, check_value}
 use Rattle.cfn_wcsp.specs.declared.field.Field.{Field}
-use Rattle.cfn_wcsp.specs.declared.field.Field.TheVariants.{Variables, Widest, Functions, Cost, Domain, Arity, Default, Tuples, Value}
+use Rattle.cfn_wcsp.specs.declared.field.Field.TheVariants.{Variables, Widest, Functions, Cost, Domain, Default, Value}
 
 -- The checks of a field.
 abbrev pub check_of : Field → ℤ → Option Kind
@@ -13,9 +13,7 @@ check_of Widest z = check_size z
 check_of Functions z = check_functions z
 check_of Cost z = check_cost z
 check_of Domain z = check_domain z
-check_of Arity z = check_arity z
 check_of (Default all_cells) z = check_default all_cells z
-check_of Tuples z = check_count z
 check_of (Value size) z = check_value size z
 
 -- Where numbers lie that pass the checks of their field, and the cells that a default cost is checked with.
@@ -25,7 +23,5 @@ InRange Widest n = 0 < n
 InRange Functions n = n ≤ MOST_FUNCTIONS
 InRange Cost n = n ≤ GREATEST
 InRange Domain n = (0 < n) × (n ≤ MOST_VALUES)
-InRange Arity n = n ≤ GREATEST
 InRange (Default all_cells) n = (n ≤ GREATEST) × (all_cells ≤ MOST_CELLS)
-InRange Tuples n = n ≤ MOST_CELLS
 InRange (Value size) n = n < size

@@ -1,4 +1,4 @@
-//! The numbers of a wcsp file, apart from the variables of a scope, and the checks of each.
+//! The numbers of a wcsp file, and the checks of each, apart from a function's arity, variables and number of tuples.
 
 ghost use Rattle.std.specs.Prelude.{◌≡◌};
 ghost use Rattle.cfn_wcsp.specs.Fields.{check_of};
@@ -18,13 +18,9 @@ pub enum Field {
     Cost,
     /// A domain size.
     Domain,
-    /// The number of variables of a scope.
-    Arity,
     /// The default cost of a function, where the functions so far, this one included, have so many
     /// cells.
     Default { cells: u64 },
-    /// The number of tuples that are listed.
-    Tuples,
     /// A value of a tuple, where its variable has so many values.
     Value { size: u32 },
 }
@@ -45,12 +41,9 @@ impl Field {
             Field::Domain if number < 0 => Some(Kind::IntervalDomain),
             Field::Domain if number < 1 => Some(Kind::EmptyDomain),
             Field::Domain if number > i64::from(MOST_VALUES) => Some(Kind::DomainTooLarge),
-            Field::Arity if number < 0 => Some(Kind::SharedTable),
             Field::Default { .. } if number == -1 => Some(Kind::Keyword),
             Field::Default { .. } if number < 0 => Some(Kind::NegativeCost),
             Field::Default { cells } if cells > u64::from(MOST_CELLS) => Some(Kind::TooMany),
-            Field::Tuples if number < 0 => Some(Kind::SharedTable),
-            Field::Tuples if number > i64::from(MOST_CELLS) => Some(Kind::TooMany),
             Field::Value { size } if number < 0 || number >= i64::from(size) => {
                 Some(Kind::ValueOutOfRange)
             }

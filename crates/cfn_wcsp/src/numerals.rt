@@ -2,7 +2,7 @@
 
 ghost use Rattle.std.specs.Prelude.{◌≡◌, pos, None, IfOk};
 ghost use Rattle.cfn_model.specs.Words.{IsWord, number_of};
-ghost use Rattle.cfn_model.specs.Reading.{word_at, number_in, natural_at};
+ghost use Rattle.cfn_model.specs.Reading.{word_at, number_in, number_at, natural_at};
 ghost use Rattle.cfn_wcsp.specs.Giving.{Gives, state};
 ghost use Rattle.cfn_wcsp.specs.Fields.{check_of, InRange};
 ghost use Rattle.cfn_wcsp.specs.Scopes.{check_next};
@@ -45,6 +45,15 @@ pub fn numeral(word: &[u8], ordinal: u64) -> Result<i64, ReadFault>
     }
 }
 
+/// The next number and its ordinal.
+pub(crate) fn integer(words: &mut Words<'_>) -> Result<(i64, u64), ReadFault>
+    ensures gives { Gives (λ n. (n.0, state words.new)) result (number_at (state words.old)) }
+    ensures ordinal { IfOk result (λ n. n.1 ≡ (state words.old).next) }
+{
+    let (word, ordinal) = word(words)?;
+    Ok((numeral(word, ordinal)?, ordinal))
+}
+
 /// The next number, which passes the checks of its field.
 #[tactic(auto, unfolding(cfn_model::specs::Reading::natural_at))]
 pub(crate) fn natural(words: &mut Words<'_>, field: Field) -> Result<u64, ReadFault>
@@ -52,8 +61,7 @@ pub(crate) fn natural(words: &mut Words<'_>, field: Field) -> Result<u64, ReadFa
         (natural_at (check_of field) (state words.old)) }
     ensures range { IfOk result (λ n. InRange field n) }
 {
-    let (word, ordinal) = word(words)?;
-    let number = numeral(word, ordinal)?;
+    let (number, ordinal) = integer(words)?;
     match field.check(number) {
         Some(kind) => Err(refused(kind, ordinal)),
         None => Ok(number.unsigned_abs()),
@@ -67,8 +75,7 @@ pub(crate) fn variable(words: &mut Words<'_>, scope: &Scope<'_>) -> Result<u32, 
         (natural_at (check_next scope.now) (state words.old)) }
     ensures passed { IfOk result (λ x. check_next scope.now (pos x) ≡ None) }
 {
-    let (word, ordinal) = word(words)?;
-    let number = numeral(word, ordinal)?;
+    let (number, ordinal) = integer(words)?;
     match scope.check(number) {
         Ok(x) => Ok(x),
         Err(kind) => Err(refused(kind, ordinal)),

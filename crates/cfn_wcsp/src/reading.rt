@@ -1,6 +1,6 @@
 //! A whole file, from its name to its last cost function.
 
-ghost use Rattle.std.specs.Prelude.{◌≡◌, ◌+◌, ◌<◌, ◌≤◌, ◌^◌, length};
+ghost use Rattle.std.specs.Prelude.{◌≡◌, ◌+◌, ◌<◌, ◌≤◌, ◌^◌, [], length};
 ghost use Rattle.cfn_model.specs.declared.limits.TheConstants.{MOST_FUNCTIONS};
 ghost use Rattle.cfn_model.specs.Reading.{network_at, reading};
 ghost use Rattle.cfn_wcsp.specs.Giving.{Gives, state};
@@ -16,8 +16,9 @@ use cfn_net::{Builder, Network};
 use cfn_words::Words;
 use std::alloc::Global;
 
-/// So many cost functions, which are added to the builder.
+/// So many cost functions, which are added to the builder. The numbers of those whose tables are shared are kept.
 fn functions(
+    alloc: Global,
     words: &mut Words<'_>,
     scope: &mut Scope<'_>,
     builder: &mut Builder,
@@ -27,10 +28,11 @@ fn functions(
     requires number { scope.old.number + count < 2 ^ 32 }
     requires room { length builder.old.functions + count ≤ MOST_FUNCTIONS }
     ensures { Gives (λ _. (builder.new, state words.new)) result
-        (functions_onto builder.old count (state words.old)) }
+        (functions_onto builder.old [] count (state words.old)) }
 {
+    let mut shared = Vec::new(alloc);
     for _ in 0..count {
-        function(words, scope, builder)?;
+        function(words, scope, builder, &mut shared)?;
     }
     Ok(())
 }
@@ -48,7 +50,7 @@ fn network(alloc: Global, words: &mut Words<'_>) -> Result<Network, ReadFault>
     let sizes = domains(alloc, words, variables)?;
     let mut builder = Builder::make(alloc, name, &sizes, upper)?;
     let mut scope = Scope::new(alloc, &sizes)?;
-    functions(words, &mut scope, &mut builder, count)?;
+    functions(alloc, words, &mut scope, &mut builder, count)?;
     Ok(builder.finish()?)
 }
 
@@ -58,11 +60,13 @@ fn network(alloc: Global, words: &mut Words<'_>) -> Result<Network, ReadFault>
 /// A file has its name, the number of variables, the greatest domain size (which is not used), the
 /// number of cost functions, the upper bound, the domain sizes and the cost functions. A cost function
 /// has its arity, its variables, its default cost, the number of its tuples, and the tuples, each with
-/// its cost. White space of any kind stands between words, and what follows the last function is not
-/// looked at. A missing word is refused at the number that it would have.
+/// its cost. A negative arity -r is that of a function of r variables whose table becomes shared, and a
+/// number of tuples -j gives a function the default cost and the entries of shared table j, counted from
+/// 1, in place of tuples. White space of any kind stands between words, and what follows the last function
+/// is not looked at. A missing word is refused at the number that it would have.
 ///
 /// The time is linear in the bytes and the cells of the tables. Memory is taken as words come, and for
-/// a table when its default cost has been read, so that a number that the file merely claims takes none.
+/// a table when its number of tuples has been read, so that a number that the file merely claims takes none.
 pub fn read(alloc: Global, bytes: &[u8]) -> Result<Network, ReadFault>
     ensures { Gives (λ network. network) result (reading bytes.now) }
 {

@@ -1,18 +1,19 @@
 //! One cost function of a file: its scope, its default cost and its tuples.
 
-ghost use Rattle.std.specs.Prelude.{◌≡◌, ◌+◌, ◌<◌, ◌^◌, length, IfOk, OnOk};
-ghost use Rattle.cfn_model.specs.declared.limits.TheConstants.{MOST_FUNCTIONS};
+ghost use Rattle.std.specs.Prelude.{◌≡◌, ◌+◌, ◌<◌, ◌≤◌, ◌^◌, length, IfOk, OnOk};
+ghost use Rattle.cfn_model.specs.declared.limits.TheConstants.{MOST_CELLS, MOST_FUNCTIONS};
 ghost use Rattle.cfn_model.specs.Network.{cells, dims_at};
 ghost use Rattle.cfn_model.specs.Reading.{scope_from};
 ghost use Rattle.cfn_wcsp.specs.Giving.{Gives, state};
-ghost use Rattle.cfn_net.specs.Building.{last};
+ghost use Rattle.cfn_net.specs.Building.{all_cells, last};
 ghost use Rattle.cfn_wcsp.specs.Scopes.{scope_dims};
-ghost use Rattle.cfn_wcsp.specs.Tables.{cell_at, listings_into, function_onto};
+ghost use Rattle.cfn_wcsp.specs.Tables.{AreNumbers, cell_at, listings_into, table_onto, function_onto, tables_of};
 
 use crate::fault::ReadFault;
 use crate::field::Field;
-use crate::numerals::{natural, variable};
+use crate::numerals::{integer, natural, variable};
 use crate::scope::Scope;
+use crate::sharing::count;
 use cfn_net::{Builder, listing_law};
 use cfn_words::Words;
 
@@ -72,30 +73,64 @@ pub(crate) fn listings(
     Ok(())
 }
 
-/// The next cost function, which is added to the builder. Its table is made when its default cost has
-/// been read.
+/// The number of tuples of a function of this arity, scope and default, and the tuples; the function is added to the
+/// builder. Where the number is -j it has shared table j, of those of the functions with the numbers in `shared`, and no
+/// tuples follow. Its own table is made when it is known to have no shared one.
+pub(crate) fn table(
+    words: &mut Words<'_>,
+    scope: &Scope<'_>,
+    builder: &mut Builder,
+    shared: &[u32],
+    arity: i64,
+    default: u64,
+) -> Result<(), ReadFault>
+    requires sizes { scope.now.sizes ≡ builder.old.sizes }
+    requires room { length builder.old.functions < MOST_FUNCTIONS }
+    requires cells { all_cells builder.old + cells (scope_dims scope.now) ≤ MOST_CELLS }
+    requires shared { AreNumbers builder.old shared.now }
+    ensures { Gives (λ _. (builder.new, state words.new)) result
+        (table_onto builder.old (tables_of builder.old shared.now) arity scope.now.variables default (state words.old)) }
+{
+    let count = count(words, scope, builder.network(), shared, arity)?;
+    let number = count.unsigned_abs();
+    if count < 0 {
+        let earlier = shared[number as usize - 1];
+        builder.shared(scope.variables(), earlier)?;
+        return Ok(());
+    }
+    builder.begin(scope.variables(), default)?;
+    listing_law();
+    listings(words, scope, builder, number)
+}
+
+/// The next cost function, which is added to the builder. Of the functions before it those with the numbers in `shared`
+/// have shared tables, and it joins them where its arity is below 0.
 #[tactic(auto, unfolding(cfn_model::specs::Reading::function_from))]
 pub(crate) fn function(
     words: &mut Words<'_>,
     scope: &mut Scope<'_>,
     builder: &mut Builder,
+    shared: &mut Vec<u32>,
 ) -> Result<(), ReadFault>
     requires sizes { scope.old.sizes ≡ builder.old.sizes }
     requires number { scope.old.number + 1 < 2 ^ 32 }
     requires room { length builder.old.functions < MOST_FUNCTIONS }
-    ensures gives { Gives (λ _. (builder.new, state words.new)) result
-        (function_onto builder.old (state words.old)) }
+    requires shared { AreNumbers builder.old shared.old.items }
+    ensures gives { Gives (λ _. ((builder.new, tables_of builder.new shared.new.items), state words.new)) result
+        (function_onto builder.old (tables_of builder.old shared.old.items) (state words.old)) }
     ensures sizes { scope.new.sizes ≡ scope.old.sizes }
     ensures number { OnOk result (scope.new.number ≡ scope.old.number + 1) }
+    ensures shared { OnOk result (AreNumbers builder.new shared.new.items) }
 {
-    let arity = natural(words, Field::Arity)?;
+    let arity = integer(words)?.0;
     scope.clear();
-    variables(words, scope, arity)?;
+    variables(words, scope, arity.unsigned_abs())?;
     builder.network().limits();
     let cells = builder.cells_so_far() + u64::from(scope.cells());
     let default = natural(words, Field::Default { cells })?;
-    builder.begin(scope.variables(), default)?;
-    let count = natural(words, Field::Tuples)?;
-    listing_law();
-    listings(words, scope, builder, count)
+    table(words, scope, builder, shared.as_slice(), arity, default)?;
+    if arity < 0 {
+        shared.push(builder.functions() - 1)?;
+    }
+    Ok(())
 }

@@ -1,6 +1,6 @@
 -- Reading a whole canonical text.
 use Rattle.std.proofs.Common.{◌≡◌, ℕ, suc, ◌+◌, ◌<◌, ◌≤◌, inl, inr, true, false, List, [], ◌∷◌, ◌++◌, length, map, get_or, refl, sym, ap, ◌∙◌, append_assoc, arith, ne_eqb, eqb}
-use Rattle.std.specs.Prelude.{Ok, decimal, flat_map, fold, max, slice_index, slice_index_or, sum_by}
+use Rattle.std.specs.Prelude.{Ok, ℤ, pos, decimal, flat_map, fold, max, slice_index, slice_index_or, sum_by}
 use Rattle.std.specs.List.{AllByRecursion, list_any, range_with_len}
 use Rattle.std.proofs.lemmas.Bool.{or_cases, eqb-true, false≢true}
 use Rattle.std.proofs.lemmas.List.{append-nil, get_or_default}
@@ -12,11 +12,11 @@ use Rattle.std.proofs.lemmas.Map.Steps.{length-le_from_distinct_below}
 use Rattle.std.proofs.Math.Nat.{le-max_left, le-max_right}
 use Rattle.cfn_model.specs.declared.limits.TheConstants.{MOST_VARIABLES, MOST_VALUES, MOST_TUPLES, MOST_CELLS}
 use Rattle.cfn_model.specs.Network.{Fits, Function, IsFunction, IsNetwork, Network, cells, dims, no_function}
-use Rattle.cfn_model.specs.Reading.{Reads, check_arity, check_cost, check_count, check_default, check_functions, check_size, check_variables, function_from, functions_from, network_at}
+use Rattle.cfn_model.specs.Reading.{Reads, check_cost, check_default, check_functions, check_size, check_variables, table_at, function_from, functions_from, network_at}
 use Rattle.cfn_model.specs.Words.{IsWord, greatest, words}
 use Rattle.cfn_wcspwrite.specs.Canonical.{canonical, canonical_lines, cell_words, differs, function_lines, function_words, listed, tuple_of}
 use Rattle.cfn_wcspwrite.proofs.Wording.{all_append, all_decimals, decimal_word, flat, lines_append, text_words}
-use Rattle.cfn_wcspwrite.proofs.Parsing.{Coming, Gets, listings_here, natural_here, passes_arity, passes_cost, passes_count, passes_default, passes_functions, passes_size, passes_variables, place, scope_here, sizes_here}
+use Rattle.cfn_wcspwrite.proofs.Parsing.{Coming, Gets, above, listings_here, natural_here, number_here, passes_cost, passes_count, passes_default, passes_functions, passes_size, passes_variables, place, scope_here, sizes_here}
 use Rattle.cfn_wcspwrite.proofs.Tables.{all_filter, function_is, numbered, range_below}
 
 -- ---- facts of each item, from facts by index
@@ -81,17 +81,30 @@ module _ (sizes : List ℕ) (upper : ℕ) (some_sizes : (x : ℕ) → x < length
     function_words_are : (rest : List (List ℕ)) → function_words f ++ rest ≡ decimal (length f.scope) ∷ (map decimal f.scope ++ decimal f.default ∷ decimal (length (listed f)) ∷ rest)
     function_words_are rest = ap (λ ws. decimal (length f.scope) ∷ ws) (append_assoc (map decimal f.scope) (decimal f.default ∷ decimal (length (listed f)) ∷ []) rest)
 
-    pub function_here : (so_far : ℕ) (rest : List (List ℕ)) (k : ℕ) → so_far + cells ds ≤ MOST_CELLS → Gets (function_from sizes upper so_far (place (function_words f ++ (lists ++ rest)) k)) f rest
-    unfolding function_from
-    function_here so_far rest k few =
-        let arity = natural_here check_arity (length f.scope) (map decimal f.scope ++ decimal f.default ∷ decimal (length (listed f)) ∷ (lists ++ rest)) k (omega (arith, few_places, few_sizes)) (passes_arity (length f.scope)) in
-        let scope = scope_here sizes [] f.scope (decimal f.default ∷ decimal (length (listed f)) ∷ (lists ++ rest)) (k + 1) few_sizes coming in
-        let default = natural_here (check_default (so_far + cells ds)) f.default (decimal (length (listed f)) ∷ (lists ++ rest)) scope.next (let h = limits.default in omega (arith, h, capped)) (passes_default (so_far + cells ds) f.default few) in
-        let count = natural_here check_count (length (listed f)) (lists ++ rest) (scope.next + 1) (omega (arith, few_listed)) (passes_count (length (listed f)) (omega (arith, few_listed))) in
-        let tuples = listings_here ds (tuple_of ds) (slice_index f.entries) (listed f) rest (scope.next + 1 + 1) each_listed small_dims in
+    -- its own table, where these functions have shared ones
+    table_here : (shared : List Function) (arity : ℤ) (rest : List (List ℕ)) (k : ℕ) → Gets (table_at sizes upper shared arity f.scope f.default (place (decimal (length (listed f)) ∷ (lists ++ rest)) k)) f rest
+    unfolding table_at
+    table_here shared arity rest k =
+        let n = length (listed f) in
+        let count = number_here n (lists ++ rest) k (omega (arith, few_listed)) in
+        let passes = passes_count sizes shared arity f.scope n (omega (arith, few_listed)) in
+        let tuples = listings_here ds (tuple_of ds) (slice_index f.entries) (listed f) rest (k + 1) each_listed small_dims in
         record {
           next = tuples.next;
-          is = rw (function_words_are (lists ++ rest), arity, scope.is, default, count, tuples.is) (ap (λ g. Ok (g, place rest tuples.next)) (function_is sizes upper f limits));
+          is = rw (count, passes, above n 0 (omega arith), tuples.is) (ap (λ g. Ok (g, place rest tuples.next)) (function_is sizes upper f limits));
+        }
+
+    pub function_here : (shared : List Function) (so_far : ℕ) (rest : List (List ℕ)) (k : ℕ) → so_far + cells ds ≤ MOST_CELLS → Gets (function_from sizes upper shared so_far (place (function_words f ++ (lists ++ rest)) k)) (f, shared) rest
+    unfolding function_from
+    function_here shared so_far rest k few =
+        let n = length f.scope in
+        let arity = number_here n (map decimal f.scope ++ decimal f.default ∷ decimal (length (listed f)) ∷ (lists ++ rest)) k (omega (arith, few_places, few_sizes)) in
+        let scope = scope_here sizes [] f.scope (decimal f.default ∷ decimal (length (listed f)) ∷ (lists ++ rest)) (k + 1) few_sizes coming in
+        let default = natural_here (check_default (so_far + cells ds)) f.default (decimal (length (listed f)) ∷ (lists ++ rest)) scope.next (let h = limits.default in omega (arith, h, capped)) (passes_default (so_far + cells ds) f.default few) in
+        let table = table_here shared (pos n) rest (scope.next + 1) in
+        record {
+          next = table.next;
+          is = ap (λ ws. function_from sizes upper shared so_far (place ws k)) (function_words_are (lists ++ rest)) ∙ rw (arity, scope.is, default, table.is, above n 0 (omega arith)) refl;
         }
 
     number_words : AllByRecursion IsWord (function_words f)
@@ -126,16 +139,16 @@ module _ (sizes : List ℕ) (upper : ℕ) (some_sizes : (x : ℕ) → x < length
 
   -- ---- all functions
 
-  pub functions_here : (fs : List Function) (so_far : ℕ) (rest : List (List ℕ)) (k : ℕ) → ((i : ℕ) → i < length fs → IsFunction sizes upper (slice_index_or fs i no_function)) → so_far + sum_by (λ f. cells (dims sizes f.scope)) fs ≤ MOST_CELLS →
-      Gets (functions_from sizes upper so_far (length fs) (place (flat (flat_map (function_lines sizes) fs) ++ rest) k)) fs rest
+  pub functions_here : (fs shared : List Function) (so_far : ℕ) (rest : List (List ℕ)) (k : ℕ) → ((i : ℕ) → i < length fs → IsFunction sizes upper (slice_index_or fs i no_function)) → so_far + sum_by (λ f. cells (dims sizes f.scope)) fs ≤ MOST_CELLS →
+      Gets (functions_from sizes upper shared so_far (length fs) (place (flat (flat_map (function_lines sizes) fs) ++ rest) k)) fs rest
   unfolding functions_from
-  functions_here [] so_far rest k each few = record { next = k; is = refl }
-  functions_here (f ∷ fs) so_far rest k each few =
+  functions_here [] shared so_far rest k each few = record { next = k; is = refl }
+  functions_here (f ∷ fs) shared so_far rest k each few =
       let limits = each 0 (omega arith) in
       let sum = sum_by-cons (λ g. cells (dims sizes g.scope)) f fs in
       let others = flat (flat_map (function_lines sizes) fs) in
-      let one = function_here f limits so_far (others ++ rest) k (omega (arith, few, sum)) in
-      let more = functions_here fs (so_far + cells (dims sizes f.scope)) rest one.next (λ i l. each (suc i) (omega (arith, l))) (omega (arith, few, sum)) in
+      let one = function_here f limits shared so_far (others ++ rest) k (omega (arith, few, sum)) in
+      let more = functions_here fs shared (so_far + cells (dims sizes f.scope)) rest one.next (λ i l. each (suc i) (omega (arith, l))) (omega (arith, few, sum)) in
       let parts : flat (function_lines sizes f ++ flat_map (function_lines sizes) fs) ++ rest ≡ function_words f ++ (flat_map (cell_words sizes f) (listed f) ++ (others ++ rest)) =
       ap (λ ws. ws ++ rest) (flat_map-append (λ ws. ws) (function_lines sizes f) (flat_map (function_lines sizes) fs) ∙ ap (λ ws. ws ++ others) (flat_function f limits))
       ∙ append_assoc (function_words f ++ flat_map (cell_words sizes f) (listed f)) others rest
@@ -213,5 +226,5 @@ module _ (P : Network) (net : IsNetwork P) where
       let functions = natural_here check_functions e (decimal P.upper ∷ rest) 4 (omega (arith, net.few_functions)) (passes_functions e net.few_functions) in
       let upper = natural_here check_cost P.upper rest 5 capped_upper (passes_cost P.upper) in
       let sizes = sizes_here P.sizes (behind ++ []) 6 sizes_all in
-      let fs = functions_here P.sizes P.upper net.sizes net.few capped_upper P.functions 0 [] sizes.next net.functions (let h = net.few_cells in omega (arith, h)) in
+      let fs = functions_here P.sizes P.upper net.sizes net.few capped_upper P.functions [] 0 [] sizes.next net.functions (let h = net.few_cells in omega (arith, h)) in
       rw (canonical_words, variables, widest, functions, upper, sizes.is, fs.is) refl

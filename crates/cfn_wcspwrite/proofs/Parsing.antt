@@ -7,8 +7,8 @@ use Rattle.std.proofs.lemmas.List.{append-nil, map-append}
 use Rattle.cfn_model.specs.declared.limits.TheConstants.{MOST_VARIABLES, MOST_VALUES, MOST_FUNCTIONS, MOST_TUPLES, MOST_CELLS}
 use Rattle.cfn_model.specs.declared.reading.Kind.{Kind}
 use Rattle.cfn_model.specs.declared.reading.Refusal.{Refusal}
-use Rattle.cfn_model.specs.Network.{Fits, cells, dims}
-use Rattle.cfn_model.specs.Reading.{At, check_arity, check_cost, check_count, check_default, check_domain, check_functions, check_size, check_value, check_variable, check_variables, listing_at, listings_at, natural_at, scope_from, sizes_at, tuple_at}
+use Rattle.cfn_model.specs.Network.{Fits, Function, cells, dims}
+use Rattle.cfn_model.specs.Reading.{At, check_cost, check_count, check_default, check_domain, check_functions, check_size, check_value, check_variable, check_variables, listing_at, listings_at, natural_at, number_at, scope_from, sizes_at, tuple_at}
 use Rattle.cfn_model.specs.Words.{digits_behind, greatest, has_minus, is_digit, is_empty, magnitude_of, number_of}
 use Rattle.cfn_net.proofs.CallerLemmas.{mul-pos, product_below}
 use Rattle.cfn_wcspwrite.proofs.Wording.{decimal_digits, decimal_some, decimal_value}
@@ -41,13 +41,16 @@ decimal_number n h =
 abbrev pub place : List (List ℕ) → ℕ → At
 place words next = record { words = words; next = next }
 
+pub number_here : (n : ℕ) (rest : List (List ℕ)) (k : ℕ) → n ≤ greatest → number_at (place (decimal n ∷ rest) k) ≡ Ok (pos n, place rest (k + 1))
+number_here n rest k h = rw (decimal_number n h) refl
+
 pub natural_here : (check : ℤ → Option Kind) (n : ℕ) (rest : List (List ℕ)) (k : ℕ) → n ≤ greatest → check (pos n) ≡ None → natural_at check (place (decimal n ∷ rest) k) ≡ Ok (n, place rest (k + 1))
 unfolding natural_at
 natural_here check n rest k h passes = rw (decimal_number n h, passes) refl
 
 -- ---- the checks
 
-above : (a b : ℕ) → b ≤ a → int_lt (pos a) (pos b) ≡ false
+pub above : (a b : ℕ) → b ≤ a → int_lt (pos a) (pos b) ≡ false
 above a b h = le-ltb a b h
 
 pub passes_variables : (n : ℕ) → 0 < n → n ≤ MOST_VARIABLES → check_variables (pos n) ≡ None
@@ -65,11 +68,8 @@ passes_cost n = rw (above n 0 (omega arith)) refl
 pub passes_domain : (n : ℕ) → 0 < n → n ≤ MOST_VALUES → check_domain (pos n) ≡ None
 passes_domain n some few = rw (above n 0 (omega arith), above n 1 some, above MOST_VALUES n few) refl
 
-pub passes_arity : (n : ℕ) → check_arity (pos n) ≡ None
-passes_arity n = rw (above n 0 (omega arith)) refl
-
-pub passes_count : (n : ℕ) → n ≤ MOST_CELLS → check_count (pos n) ≡ None
-passes_count n few = rw (above n 0 (omega arith), above MOST_CELLS n few) refl
+pub passes_count : (sizes : List ℕ) (shared : List Function) (arity : ℤ) (scope : List ℕ) (n : ℕ) → n ≤ MOST_CELLS → check_count sizes shared arity scope (pos n) ≡ None
+passes_count sizes shared arity scope n few = rw (above n 0 (omega arith), above MOST_CELLS n few) refl
 
 pub passes_value : (size n : ℕ) → n < size → check_value size (pos n) ≡ None
 passes_value size n less = rw (above n 0 (omega arith), above size (suc n) less) refl

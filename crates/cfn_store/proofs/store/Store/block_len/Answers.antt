@@ -5,5 +5,5 @@ use Rattle.cfn_store.proofs.store.Store.block_len.Goals as goal
 
 pub returns : goal.returns
 returns c =
-    let n = block_length c.self.inside.network.now c.self.inside.base c.self.inside.room c.self.inside.state c.self.invariant in
+    let n = block_length c.self.inside.network.now c.self.inside.base c.self.inside.room c.self.inside.state c.self.invariant.0 in
     let v = ap (λ (s : Standing). length s.block) c.self.view_is in let l = c.len.ensures in omega (arith, n, v, l)

@@ -7,4 +7,4 @@ use Rattle.cfn_store.proofs.store.Store.exact.Goals as goal
 pub returns : goal.returns
 returns c =
     subst (λ (s : Standing). IsExactAlong s.network (history s)) c.self.view_is
-    (subst (IsExactAlong c.self.inside.network.now) (sym (history_is c.self.inside.network.now c.self.inside.base c.self.inside.room c.self.inside.state c.self.invariant.steps)) c.self.invariant.state.exact)
+    (subst (IsExactAlong c.self.inside.network.now) (sym (history_is c.self.inside.network.now c.self.inside.base c.self.inside.room c.self.inside.state c.self.invariant.0.steps)) c.self.invariant.0.state.exact)

@@ -4,4 +4,4 @@ use Rattle.cfn_model.specs.Sums.{floor}
 use Rattle.cfn_store.proofs.store.Store.floor.Goals as goal
 
 pub returns : goal.returns
-returns c = over c.self.inside.network.now c.self.inside.base c.self.inside.room c.self.inside.state c.args.self.now c.self.invariant c.self.view_is (λ N h. c.self.inside.state.sums.floor ≡ floor N h) c.self.invariant.state.keeps.sums.floor
+returns c = over c.self.inside.network.now c.self.inside.base c.self.inside.room c.self.inside.state c.args.self.now c.self.invariant.0 c.self.view_is (λ N h. c.self.inside.state.sums.floor ≡ floor N h) c.self.invariant.0.state.keeps.sums.floor

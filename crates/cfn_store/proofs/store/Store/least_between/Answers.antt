@@ -5,5 +5,5 @@ use Rattle.cfn_store.proofs.Stores.{over}
 use Rattle.cfn_store.proofs.store.Store.least_between.Goals as goal
 
 pub returns : goal.returns
-returns c = over c.self.inside.network.now c.self.inside.base c.self.inside.room c.self.inside.state c.args.self.now c.self.invariant c.self.view_is (λ N h. MatchOption c.first.result (NoneBetween N h c.args.f c.args.place c.args.value c.args.other c.args.other_value) (IsLeastBetween N h c.args.f c.args.place c.args.value c.args.other c.args.other_value))
+returns c = over c.self.inside.network.now c.self.inside.base c.self.inside.room c.self.inside.state c.args.self.now c.self.invariant.0 c.self.view_is (λ N h. MatchOption c.first.result (NoneBetween N h c.args.f c.args.place c.args.value c.args.other c.args.other_value) (IsLeastBetween N h c.args.f c.args.place c.args.value c.args.other c.args.other_value))
     (least c.self.inside.network.now _ c.args.f c.args.place c.args.value c.args.other c.args.other_value c.first.result c.first.ensures)

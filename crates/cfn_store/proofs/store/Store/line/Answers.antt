@@ -15,7 +15,7 @@ line-requires c =
 pub returns : goal.returns
 returns c =
     let s = c.args.self.now in
-    let x = over c.self.inside.network.now c.self.inside.base c.self.inside.room c.self.inside.state s c.self.invariant c.self.view_is (λ N h. slice_index c.scope.result.now c.args.place ≡ variable_at N c.args.f c.args.place) (ap (λ l. slice_index l c.args.place) c.scope.ensures) in
+    let x = over c.self.inside.network.now c.self.inside.base c.self.inside.room c.self.inside.state s c.self.invariant.0 c.self.view_is (λ N h. slice_index c.scope.result.now c.args.place ≡ variable_at N c.args.f c.args.place) (ap (λ l. slice_index l c.args.place) c.scope.ensures) in
     let live = sym c.is_live.ensures ∙ c.if-not-is_live.false in
     subst (IsLine s.network (history s) c.args.f c.args.place c.args.value c.args.other) (sym c.line.ensures)
     (side_line s.network (history s) c.args.f c.args.place c.args.other c.in_ok-side.field-0 (c.in_ok-side.ensures.1 c.args.other c.requires.other c.requires.different) c.args.value c.requires.place

@@ -6,7 +6,7 @@ use Rattle.cfn_store.proofs.store.Store.step.Goals as goal
 
 pub step_from-requires-clause-number : goal.step_from-requires-clause-number
 step_from-requires-clause-number c =
-    let n = block_length c.self.inside.network.now c.self.inside.base c.self.inside.room c.self.inside.state c.self.invariant in
+    let n = block_length c.self.inside.network.now c.self.inside.base c.self.inside.room c.self.inside.state c.self.invariant.0 in
     let v = ap (λ (s : Standing). length s.block) c.self.view_is in let l = c.requires in omega (arith, n, v, l)
 
 pub returns : goal.returns

@@ -9,5 +9,5 @@ use Rattle.cfn_store.proofs.store.Store.unaries.Goals as goal
 pub returns : goal.returns
 returns c =
     let P = c.self.inside.network.now in let h = history_of c.self.inside.state in
-    over P c.self.inside.base c.self.inside.room c.self.inside.state c.args.self.now c.self.invariant c.self.view_is (λ N g. AreUnaries N g c.args.x c.unaries.result)
-    (c.unaries.ensures P h c.self.invariant.state.keeps.sums (exact_here P h c.self.invariant.state.exact) (subst (λ (t : Standing). c.args.x < length t.network.sizes) (sym c.self.view_is) c.requires))
+    over P c.self.inside.base c.self.inside.room c.self.inside.state c.args.self.now c.self.invariant.0 c.self.view_is (λ N g. AreUnaries N g c.args.x c.unaries.result)
+    (c.unaries.ensures P h c.self.invariant.0.state.keeps.sums (exact_here P h c.self.invariant.0.state.exact) (subst (λ (t : Standing). c.args.x < length t.network.sizes) (sym c.self.view_is) c.requires))
