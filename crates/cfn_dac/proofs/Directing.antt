@@ -11,7 +11,8 @@ use Rattle.cfn_consistency.specs.Openness.{is_open, open_count, HasOpenPair}
 use Rattle.cfn_consistency.specs.Consistency.{IsDirectional, HasFullSupport}
 use Rattle.cfn_gain.specs.Levels.{AreBelow}
 use Rattle.cfn_dac.specs.declared.pair.Pair.{Pair}
-use Rattle.cfn_dac.specs.Full.{AreFullBelow, AreAllBelow, first_of}
+use Rattle.cfn_store.specs.Standing.{Standing, history}
+use Rattle.cfn_dac.specs.Full.{AreFullBelow, first_of}
 use Rattle.cfn_dac.specs.declared.open.Opens.{Opens}
 use Rattle.cfn_dac.specs.declared.open.Opens.TheVariants.{Few, Two, Many}
 use Rattle.cfn_dac.specs.Opens.{HasOpens, NoOpenPair, IsLowerPair}
@@ -81,12 +82,16 @@ same_pair P history f p q pair is has lower = by (either P history f pair.place 
 below_lacks : (n lacks k : ℕ) (u : ℤ) → n + lacks ≡ k → (pos n +ℤ u) <ℤ pos k → u <ℤ pos lacks
 below_lacks n lacks k u sum h = omega (arith, ints, sum, h)
 
-pub full_is_directional : (P : Network) (history : List Event) (k lacks f : ℕ) (pair : Pair) → IsNetwork P → floor P history + lacks ≡ k → IsLowerPair P history f pair → AreFullBelow P history pair lacks → AreAllBelow P history k f → IsDirectional P history f
+-- what was below in a store that is the same, at a variable by another name
+pub below_at : (s mid : Standing) (k x y : ℕ) → mid ≡ s → x ≡ y → AreBelow mid.network (history mid) k x → AreBelow s.network (history s) k y
+below_at s mid k x y is at below = subst (AreBelow s.network (history s) k) at (subst (λ t. AreBelow t.network (history t) k x) is below)
+
+pub full_is_directional : (P : Network) (history : List Event) (k lacks f : ℕ) (pair : Pair) → IsNetwork P → floor P history + lacks ≡ k → IsLowerPair P history f pair → AreFullBelow P history pair lacks → AreBelow P history k (first_of P pair) → IsDirectional P history f
 full_is_directional P history k lacks f pair net sum is full below p q a has lower place live =
     let same = same_pair P history f p q pair is has lower in
     let e = is.function in
     let there : IsPlace P pair.function pair.place a = subst (λ g. IsPlace P g pair.place a) (sym e) (subst (λ i. IsPlace P f i a) same.0 place) in
     let x : variable_at P f p ≡ first_of P pair = ap (variable_at P f) same.0 ∙ ap (λ g. variable_at P g pair.place) (sym e) in
     let live_there = subst (λ v. IsTrue (is_live history v a)) x live in
-    let has_full = full a there live_there (below_lacks (floor P history) lacks k (unary P history (first_of P pair) a) sum (subst (AreBelow P history k) x (below p has.one.0) a (first_value P pair a net there) live_there)) in
+    let has_full = full a there live_there (below_lacks (floor P history) lacks k (unary P history (first_of P pair) a) sum (below a (first_value P pair a net there) live_there)) in
     subst (λ g. HasFullSupport P history g p q a) e (subst (λ i. HasFullSupport P history pair.function i q a) (sym same.0) (subst (λ j. HasFullSupport P history pair.function pair.place j a) (sym same.1) has_full))

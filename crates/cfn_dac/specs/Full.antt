@@ -5,7 +5,6 @@ use Rattle.cfn_model.specs.Network.{Network, arity, variable_at}
 use Rattle.cfn_model.specs.Sums.{unary, residual, is_live}
 use Rattle.cfn_model.specs.Steps.{IsPlace}
 use Rattle.cfn_consistency.specs.Consistency.{HasFullSupport}
-use Rattle.cfn_gain.specs.Levels.{AreBelow}
 use Rattle.cfn_dac.specs.declared.pair.Pair.{Pair}
 
 -- A pair's places are two of one function.
@@ -26,10 +25,6 @@ second_of P pair = variable_at P pair.function pair.other
 abbrev pub AreFullBelow : Network → List Event → Pair → ℕ → Type 0
 AreFullBelow P history pair alpha =
     (a : ℕ) → IsPlace P pair.function pair.place a → IsTrue (is_live history (first_of P pair) a) → unary P history (first_of P pair) a <ℤ pos alpha → HasFullSupport P history pair.function pair.place pair.other a
-
--- With each live value of each variable of f the floor and its unary cost stay below a threshold.
-abbrev pub AreAllBelow : Network → List Event → ℕ → ℕ → Type 0
-AreAllBelow P history k f = (i : ℕ) → i < arity P f → AreBelow P history k (variable_at P f i)
 
 -- What a tuple costs together with its value at the second place.
 abbrev pub total : Network → List Event → Pair → List ℕ → ℤ

@@ -8,7 +8,6 @@ ghost use Rattle.cfn_store.specs.Standing.{history};
 ghost use Rattle.cfn_gain.specs.Calls.{GoesOn, Does, Shows};
 ghost use Rattle.cfn_gain.specs.Gains.{Gains};
 ghost use Rattle.cfn_dac.specs.Opens.{NoOpenPair, IsLowerPair};
-ghost use Rattle.cfn_dac.specs.Full.{AreAllBelow};
 
 use crate::open::{Opens, open_places};
 use crate::pair::{Pair, full_supports};
@@ -16,9 +15,8 @@ use cfn_gain::{Halt, Limits, cut_costly, lacking};
 use cfn_store::Store;
 
 /// Makes `f` directional arc consistent, and cuts the values of the lower variable that cost what the floor lacks then: where
-/// no step was made, and with no live value of a variable of `f` the floor and its unary cost reach the threshold, `f` is
-/// directional. `moves` is room for an amount for each value of a variable, and is left with any. An `Err` leaves the steps
-/// that were made.
+/// no step was made `f` is directional. `moves` is room for an amount for each value of a variable, and is left with any. An
+/// `Err` leaves the steps that were made.
 pub fn directional(
     store: &mut Store<'_>,
     limits: Limits,
@@ -31,9 +29,7 @@ pub fn directional(
         → slice_index store.old.network.sizes x ≤ length moves.old }
     ensures does { Does store.old store.new limits result }
     ensures gains { Gains store.old store.new limits result }
-    ensures directional { Shows store.old store.new result
-        (AreAllBelow store.old.network (history store.old) limits.threshold f
-        → IsDirectional store.old.network (history store.old) f) }
+    ensures directional { Shows store.old store.new result (IsDirectional store.old.network (history store.old) f) }
     ensures same { length moves.new ≡ length moves.old }
 {
     store.network().limits();

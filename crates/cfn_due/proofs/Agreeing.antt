@@ -1,7 +1,8 @@
 -- Where an event takes values or a tuple, what does not go with it is as it was.
 use Rattle.std.proofs.Common.{◌≡◌, ℕ, suc, ◌<◌, inl, inr, List, [], ◌∷◌, length, refl, sym, ap, ◌∙◌, subst, arith}
+use Rattle.std.proofs.lemmas.Bool.{and_parts, and_from, cases_eq}
 use Rattle.std.proofs.lemmas.Int.{ints}
-use Rattle.std.specs.Prelude.{ℤ, pos, ◌+ℤ◌, Bool, false, not, ◌&&◌, ◌||◌, ◌==◌, nat_lt, slice_index}
+use Rattle.std.specs.Prelude.{ℤ, pos, ◌+ℤ◌, Bool, false, not, ◌&&◌, ◌||◌, ◌==◌, nat_lt, slice_index, IsTrue}
 use Rattle.cfn_model.specs.declared.step.Step.TheVariants.{Project, Extend, Lift, CutValue, CutTuple}
 use Rattle.cfn_model.specs.declared.step.Event.{Event}
 use Rattle.cfn_model.specs.declared.step.Event.TheVariants.{Did, Took, Refused}
@@ -10,7 +11,7 @@ use Rattle.cfn_model.specs.Network.{Network, arity, scope_at, variable_at, dims_
 use Rattle.cfn_model.specs.Sums.{unary, unary_by, residual, residual_by, removes, cuts, is_live, is_cut, all_live, is_live_tuple}
 use Rattle.cfn_model.proofs.CallerLemmas.{eqb_other}
 use Rattle.cfn_consistency.specs.Agreement.{AgreeOnValues, AgreeOnUnaries, AgreeOnFunction, AgreeAround, AgreeNear}
-use Rattle.cfn_due.specs.Going.{IsOn, GoesArc, GoesDirected, GoesExisting}
+use Rattle.cfn_due.specs.Going.{IsOn, GoesArc, GoesFull, GoesExisting}
 
 -- an event that moves no costs
 abbrev pub MovesNothing : Event → Type 0
@@ -41,7 +42,7 @@ same_costs (Took d) f tuple still = refl
 same_costs (Refused d) f tuple still = refl
 
 -- an event takes no value of a variable
-abbrev SparesValues : Event → ℕ → Type 0
+abbrev pub SparesValues : Event → ℕ → Type 0
 SparesValues event x = (a : ℕ) → removes event x a ≡ false
 
 -- it takes no value of a function's variables, and cuts no tuple of it
@@ -115,23 +116,30 @@ pub arcs_agree : (P : Network) (history : List Event) (event : Event) (f : ℕ) 
 arcs_agree P history event f still stays = function_agrees P history event f still (spares_function P event f still stays)
 
 -- where arc consistency goes, the directional one goes, too
-directed_goes : (P : Network) (event : Event) (f : ℕ) → MovesNothing event → GoesArc P event f → GoesDirected P event f
-directed_goes P (Did (Project g i a m)) f still goes = absurd still
-directed_goes P (Did (Extend g i a m)) f still goes = absurd still
-directed_goes P (Did (Lift x m)) f still goes = absurd still
-directed_goes P (Did (CutValue x a)) f still goes = goes
-directed_goes P (Did (CutTuple g c)) f still goes = goes
-directed_goes P (Took d) f still goes = goes
-directed_goes P (Refused d) f still goes = goes
+full_goes : (P : Network) (event : Event) (f : ℕ) → MovesNothing event → GoesArc P event f → GoesFull P event f
+full_goes P (Did (Project g i a m)) f still goes = absurd still
+full_goes P (Did (Extend g i a m)) f still goes = absurd still
+full_goes P (Did (Lift x m)) f still goes = absurd still
+full_goes P (Did (CutValue x a)) f still goes = goes
+full_goes P (Did (CutTuple g c)) f still goes = goes
+full_goes P (Took d) f still goes = goes
+full_goes P (Refused d) f still goes = goes
 
-pub directed_agree : (P : Network) (history : List Event) (event : Event) (f : ℕ) → MovesNothing event → (GoesDirected P event f → ⊥) → AgreeAround P (event ∷ history) history f
-directed_agree P history event f still stays = record {
-  function = arcs_agree P history event f still (λ goes. stays (directed_goes P event f still goes));
+pub full_agree : (P : Network) (history : List Event) (event : Event) (f : ℕ) → MovesNothing event → (GoesFull P event f → ⊥) → AgreeAround P (event ∷ history) history f
+full_agree P history event f still stays = record {
+  function = arcs_agree P history event f still (λ goes. stays (full_goes P event f still goes));
+  unaries = λ i h. unaries_agree P history event (variable_at P f i) still;
+}
+
+-- an event that takes nothing of a function
+pub around_agrees : (P : Network) (history : List Event) (event : Event) (f : ℕ) → MovesNothing event → ((i : ℕ) → i < arity P f → SparesValues event (variable_at P f i)) → ((c : ℕ) → cuts event f c ≡ false) → AgreeAround P (event ∷ history) history f
+around_agrees P history event f still values tuples = record {
+  function = function_agrees P history event f still (record { values = values; tuples = tuples });
   unaries = λ i h. unaries_agree P history event (variable_at P f i) still;
 }
 
 -- where that of a function goes, the existential one of its variables goes, too
-existing_goes : (P : Network) (event : Event) (f x : ℕ) → MovesNothing event → IsOn P x f → GoesDirected P event f → GoesExisting P event x
+existing_goes : (P : Network) (event : Event) (f x : ℕ) → MovesNothing event → IsOn P x f → GoesFull P event f → GoesExisting P event x
 existing_goes P (Did (Project g i a m)) f x still on goes = absurd still
 existing_goes P (Did (Extend g i a m)) f x still on goes = absurd still
 existing_goes P (Did (Lift y m)) f x still on goes = absurd still
@@ -153,9 +161,35 @@ pub existing_agree : (P : Network) (history : List Event) (event : Event) (x : �
 existing_agree P history event x still stays = record {
   values = values_agree P history event x (spares_values P event x still stays);
   unaries = unaries_agree P history event x still;
-  functions = λ f i there h is. directed_agree P history event f still (λ goes. stays (existing_goes P event f x still (i, h, is) goes));
+  functions = λ f i there h is. full_agree P history event f still (λ goes. stays (existing_goes P event f x still (i, h, is) goes));
 }
 
 -- a tuple of a function with which an event does not go stays live
-pub tuple_stays : (P : Network) (history : List Event) (event : Event) (f : ℕ) (tuple : List ℕ) → MovesNothing event → (GoesDirected P event f → ⊥) → is_live_tuple P (event ∷ history) f tuple ≡ is_live_tuple P history f tuple
-tuple_stays P history event f tuple still stays = tuple_same P history event f tuple (spares_function P event f still (λ goes. stays (directed_goes P event f still goes)))
+pub tuple_stays : (P : Network) (history : List Event) (event : Event) (f : ℕ) (tuple : List ℕ) → MovesNothing event → (GoesFull P event f → ⊥) → is_live_tuple P (event ∷ history) f tuple ≡ is_live_tuple P history f tuple
+tuple_stays P history event f tuple still stays = tuple_same P history event f tuple (spares_function P event f still (λ goes. stays (full_goes P event f still goes)))
+
+-- what is live stays so
+all_kept : (event : Event) (history : List Event) (scope tuple : List ℕ) → ((j : ℕ) → j < length scope → IsTrue (is_live history (slice_index scope j) (slice_index tuple j)) → IsTrue (is_live (event ∷ history) (slice_index scope j) (slice_index tuple j))) → IsTrue (all_live history scope tuple) → IsTrue (all_live (event ∷ history) scope tuple)
+all_kept event history [] tuple stays all = refl
+all_kept event history (x ∷ scope) [] stays all = refl
+all_kept event history (x ∷ scope) (a ∷ tuple) stays all =
+    let both = and_parts (is_live history x a) (all_live history scope tuple) all in
+    and_from (is_live (event ∷ history) x a) (all_live (event ∷ history) scope tuple) (stays 0 (omega arith) both.0)
+    (all_kept event history scope tuple (λ j l live. stays (suc j) (omega (arith, l)) live) both.1)
+
+-- a tuple stays live whose value at one place does, where no other place loses values
+pub tuple_kept : (P : Network) (history : List Event) (event : Event) (f i a : ℕ) (tuple : List ℕ) → ((c : ℕ) → cuts event f c ≡ false) → ((j v : ℕ) → j < arity P f → (j ≡ i → ⊥) → removes event (variable_at P f j) v ≡ false) → slice_index tuple i ≡ a → IsTrue (is_live (event ∷ history) (variable_at P f i) a) → IsTrue (is_live_tuple P history f tuple) → IsTrue (is_live_tuple P (event ∷ history) f tuple)
+tuple_kept P history event f i a tuple uncut others at live was =
+    let below = nat_lt (entry_at P f tuple) P.upper in
+    let c = cell (dims_at P f) tuple in
+    let first = and_parts (all_live history (scope_at P f) tuple && below) (not (is_cut history f c)) was in
+    let second = and_parts (all_live history (scope_at P f) tuple) below first.0 in
+    and_from (all_live (event ∷ history) (scope_at P f) tuple && below) (not (is_cut (event ∷ history) f c))
+    (and_from (all_live (event ∷ history) (scope_at P f) tuple) below (all_kept event history (scope_at P f) tuple each second.0) second.1)
+    (ap (λ b. not (b || is_cut history f c)) (uncut c) ∙ first.1)
+  where
+    each : (j : ℕ) → j < arity P f → IsTrue (is_live history (variable_at P f j) (slice_index tuple j)) → IsTrue (is_live (event ∷ history) (variable_at P f j) (slice_index tuple j))
+    each j l there = elim (cases_eq j i) [
+      | inl e ↦ subst (λ k. IsTrue (is_live (event ∷ history) (variable_at P f k) (slice_index tuple k))) (sym e) (subst (λ v. IsTrue (is_live (event ∷ history) (variable_at P f i) v)) (sym at) live)
+      | inr other ↦ live_same event history (variable_at P f j) (slice_index tuple j) (others j (slice_index tuple j) l other) ∙ there
+    ]

@@ -59,9 +59,8 @@ support_kept P history event f i a there debts falls has live = record {
 pub support_stays : (P : Network) (history : List Event) (event : Event) (f i a : ℕ) → f < length P.functions → HasNoDebts P (event ∷ history) → CostsFall event f → ((tuple : List ℕ) → IsTrue (is_live_tuple P history f tuple) → IsTrue (is_live_tuple P (event ∷ history) f tuple)) → HasSupport P history f i a → HasSupport P (event ∷ history) f i a
 support_stays P history event f i a there debts falls stays has = support_kept P history event f i a there debts falls has (stays has.tuple has.live)
 
-pub full_stays : (P : Network) (history : List Event) (event : Event) (f i j a : ℕ) → IsNetwork P → f < length P.functions → j < arity P f → HasNoDebts P (event ∷ history) → CostsFall event f → UnariesFall P event (variable_at P f j) → ((tuple : List ℕ) → IsTrue (is_live_tuple P history f tuple) → IsTrue (is_live_tuple P (event ∷ history) f tuple)) → HasFullSupport P history f i j a → HasFullSupport P (event ∷ history) f i j a
-full_stays P history event f i j a net there place debts falls fall stays has =
-    let live = stays has.tuple has.live in
+pub full_kept : (P : Network) (history : List Event) (event : Event) (f i j a : ℕ) → IsNetwork P → f < length P.functions → j < arity P f → HasNoDebts P (event ∷ history) → CostsFall event f → UnariesFall P event (variable_at P f j) → (has : HasFullSupport P history f i j a) → IsTrue (is_live_tuple P (event ∷ history) f has.tuple) → HasFullSupport P (event ∷ history) f i j a
+full_kept P history event f i j a net there place debts falls fall has live =
     let x = variable_at P f j in
     let b = slice_index has.tuple j in
     let value = tuple_at P (event ∷ history) f j has.tuple place has.fits live in
@@ -74,6 +73,9 @@ full_stays P history event f i j a net there place debts falls fall stays has =
       free = sum_still_none (residual_by event f has.tuple) (residual P history f has.tuple) (unary_by P event x b) (unary P history x b) (falls has.tuple) (fall b) has.free
           (debts.residual f has.tuple there has.fits live) (debts.unary x b is value.1);
     }
+
+pub full_stays : (P : Network) (history : List Event) (event : Event) (f i j a : ℕ) → IsNetwork P → f < length P.functions → j < arity P f → HasNoDebts P (event ∷ history) → CostsFall event f → UnariesFall P event (variable_at P f j) → ((tuple : List ℕ) → IsTrue (is_live_tuple P history f tuple) → IsTrue (is_live_tuple P (event ∷ history) f tuple)) → HasFullSupport P history f i j a → HasFullSupport P (event ∷ history) f i j a
+full_stays P history event f i j a net there place debts falls fall stays has = full_kept P history event f i j a net there place debts falls fall has (stays has.tuple has.live)
 
 pub free_stays : (P : Network) (history : List Event) (event : Event) (x a : ℕ) → HasNoDebts P (event ∷ history) → UnariesFall P event x → (IsTrue (is_live history x a) → IsTrue (is_live (event ∷ history) x a)) → IsFree P history x a → IsFree P (event ∷ history) x a
 free_stays P history event x a debts falls stays free = record {

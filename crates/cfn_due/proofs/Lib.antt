@@ -1,6 +1,7 @@
 pub mod Putting
 pub mod Agreeing
 pub mod Falling
+pub mod Upper
 pub mod Staying
 pub mod Filling
 pub mod Noting

@@ -14,7 +14,7 @@ use Rattle.cfn_store.specs.Exact.{AllInPlace, IsExactAlong}
 use Rattle.cfn_queue.specs.Waiting.{Waiting, with_item}
 use Rattle.cfn_due.specs.declared.last.Last.{Last}
 use Rattle.cfn_due.specs.Dues.{Dues, Holds}
-use Rattle.cfn_due.specs.Going.{IsOn, IsNear, GoesArc, GoesDirected, GoesExisting, ArePut, IsNoted, GoesWithOne, AreNoted}
+use Rattle.cfn_due.specs.Going.{IsOn, IsUpper, IsNear, GoesArc, GoesDirected, GoesExisting, ArePut, IsNoted, GoesWithOne, AreNoted}
 use Rattle.cfn_due.specs.Remembered.{IsLast}
 use Rattle.cfn_due.proofs.Putting.{all_stay, put_none, put_one, put_then}
 use Rattle.cfn_due.proofs.Staying.{holding_goes_along}
@@ -30,7 +30,7 @@ if_more None more fact = fact
 pub last_stays : (P : Network) (last : Last) (old new : Dues) (Arcs Directed Existing : ℕ → Type 0) → ArePut old.arcs new.arcs Arcs → ArePut old.directed new.directed Directed → ArePut old.existing new.existing Existing → IsLast P last old → IsLast P last new
 last_stays P last old new Arcs Directed Existing arcs directed existing is = record {
   risen = if_more last.risen (λ x all.
-      (all_stay old.directed new.directed Directed (IsOn P x) directed all.0, all_stay old.existing new.existing Existing (IsNear P x) existing all.1)) is.risen;
+      (all_stay old.directed new.directed Directed (IsUpper P x) directed all.0, all_stay old.existing new.existing Existing (IsNear P x) existing all.1)) is.risen;
   lost = if_more last.lost (λ x all. all_stay old.arcs new.arcs Arcs (IsOn P x) arcs all) is.lost;
   changed = if_more last.changed (λ f all. (
     all_stay old.arcs new.arcs Arcs (λ g. f ≡ g) arcs all.0,
@@ -43,19 +43,19 @@ pub none_goes : (queue : Waiting) → ArePut queue queue (λ i. ⊥)
 none_goes queue = put_none queue (λ i. ⊥) (λ i none. absurd none)
 
 -- a project to the variable at a place of a function
-pub noted_project : (P : Network) (step : Step) (f i a m x : ℕ) (old new : Dues) → step ≡ Project f i a m → x ≡ variable_at P f i → new.arcs ≡ old.arcs → ArePut old.directed new.directed (IsOn P x) → ArePut old.existing new.existing (IsNear P x) → IsNoted P (Did step) old new
+pub noted_project : (P : Network) (step : Step) (f i a m x : ℕ) (old new : Dues) → step ≡ Project f i a m → x ≡ variable_at P f i → new.arcs ≡ old.arcs → ArePut old.directed new.directed (IsUpper P x) → ArePut old.existing new.existing (IsNear P x) → IsNoted P (Did step) old new
 noted_project P step f i a m x old new is at arcs directed existing =
     subst (λ s. IsNoted P (Did s) old new) (sym is) (record {
       arcs = subst (λ queue. ArePut old.arcs queue (λ g. ⊥)) (sym arcs) (none_goes old.arcs);
-      directed = subst (λ v. ArePut old.directed new.directed (IsOn P v)) at directed;
+      directed = subst (λ v. ArePut old.directed new.directed (IsUpper P v)) at directed;
       existing = subst (λ v. ArePut old.existing new.existing (IsNear P v)) at existing;
     })
 
 -- a side of a split
-pub noted_side : (P : Network) (event : Event) (d : Decision) (x : ℕ) (old new : Dues) → (event ≡ Took d) ⊎ (event ≡ Refused d) → x ≡ variable_of d → ArePut old.arcs new.arcs (IsOn P x) → ArePut old.directed new.directed (IsOn P x) → ArePut old.existing new.existing (IsNear P x) → IsNoted P event old new
+pub noted_side : (P : Network) (event : Event) (d : Decision) (x : ℕ) (old new : Dues) → (event ≡ Took d) ⊎ (event ≡ Refused d) → x ≡ variable_of d → ArePut old.arcs new.arcs (IsOn P x) → ArePut old.directed new.directed (IsUpper P x) → ArePut old.existing new.existing (IsNear P x) → IsNoted P event old new
 noted_side P event d x old new side at arcs directed existing =
     let on = subst (λ v. ArePut old.arcs new.arcs (IsOn P v)) at arcs in
-    let around = subst (λ v. ArePut old.directed new.directed (IsOn P v)) at directed in
+    let around = subst (λ v. ArePut old.directed new.directed (IsUpper P v)) at directed in
     let near = subst (λ v. ArePut old.existing new.existing (IsNear P v)) at existing in
     elim side [
       | inl is ↦ subst (λ e. IsNoted P e old new) (sym is) (record { arcs = on; directed = around; existing = near })

@@ -1,5 +1,5 @@
 -- Numbers are put behind those that wait.
-use Rattle.std.proofs.Common.{◌≡◌, ◌⊎◌, ℕ, zero, suc, ◌+◌, ◌<◌, ◌≤◌, inl, inr, Bool, true, false, ◌||◌, List, [], ◌∷◌, ◌++◌, length, append_assoc, refl, sym, ap, ◌∙◌, subst, arith, eq-eqb}
+use Rattle.std.proofs.Common.{◌≡◌, ◌⊎◌, ℕ, zero, suc, ◌+◌, ◌-◌, ◌<◌, ◌≤◌, inl, inr, Bool, true, false, ◌||◌, List, [], ◌∷◌, ◌++◌, length, append_assoc, refl, sym, ap, ◌∙◌, subst, arith, eq-eqb}
 use Rattle.std.proofs.lemmas.Bool.{cases_eq, false≢true}
 use Rattle.std.specs.Prelude.{slice_index_or, if◌then◌else◌}
 use Rattle.cfn_model.specs.Network.{Function, Network, no_function, arity, variable_at}
@@ -9,7 +9,7 @@ use Rattle.cfn_queue.proofs.CallerLemmas.{in_behind}
 use Rattle.cfn_incidence.specs.declared.incidence.Place.{Place}
 use Rattle.cfn_incidence.specs.Places.{ArePlaces, place_at}
 use Rattle.cfn_due.specs.Dues.{waits}
-use Rattle.cfn_due.specs.Going.{IsOn, IsNear, ArePut}
+use Rattle.cfn_due.specs.Going.{IsOn, IsUpper, IsNear, ArePut}
 use Rattle.cfn_due.specs.Remembered.{AllWait}
 
 not_false : (b : Bool) → (b ≡ false → ⊥) → b ≡ true
@@ -126,6 +126,35 @@ functions_end P x places old new n are all most put =
     let found = are.all p (record { function = is_function P f on.0 on.1; place = on.1; is = on.2 }) in
     let h = found.1 in
     (found.0, omega (arith, h, all), ap (λ (q : Place). q.function) found.2)))
+
+-- f has place j of some places, and x may be its upper variable
+abbrev pub IsUpperPlace : Network → ℕ → List Place → ℕ → ℕ → Type 0
+IsUpperPlace P x places j f = ((place_at places j).function ≡ f) × (arity P f ≡ 2 → variable_at P f (1 - (place_at places j).place) ≤ x)
+
+abbrev pub IsUpperAmong : Network → ℕ → List Place → ℕ → ℕ → Type 0
+IsUpperAmong P x places n f = (j : ℕ) × (j < n) × IsUpperPlace P x places j f
+
+-- the function of a place is put where x may be its upper variable, and no other
+pub upper_put : (P : Network) (x : ℕ) (places : List Place) (n : ℕ) (old new : Waiting) → ((arity P (place_at places n).function ≡ 2) → variable_at P (place_at places n).function (1 - (place_at places n).place) ≤ x) → new ≡ with_item old (place_at places n).function → ArePut old new (IsUpperPlace P x places n)
+upper_put P x places n old new up is =
+    subst (λ queue. ArePut old queue (IsUpperPlace P x places n)) (sym is)
+    (put_same old (with_item old (place_at places n).function) (λ f. (place_at places n).function ≡ f) (IsUpperPlace P x places n) (put_one old (place_at places n).function)
+    (λ f e. (e, subst (λ g. arity P g ≡ 2 → variable_at P g (1 - (place_at places n).place) ≤ x) e up))
+    (λ f goes. goes.0))
+
+pub lower_passed : (P : Network) (x : ℕ) (places : List Place) (n : ℕ) (queue : Waiting) → arity P (place_at places n).function ≡ 2 → x < variable_at P (place_at places n).function (1 - (place_at places n).place) → ArePut queue queue (IsUpperPlace P x places n)
+lower_passed P x places n queue two lower =
+    put_none queue (IsUpperPlace P x places n) (λ f goes. absurd (let up = subst (λ g. arity P g ≡ 2 → variable_at P g (1 - (place_at places n).place) ≤ x) (sym goes.0) goes.1 two in omega (arith, up, lower)))
+
+pub uppers_end : (P : Network) (x : ℕ) (places : List Place) (old new : Waiting) (n : ℕ) → ArePlaces P x places → length places ≤ n → n ≤ length places → ArePut old new (IsUpperAmong P x places n) → ArePut old new (IsUpper P x)
+uppers_end P x places old new n are all most put =
+    put_same old new (IsUpperAmong P x places n) (IsUpper P x) put
+    (λ f among. (let h = among.1 in let stands = are.stands among.0 (omega (arith, h, most)) in
+    subst (λ g. (arity P g ≡ 2 → variable_at P g (1 - (place_at places among.0).place) ≤ x) → IsUpper P x g) among.2.0 (λ up. ((place_at places among.0).place, stands.place, stands.is, up)) among.2.1))
+    (λ f upper. (let p : Place = record { function = f; place = upper.0 } in
+    let found = are.all p (record { function = is_function P f upper.0 upper.1; place = upper.1; is = upper.2 }) in
+    let h = found.1 in
+    (found.0, omega (arith, h, all), (ap (λ (q : Place). q.function) found.2, subst (λ (q : Place). arity P f ≡ 2 → variable_at P f (1 - q.place) ≤ x) (sym found.2) upper.3))))
 
 -- x stands at one of the first n places of f
 abbrev pub IsWithin : Network → ℕ → ℕ → ℕ → Type 0

@@ -14,34 +14,9 @@ use Rattle.cfn_model.specs.Steps.{after}
 use Rattle.cfn_store.specs.Exact.{HasNoDebts, IsExactAlong}
 use Rattle.cfn_consistency.specs.Consistency.{HasSupport}
 use Rattle.cfn_due.specs.Going.{GoesSide, GoesWithOne}
-use Rattle.cfn_due.proofs.Agreeing.{live_same, first_false}
+use Rattle.cfn_due.proofs.Agreeing.{first_false, tuple_kept}
 use Rattle.cfn_due.proofs.Falling.{takes, support_stays, support_kept}
 use Rattle.cfn_due.proofs.Staying.{extend_falls, first_debts}
-
-all_kept : (event : Event) (history : List Event) (scope tuple : List ℕ) → ((j : ℕ) → j < length scope → IsTrue (is_live history (slice_index scope j) (slice_index tuple j)) → IsTrue (is_live (event ∷ history) (slice_index scope j) (slice_index tuple j))) → IsTrue (all_live history scope tuple) → IsTrue (all_live (event ∷ history) scope tuple)
-all_kept event history [] tuple stays all = refl
-all_kept event history (x ∷ scope) [] stays all = refl
-all_kept event history (x ∷ scope) (a ∷ tuple) stays all =
-    let both = and_parts (is_live history x a) (all_live history scope tuple) all in
-    and_from (is_live (event ∷ history) x a) (all_live (event ∷ history) scope tuple) (stays 0 (omega arith) both.0)
-    (all_kept event history scope tuple (λ j l live. stays (suc j) (omega (arith, l)) live) both.1)
-
--- a tuple stays live whose value at one place does, where no other place loses values
-tuple_kept : (P : Network) (history : List Event) (event : Event) (f i a : ℕ) (tuple : List ℕ) → ((c : ℕ) → cuts event f c ≡ false) → ((j v : ℕ) → j < arity P f → (j ≡ i → ⊥) → removes event (variable_at P f j) v ≡ false) → slice_index tuple i ≡ a → IsTrue (is_live (event ∷ history) (variable_at P f i) a) → IsTrue (is_live_tuple P history f tuple) → IsTrue (is_live_tuple P (event ∷ history) f tuple)
-tuple_kept P history event f i a tuple uncut others at live was =
-    let below = nat_lt (entry_at P f tuple) P.upper in
-    let c = cell (dims_at P f) tuple in
-    let first = and_parts (all_live history (scope_at P f) tuple && below) (not (is_cut history f c)) was in
-    let second = and_parts (all_live history (scope_at P f) tuple) below first.0 in
-    and_from (all_live (event ∷ history) (scope_at P f) tuple && below) (not (is_cut (event ∷ history) f c))
-    (and_from (all_live (event ∷ history) (scope_at P f) tuple) below (all_kept event history (scope_at P f) tuple each second.0) second.1)
-    (ap (λ b. not (b || is_cut history f c)) (uncut c) ∙ first.1)
-  where
-    each : (j : ℕ) → j < arity P f → IsTrue (is_live history (variable_at P f j) (slice_index tuple j)) → IsTrue (is_live (event ∷ history) (variable_at P f j) (slice_index tuple j))
-    each j l there = elim (cases_eq j i) [
-      | inl e ↦ subst (λ k. IsTrue (is_live (event ∷ history) (variable_at P f k) (slice_index tuple k))) (sym e) (subst (λ v. IsTrue (is_live (event ∷ history) (variable_at P f i) v)) (sym at) live)
-      | inr other ↦ live_same event history (variable_at P f j) (slice_index tuple j) (others j (slice_index tuple j) l other) ∙ there
-    ]
 
 -- one support
 pub side_goes_on : (P : Network) (history : List Event) (event : Event) (f i a : ℕ) → f < length P.functions → HasNoDebts P (event ∷ history) → (GoesSide P event f i → ⊥) → IsTrue (is_live (event ∷ history) (variable_at P f i) a) → HasSupport P history f i a → HasSupport P (event ∷ history) f i a

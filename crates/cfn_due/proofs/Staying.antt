@@ -15,12 +15,13 @@ use Rattle.cfn_store.specs.Exact.{InPlace, HasNoDebts, IsExactAlong}
 use Rattle.cfn_store.proofs.CallerLemmas.{exact_here}
 use Rattle.cfn_consistency.specs.Openness.{count_below, IsActive, TakesPart, HasOpenPair}
 use Rattle.cfn_consistency.specs.Consistency.{HasFullSupport, IsArcConsistent, IsDirectional, IsFirst, IsExistential}
-use Rattle.cfn_consistency.proofs.CallerLemmas.{part_is_local, arc_is_local, directional_is_local, existential_is_local}
+use Rattle.cfn_consistency.proofs.CallerLemmas.{part_is_local, arc_is_local, existential_is_local}
 use Rattle.cfn_queue.specs.Waiting.{Waiting}
 use Rattle.cfn_due.specs.Dues.{Dues, waits, HasSizes}
-use Rattle.cfn_due.specs.Going.{IsOn, GoesArc, GoesDirected, GoesExisting, ArePut, IsNoted, GoesWithOne}
+use Rattle.cfn_due.specs.Going.{IsOn, GoesArc, GoesFull, GoesDirected, GoesExisting, ArePut, IsNoted, GoesWithOne}
 use Rattle.cfn_due.specs.Laws.{ArcGoesOn, DirectedGoesOn, ExistingGoesOn, HoldingGoesOn, HoldingGoesAlong, NothingWaitsIsFull}
-use Rattle.cfn_due.proofs.Agreeing.{MovesNothing, same_unaries, same_costs, tuple_stays, arcs_agree, directed_agree, existing_agree}
+use Rattle.cfn_due.proofs.Agreeing.{MovesNothing, same_unaries, same_costs, tuple_stays, arcs_agree, existing_agree}
+use Rattle.cfn_due.proofs.Upper.{upper_is, falls_none, directed_agrees}
 use Rattle.cfn_due.proofs.Falling.{takes, CostsFall, UnariesFall, support_stays, full_stays, free_stays}
 
 -- what an event does not add does not rise
@@ -91,14 +92,11 @@ arc_goes_on P history (Took d) f debts stays was part = arc_agrees P history (To
 arc_goes_on P history (Refused d) f debts stays was part = arc_agrees P history (Refused d) f tt stays was part
 
 -- directional arc consistency
-directed_agrees : (P : Network) (history : List Event) (event : Event) (f : ℕ) → MovesNothing event → (GoesDirected P event f → ⊥) → IsDirectional P history f → IsDirectional P (event ∷ history) f
-directed_agrees P history event f still stays was = (directional_is_local P (event ∷ history) history f (directed_agree P history event f still stays)).1 was
-
 pub directed_goes_on : DirectedGoesOn
 directed_goes_on P history (Did (Project g p b m)) f net at debts stays was =
     λ i j a pair lower place live. full_stays P history (Did (Project g p b m)) f i j a net pair.active.function pair.other.0 debts
     (λ tuple. takes ((g == f) && (slice_index tuple p == b)) m)
-    (project_falls P g p b m (variable_at P f j) (λ e. stays (j, pair.other.0, sym e)))
+    (project_falls P g p b m (variable_at P f j) (λ e. stays (upper_is P f i j (variable_at P g p) pair.one.0 pair.other.0 pair.different lower e)))
     (λ tuple l. l) (was i j a (pair_same P (Did (Project g p b m) ∷ history) history f i j (λ y c. refl) pair) lower place live)
 directed_goes_on P history (Did (Extend g p b m)) f net at debts stays was =
     λ i j a pair lower place live. full_stays P history (Did (Extend g p b m)) f i j a net pair.active.function pair.other.0 debts
@@ -110,23 +108,20 @@ directed_goes_on P history (Did (Lift x m)) f net at debts stays was =
     (λ tuple. omega (arith, ints))
     (λ c. takes (x == variable_at P f j) m)
     (λ tuple l. l) (was i j a (pair_same P (Did (Lift x m) ∷ history) history f i j (λ y c. refl) pair) lower place live)
-directed_goes_on P history (Did (CutValue x a)) f net at debts stays was = directed_agrees P history (Did (CutValue x a)) f tt stays was
-directed_goes_on P history (Did (CutTuple g c)) f net at debts stays was = directed_agrees P history (Did (CutTuple g c)) f tt stays was
-directed_goes_on P history (Took d) f net at debts stays was = directed_agrees P history (Took d) f tt stays was
-directed_goes_on P history (Refused d) f net at debts stays was = directed_agrees P history (Refused d) f tt stays was
+directed_goes_on P history (Did (CutValue x a)) f net at debts stays was = directed_agrees P history (Did (CutValue x a)) f tt net debts stays was
+directed_goes_on P history (Did (CutTuple g c)) f net at debts stays was = directed_agrees P history (Did (CutTuple g c)) f tt net debts stays was
+directed_goes_on P history (Took d) f net at debts stays was = directed_agrees P history (Took d) f tt net debts stays was
+directed_goes_on P history (Refused d) f net at debts stays was = directed_agrees P history (Refused d) f tt net debts stays was
 
 -- one full support
-falls_none : (z : ℤ) → z ≡ pos 0 → z ≤ℤ pos 0
-falls_none z e = omega (arith, ints, e)
-
-full_agrees : (P : Network) (history : List Event) (event : Event) (f i j a : ℕ) → MovesNothing event → IsNetwork P → f < length P.functions → j < arity P f → HasNoDebts P (event ∷ history) → (GoesDirected P event f → ⊥) → HasFullSupport P history f i j a → HasFullSupport P (event ∷ history) f i j a
+full_agrees : (P : Network) (history : List Event) (event : Event) (f i j a : ℕ) → MovesNothing event → IsNetwork P → f < length P.functions → j < arity P f → HasNoDebts P (event ∷ history) → (GoesFull P event f → ⊥) → HasFullSupport P history f i j a → HasFullSupport P (event ∷ history) f i j a
 full_agrees P history event f i j a still net there place debts stays has =
     full_stays P history event f i j a net there place debts
     (λ tuple. falls_none (residual_by event f tuple) (same_costs event f tuple still))
     (λ b. falls_none (unary_by P event (variable_at P f j) b) (same_unaries P event (variable_at P f j) b still))
     (λ tuple live. tuple_stays P history event f tuple still stays ∙ live) has
 
-pub full_goes_on : (P : Network) (history : List Event) (event : Event) (f i j a : ℕ) → IsNetwork P → f < length P.functions → j < arity P f → HasNoDebts P (event ∷ history) → (GoesDirected P event f → ⊥) → HasFullSupport P history f i j a → HasFullSupport P (event ∷ history) f i j a
+pub full_goes_on : (P : Network) (history : List Event) (event : Event) (f i j a : ℕ) → IsNetwork P → f < length P.functions → j < arity P f → HasNoDebts P (event ∷ history) → (GoesFull P event f → ⊥) → HasFullSupport P history f i j a → HasFullSupport P (event ∷ history) f i j a
 full_goes_on P history (Did (Project g p b m)) f i j a net there place debts stays has =
     full_stays P history (Did (Project g p b m)) f i j a net there place debts
     (λ tuple. takes ((g == f) && (slice_index tuple p == b)) m)
@@ -227,7 +222,7 @@ directed_goes_along P history (step ∷ steps) f net exact stays was =
     directed_goes_along P (Did step ∷ history) steps f net exact (λ goes. stays (inr goes))
     (directed_goes_on P history (Did step) f net (first_place P history step steps exact) (first_debts P history step steps exact) (λ goes. stays (inl goes)) was)
 
-pub full_goes_along : (P : Network) (history : List Event) (steps : List Step) (f i j a : ℕ) → IsNetwork P → f < length P.functions → j < arity P f → IsExactAlong P (after steps history) → (GoesWithOne (GoesDirected P) steps f → ⊥) → HasFullSupport P history f i j a → HasFullSupport P (after steps history) f i j a
+pub full_goes_along : (P : Network) (history : List Event) (steps : List Step) (f i j a : ℕ) → IsNetwork P → f < length P.functions → j < arity P f → IsExactAlong P (after steps history) → (GoesWithOne (GoesFull P) steps f → ⊥) → HasFullSupport P history f i j a → HasFullSupport P (after steps history) f i j a
 full_goes_along P history [] f i j a net there place exact stays has = has
 full_goes_along P history (step ∷ steps) f i j a net there place exact stays has =
     full_goes_along P (Did step ∷ history) steps f i j a net there place exact (λ goes. stays (inr goes))

@@ -1,6 +1,6 @@
 -- What an event may end. Costs of what is live are never negative on a store's path; so a support stays one where its
 -- residual cost does not rise, and a full support where neither that nor the unary cost rises.
-use Rattle.std.specs.Prelude.{◌≡◌, ℕ, ◌<◌, ◌⊎◌, true, List, [], ◌∷◌, ◌++◌}
+use Rattle.std.specs.Prelude.{◌≡◌, ℕ, ◌-◌, ◌<◌, ◌≤◌, ◌⊎◌, true, List, [], ◌∷◌, ◌++◌}
 use Rattle.cfn_model.specs.declared.step.Step.{Step}
 use Rattle.cfn_model.specs.declared.step.Step.TheVariants.{Project, Extend, Lift, CutValue, CutTuple}
 use Rattle.cfn_model.specs.declared.step.Event.{Event}
@@ -42,15 +42,30 @@ GoesSide P (Did (CutTuple g c)) f i = g ≡ f
 GoesSide P (Took d) f i = IsElsewhere P (variable_of d) f i
 GoesSide P (Refused d) f i = IsElsewhere P (variable_of d) f i
 
--- Its directional arc consistency, also where unary costs of a variable of it rise.
+-- Full supports in f may end, also where unary costs of a variable of it rise.
+abbrev pub GoesFull : Network → Event → ℕ → Type 0
+GoesFull P (Did (Project g i a m)) f = IsOn P (variable_at P g i) f
+GoesFull P (Did (Extend g i a m)) f = g ≡ f
+GoesFull P (Did (Lift x m)) f = ⊥
+GoesFull P (Did (CutValue x a)) f = IsOn P x f
+GoesFull P (Did (CutTuple g c)) f = g ≡ f
+GoesFull P (Took d) f = IsOn P (variable_of d) f
+GoesFull P (Refused d) f = IsOn P (variable_of d) f
+
+-- The variable x is in the scope of f, and where that has two variables it is the upper one.
+abbrev pub IsUpper : Network → ℕ → ℕ → Type 0
+IsUpper P x f = (i : ℕ) × (i < arity P f) × (variable_at P f i ≡ x) × (arity P f ≡ 2 → variable_at P f (1 - i) ≤ x)
+
+-- The directional arc consistency of f may end. Of a function of two variables it asks full supports of the lower one alone,
+-- and none of these ends by what the lower one loses or by its unary costs.
 abbrev pub GoesDirected : Network → Event → ℕ → Type 0
-GoesDirected P (Did (Project g i a m)) f = IsOn P (variable_at P g i) f
+GoesDirected P (Did (Project g i a m)) f = IsUpper P (variable_at P g i) f
 GoesDirected P (Did (Extend g i a m)) f = g ≡ f
 GoesDirected P (Did (Lift x m)) f = ⊥
-GoesDirected P (Did (CutValue x a)) f = IsOn P x f
+GoesDirected P (Did (CutValue x a)) f = IsUpper P x f
 GoesDirected P (Did (CutTuple g c)) f = g ≡ f
-GoesDirected P (Took d) f = IsOn P (variable_of d) f
-GoesDirected P (Refused d) f = IsOn P (variable_of d) f
+GoesDirected P (Took d) f = IsUpper P (variable_of d) f
+GoesDirected P (Refused d) f = IsUpper P (variable_of d) f
 
 -- And the existential arc consistency of y, which depends on all functions on y.
 abbrev pub GoesExisting : Network → Event → ℕ → Type 0

@@ -6,23 +6,24 @@
 //! until the unary cost of its other value rises, which it does by a project to it alone (Cooper et al., Soft arc consistency
 //! revisited, 2010). An event puts what may end so, and nothing else.
 
-ghost use Rattle.std.specs.Prelude.{◌≡◌, ℕ, ◌+◌, ◌<◌, ◌≤◌, true, false, List, [], ◌∷◌, length, take, drop, IfOk, IfSome, MatchOption};
+ghost use Rattle.std.specs.Prelude.{◌≡◌, ℕ, ◌+◌, ◌-◌, ◌<◌, ◌≤◌, true, false, not, List, [], ◌∷◌, length, take, drop, IfOk, IfSome, MatchOption};
 ghost use Rattle.cfn_model.specs.declared.step.Event.{Event as PathEvent};
 ghost use Rattle.cfn_model.specs.declared.step.Event.TheVariants.{Did};
 ghost use Rattle.cfn_model.specs.Decisions.{variable_of};
 ghost use Rattle.cfn_model.specs.Network.{Network as CostNetwork, arity, variable_at};
 ghost use Rattle.cfn_model.specs.Steps.{InRange, IsDecision, after};
 ghost use Rattle.cfn_queue.specs.Waiting.{new_queue, IsFirst};
+ghost use Rattle.cfn_incidence.specs.Places.{StandsAt};
 ghost use Rattle.cfn_store.specs.Exact.{InPlace, HasNoDebts};
 ghost use Rattle.cfn_store.specs.Standing.{history};
 ghost use Rattle.cfn_consistency.specs.Openness.{TakesPart};
 ghost use Rattle.cfn_consistency.specs.Consistency.{IsArcConsistent, IsDirectional, IsExistential, AreArcConsistent, AreDirectional, AreExistential};
-ghost use Rattle.cfn_due.specs.Dues.{emptied, without_first, rising, falling, all_due, NothingWaits, waiting, HasSizes, Holds};
-ghost use Rattle.cfn_due.specs.Going.{IsOn, IsNear, ArePut, IsNoted, AreNoted};
+ghost use Rattle.cfn_due.specs.Dues.{emptied, without_first, rising, falling, all_due, NothingWaits, waits, waiting, HasSizes, Holds};
+ghost use Rattle.cfn_due.specs.Going.{IsOn, IsUpper, IsNear, ArePut, IsNoted, AreNoted};
 ghost use Rattle.cfn_due.specs.Remembered.{IsLast};
 
 use crate::last::{Last, is_of};
-use cfn_incidence::Incidence;
+use cfn_incidence::{Incidence, Place};
 use cfn_model::{Decision, Event, Step};
 use cfn_net::Network;
 use cfn_queue::Queue;
@@ -97,6 +98,15 @@ impl Due {
         self.arcs.first().is_none()
             && self.directed.first().is_none()
             && self.existing.first().is_none()
+    }
+
+    /// Whether a function does not wait for directional arc consistency, but has it.
+    pub fn is_directed(&self, f: u32) -> bool
+        requires { f < self.now.directed.size }
+        ensures is { result ≡ not (waits self.now.directed f) }
+        ensures directed { result ≡ true → (P : CostNetwork) (history : List PathEvent) → Holds P history self.now → IsDirectional P history f }
+    {
+        !self.directed.has(f)
     }
 
     /// The function that has waited longest for arc consistency.
@@ -224,14 +234,14 @@ impl Due {
         requires variable { x < length network.now.sizes }
         requires last { IsLast network.now last.old self.old }
         ensures arcs { self.new.arcs ≡ self.old.arcs }
-        ensures directed { ArePut self.old.directed self.new.directed (IsOn network.now x) }
+        ensures directed { ArePut self.old.directed self.new.directed (IsUpper network.now x) }
         ensures existing { ArePut self.old.existing self.new.existing (IsNear network.now x) }
         ensures last { IsLast network.now last.new self.new }
     {
         if is_of(last.risen, x) {
             return;
         }
-        put_functions(network, incidence, x, &mut self.directed);
+        put_upper(network, incidence, x, &mut self.directed);
         put_near(network, incidence, x, &mut self.existing);
         last.risen = Some(x);
     }
@@ -243,7 +253,7 @@ impl Due {
         requires variable { x < length network.now.sizes }
         requires last { IsLast network.now last.old self.old }
         ensures arcs { ArePut self.old.arcs self.new.arcs (IsOn network.now x) }
-        ensures directed { ArePut self.old.directed self.new.directed (IsOn network.now x) }
+        ensures directed { ArePut self.old.directed self.new.directed (IsUpper network.now x) }
         ensures existing { ArePut self.old.existing self.new.existing (IsNear network.now x) }
         ensures last { IsLast network.now last.new self.new }
     {
@@ -321,6 +331,30 @@ fn put_functions(network: &Network, incidence: &Incidence, x: u32, queue: &mut Q
     for place in incidence.places(x) {
         queue.put(place.function);
     }
+}
+
+/// Puts each function on `x`, but not one of two variables of which `x` is the lower one.
+fn put_upper(network: &Network, incidence: &Incidence, x: u32, queue: &mut Queue)
+    requires incidence { incidence.now ≡ network.now }
+    requires variable { x < length network.now.sizes }
+    requires size { queue.old.size ≡ length network.now.functions }
+    ensures { ArePut queue.old queue.new (IsUpper network.now x) }
+{
+    for place in incidence.places(x) {
+        if may_be_upper(network, *place, x) {
+            queue.put(place.function);
+        }
+    }
+}
+
+/// Whether a place's function has another number of variables than two, or its other variable is not above `x`.
+fn may_be_upper(network: &Network, place: Place, x: u32) -> bool
+    requires { StandsAt network.now x place }
+    ensures upper { result ≡ true → arity network.now place.function ≡ 2 → variable_at network.now place.function (1 - place.place) ≤ x }
+    ensures lower { result ≡ false → (arity network.now place.function ≡ 2) × (x < variable_at network.now place.function (1 - place.place)) }
+{
+    let scope = network.scope(place.function);
+    scope.len() != 2 || scope[1 - place.place as usize] <= x
 }
 
 /// Puts `x`, and each variable in the scope of a function on `x`.

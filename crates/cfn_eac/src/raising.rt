@@ -10,6 +10,7 @@ ghost use Rattle.cfn_gain.specs.Calls.{GoesOn, Does, Shows};
 ghost use Rattle.cfn_gain.specs.Gains.{Gains};
 ghost use Rattle.cfn_eac.specs.Arms.{AreArms, AreOfFunctions, HasGood, IsGood};
 ghost use Rattle.cfn_model.specs.Steps.{IsValue};
+ghost use Rattle.cfn_due.specs.Dues.{HasSizes, Holds};
 ghost use Rattle.cfn_rest.specs.Resting.{AreSure};
 ghost use Rattle.cfn_eac.specs.Owing.{IsAsked};
 
@@ -17,6 +18,7 @@ use crate::arms::Arms;
 use crate::asking::asked;
 use crate::resting::is_at_rest;
 use cfn_dac::{Pair, full_supports};
+use cfn_due::Due;
 use cfn_gain::{Halt, Limits, lacking, level};
 use cfn_incidence::Incidence;
 use cfn_rest::Rests;
@@ -27,6 +29,7 @@ use cfn_store::Store;
 pub fn existential(
     arms: &mut Arms<'_>,
     rests: &mut Rests,
+    due: &Due,
     store: &mut Store<'_>,
     incidence: &Incidence,
     limits: Limits,
@@ -35,6 +38,8 @@ pub fn existential(
 ) -> Result<(), Halt>
     requires goes { GoesOn store.old limits }
     requires sure { AreSure store.old.network (history store.old) rests.old }
+    requires sizes { HasSizes store.old.network due.now }
+    requires holds { Holds store.old.network (history store.old) due.now }
     requires network { store.old.network ≡ arms.old.network }
     requires incidence { incidence.now ≡ arms.old.network }
     requires variable { x < length store.old.network.sizes }
@@ -49,7 +54,7 @@ pub fn existential(
     ensures same { length moves.new ≡ length moves.old }
 {
     store.network().limits();
-    if is_at_rest(rests, store, incidence, x) {
+    if is_at_rest(rests, due, store, incidence, x) {
         arms.clear();
         return Ok(());
     }

@@ -4,13 +4,13 @@ use Rattle.std.proofs.lemmas.Bool.{cases_eq}
 use Rattle.std.proofs.lemmas.List.{length-append, length-drop, length-take-le}
 use Rattle.std.specs.Prelude.{Result, Ok, Err, OnOk, is_err, false}
 use Rattle.cfn_model.specs.declared.step.Event.{Event}
-use Rattle.cfn_model.specs.Network.{Network, variable_at}
+use Rattle.cfn_model.specs.Network.{Network}
 use Rattle.cfn_consistency.specs.Consistency.{IsNodeConsistent}
 use Rattle.cfn_store.specs.Standing.{Standing, history}
 use Rattle.cfn_gain.specs.declared.limits.Limits.{Limits}
 use Rattle.cfn_gain.specs.declared.limits.Halt.{Halt}
 use Rattle.cfn_gain.specs.Calls.{Does, Passing, IsUnchanged}
-use Rattle.cfn_gain.specs.Levels.{AreBelow, IsLevel}
+use Rattle.cfn_gain.specs.Levels.{IsLevel}
 use Rattle.cfn_gain.proofs.CallerLemmas.{passing_adds}
 
 -- a fact of each number below n
@@ -48,10 +48,6 @@ all_level P history k n h each = record {
   below = λ x a value live. (let there = value.variable in (each x (omega (arith, h, there))).below a value live);
   free = λ x there. (each x (omega (arith, h, there))).free;
 }
-
--- Each place's variable is below.
-abbrev pub BelowAt : ℕ → ℕ → Network → List Event → ℕ → Type 0
-BelowAt k f P history i = AreBelow P history k (variable_at P f i)
 
 -- a result that is no error
 pub ok_does : (before now : Standing) (limits : Limits) (result : Result (Unit {0}) Halt) → is_err result ≡ false → Does before now limits result → Does before now limits (Ok tt)

@@ -7,10 +7,9 @@ ghost use Rattle.cfn_consistency.specs.Consistency.{IsNodeConsistent, IsArcConsi
 ghost use Rattle.cfn_store.specs.Standing.{history};
 ghost use Rattle.cfn_gain.specs.Calls.{GoesOn, Does, Shows};
 ghost use Rattle.cfn_gain.specs.Gains.{Gains};
-ghost use Rattle.cfn_dac.specs.Full.{AreAllBelow};
 ghost use Rattle.cfn_rest.specs.Siding.{HasSupports, AreSupported};
 
-use cfn_dac::{directional, open_pair, takes_part};
+use cfn_dac::takes_part;
 use cfn_gain::{Halt, Limits, level, support_all, support_at};
 use cfn_rest::Sides;
 use cfn_store::Store;
@@ -98,35 +97,12 @@ fn support_side(
     }
 }
 
-/// Where two variables of a function are open, makes its variables level, and then the function directional.
-pub(crate) fn direct(
-    store: &mut Store<'_>,
-    limits: Limits,
-    f: u32,
-    moves: &mut [u64],
-) -> Result<(), Halt>
-    requires goes { GoesOn store.old limits }
-    requires function { f < length store.old.network.functions }
-    requires moves { (x : ℕ) → x < length store.old.network.sizes → slice_index store.old.network.sizes x ≤ length moves.old }
-    ensures does { Does store.old store.new limits result }
-    ensures gains { Gains store.old store.new limits result }
-    ensures directed { Shows store.old store.new result (IsDirectional store.old.network (history store.old) f) }
-    ensures same { length moves.new ≡ length moves.old }
-{
-    let Some(_) = open_pair(store, f) else {
-        return Ok(());
-    };
-    levels_of(store, limits, f)?;
-    directional(store, limits, f, moves)
-}
-
 /// Makes the variables of a function level.
 fn levels_of(store: &mut Store<'_>, limits: Limits, f: u32) -> Result<(), Halt>
     requires goes { GoesOn store.old limits }
     requires function { f < length store.old.network.functions }
     ensures does { Does store.old store.new limits result }
     ensures gains { Gains store.old store.new limits result }
-    ensures below { Shows store.old store.new result (AreAllBelow store.old.network (history store.old) limits.threshold f) }
 {
     let network = store.network();
     network.limits();

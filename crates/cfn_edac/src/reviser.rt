@@ -21,7 +21,8 @@ ghost use Rattle.cfn_rest.specs.Siding.{AreSupported};
 ghost use Rattle.cfn_edac.specs.Revising.{HoldsIn, IsSureIn, IsKnownIn, IsRevised, IsRunOut};
 ghost use Rattle.cfn_edac.specs.Settling.{IsBehindSettled};
 
-use crate::looks::{arc, direct, levels};
+use crate::looks::{arc, levels};
+use cfn_dac::directional;
 use cfn_due::Due;
 use cfn_eac::{Arms, cheapest, existential};
 use cfn_gain::{Halt, Limits};
@@ -291,6 +292,7 @@ impl<'n> Reviser<'n> {
         let result = existential(
             &mut self.arms,
             &mut self.rests,
+            &self.due,
             store,
             incidence,
             limits,
@@ -335,7 +337,7 @@ impl<'n> Reviser<'n> {
         self.network.limits();
         let before = store.block_len();
         self.blamed = Some(f);
-        direct(store, limits, f, &mut self.moves)?;
+        directional(store, limits, f, &mut self.moves)?;
         if store.block_len() > before {
             self.note_steps(incidence, store, before);
         } else {

@@ -1,7 +1,7 @@
 //! Numbers that wait.
 
 ghost use Rattle.std.specs.Prelude.{◌≡◌, ◌<◌, [], ◌∷◌, IfOk, IfSome, MatchOption};
-ghost use Rattle.cfn_queue.specs.Waiting.{new_queue, with_item, IsFirst, NoRepeats, AreBelow};
+ghost use Rattle.cfn_queue.specs.Waiting.{new_queue, with_item, is_in, IsFirst, NoRepeats, AreBelow};
 
 use std::alloc::{AllocError, Global};
 use std::collections::VecDeque;
@@ -52,6 +52,14 @@ impl Queue {
     {
         self.kept();
         self.items.front().copied()
+    }
+
+    /// Whether a number waits.
+    pub fn has(&self, number: u32) -> bool
+        requires { number < self.now.size }
+        ensures { result ≡ is_in number self.now.items }
+    {
+        self.waits[number as usize]
     }
 
     /// Puts a number behind those that wait. Where it waits already all stays as it was.

@@ -12,7 +12,7 @@ use Rattle.cfn_consistency.specs.Consistency.{HasFullSupport}
 use Rattle.cfn_incidence.specs.declared.incidence.Place.{Place}
 use Rattle.cfn_incidence.specs.Places.{ArePlaces, place_at}
 use Rattle.cfn_store.specs.Exact.{IsExactAlong}
-use Rattle.cfn_due.specs.Going.{IsOn, GoesDirected, GoesWithOne}
+use Rattle.cfn_due.specs.Going.{IsOn, GoesFull, GoesWithOne}
 use Rattle.cfn_due.proofs.CallerLemmas.{full_goes_along, goes_split, after_joined, is_function}
 use Rattle.cfn_rest.specs.Marking.{is_marked, IsElseSame}
 use Rattle.cfn_rest.specs.Resting.{Resting, is_sure, Rests, AreSure, AreDoubted}
@@ -114,7 +114,7 @@ doubted_sure P history old new Goes doubts sure = record { rests = each }
         record { two = was.two; full = subst (λ values. HasFullSupport P history f i (1 - i) (slice_index values (variable_at P f i))) (sym doubts.values) was.full }
 
 -- what no step of a block put in doubt stays so behind it
-pub sure_along : (P : Network) (block : List Step) (base : List Event) (start : ℕ) (old new : Resting) → IsNetwork P → IsExactAlong P (after block base) → AreDoubted old new (GoesWithOne (GoesDirected P) (drop start block)) → AreSure P (after (take start block) base) old → AreSure P (after block base) new
+pub sure_along : (P : Network) (block : List Step) (base : List Event) (start : ℕ) (old new : Resting) → IsNetwork P → IsExactAlong P (after block base) → AreDoubted old new (GoesWithOne (GoesFull P) (drop start block)) → AreSure P (after (take start block) base) old → AreSure P (after block base) new
 sure_along P block base start old new net exact doubts sure = record { rests = each }
   where
     each : (f i : ℕ) → i < 2 → IsTrue (is_sure new f i) → Rests P (after block base) new f i
@@ -132,10 +132,10 @@ sure_along P block base start old new net exact doubts sure = record { rests = e
         }
 
 -- along the steps of a block, one after another
-pub steps_none : (P : Network) (r : Resting) (steps : List Step) (n : ℕ) → n ≡ 0 → AreDoubted r r (GoesWithOne (GoesDirected P) (take n steps))
-steps_none P r steps n none = subst (λ m. AreDoubted r r (GoesWithOne (GoesDirected P) (take m steps))) (sym none) (doubted_none r (GoesWithOne (GoesDirected P) []) (λ f i l goes sure. goes))
+pub steps_none : (P : Network) (r : Resting) (steps : List Step) (n : ℕ) → n ≡ 0 → AreDoubted r r (GoesWithOne (GoesFull P) (take n steps))
+steps_none P r steps n none = subst (λ m. AreDoubted r r (GoesWithOne (GoesFull P) (take m steps))) (sym none) (doubted_none r (GoesWithOne (GoesFull P) []) (λ f i l goes sure. goes))
 
-pub steps_more : (P : Network) (block : List Step) (start i : ℕ) (step : Step) (old middle new : Resting) → start ≤ i → i < length block → slice_index_or block i step ≡ step → AreDoubted old middle (GoesWithOne (GoesDirected P) (take (i - start) (drop start block))) → AreDoubted middle new (GoesDirected P (Did step)) → AreDoubted old new (GoesWithOne (GoesDirected P) (take (i + 1 - start) (drop start block)))
+pub steps_more : (P : Network) (block : List Step) (start i : ℕ) (step : Step) (old middle new : Resting) → start ≤ i → i < length block → slice_index_or block i step ≡ step → AreDoubted old middle (GoesWithOne (GoesFull P) (take (i - start) (drop start block))) → AreDoubted middle new (GoesFull P (Did step)) → AreDoubted old new (GoesWithOne (GoesFull P) (take (i + 1 - start) (drop start block)))
 steps_more P block start i step old middle new from there is first second =
     let n = i - start in
     let more : n + 1 ≡ i + 1 - start = omega (arith, from) in
@@ -144,7 +144,7 @@ steps_more P block start i step old middle new from there is first second =
     let at : slice_index_or (drop start block) n step ≡ step = get_or-drop start block n step ∙ ap (λ j. slice_index_or block j step) back ∙ is in
     let all : take (n + 1) (drop start block) ≡ take n (drop start block) ++ step ∷ [] =
     take_more (drop start block) n step (omega (arith, there, from, long)) ∙ ap (λ s. take n (drop start block) ++ s ∷ []) at in
-    subst (λ m. AreDoubted old new (GoesWithOne (GoesDirected P) (take m (drop start block)))) more
-    (subst (λ steps. AreDoubted old new (GoesWithOne (GoesDirected P) steps)) (sym all)
-    (doubted_then old middle new (GoesWithOne (GoesDirected P) (take n (drop start block))) (GoesDirected P (Did step)) (GoesWithOne (GoesDirected P) (take n (drop start block) ++ step ∷ [])) first second
-    (λ f goes. goes_split (GoesDirected P) (take n (drop start block)) step f goes)))
+    subst (λ m. AreDoubted old new (GoesWithOne (GoesFull P) (take m (drop start block)))) more
+    (subst (λ steps. AreDoubted old new (GoesWithOne (GoesFull P) steps)) (sym all)
+    (doubted_then old middle new (GoesWithOne (GoesFull P) (take n (drop start block))) (GoesFull P (Did step)) (GoesWithOne (GoesFull P) (take n (drop start block) ++ step ∷ [])) first second
+    (λ f goes. goes_split (GoesFull P) (take n (drop start block)) step f goes)))

@@ -11,7 +11,7 @@ ghost use Rattle.cfn_model.specs.Network.{Network as CostNetwork, arity, variabl
 ghost use Rattle.cfn_model.specs.Steps.{InRange, after};
 ghost use Rattle.cfn_consistency.specs.Consistency.{HasFullSupport};
 ghost use Rattle.cfn_store.specs.Standing.{history};
-ghost use Rattle.cfn_due.specs.Going.{IsOn, GoesDirected};
+ghost use Rattle.cfn_due.specs.Going.{IsOn, GoesFull};
 ghost use Rattle.cfn_rest.specs.Resting.{is_sure, AreSure, AreDoubted, IsDoubted};
 
 use crate::marks::{Marks, number_of};
@@ -126,7 +126,7 @@ impl Rests {
         requires incidence { incidence.now ≡ network.now }
         requires range { InRange network.now step }
         requires last { IfSome last.old (IsDoubted network.now self.old) }
-        ensures doubted { AreDoubted self.old self.new (GoesDirected network.now (Did step)) }
+        ensures doubted { AreDoubted self.old self.new (GoesFull network.now (Did step)) }
         ensures last { IfSome last.new (IsDoubted network.now self.new) }
     {
         network.limits();

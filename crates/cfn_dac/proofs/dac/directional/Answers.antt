@@ -1,9 +1,9 @@
-use Rattle.std.proofs.Common.{ap, ◌∙◌, subst}
+use Rattle.std.proofs.Common.{sym, ap, ◌∙◌, subst}
 use Rattle.std.specs.Prelude.{slice_index}
 use Rattle.cfn_model.specs.Network.{IsNetwork, variable_at}
 use Rattle.cfn_store.specs.Standing.{history}
-use Rattle.cfn_gain.proofs.CallerLemmas.{does_then, shows_then}
-use Rattle.cfn_dac.proofs.Directing.{full_is_directional}
+use Rattle.cfn_gain.proofs.CallerLemmas.{does_then, shows_after}
+use Rattle.cfn_dac.proofs.Directing.{full_is_directional, below_at}
 use Rattle.cfn_dac.proofs.Ending.{gains_lacking, gains_closed}
 use Rattle.cfn_dac.proofs.dac.directional.Goals as goal
 
@@ -23,6 +23,8 @@ returns-clause-gains c =
 
 pub returns-clause-directional : goal.returns-clause-directional
 returns-clause-directional c =
-    let s = c.args.store.now in let ok = c.in_ok-full_supports.ensures in
-    shows_then s c.full_supports.new.store c.cut_costly.new.store c.args.limits c.cut_costly.result ok.does.adds c.cut_costly.ensures.does.adds
-    (λ same. full_is_directional s.network (history s) c.args.limits.threshold c.lacking-lacks.result c.args.f c.in-Some.pair (subst IsNetwork c.network.ensures c.limits.ensures) c.lacking-lacks.ensures c.in-Some.ensures (ok.full same))
+    let s = c.args.store.now in let k = c.args.limits.threshold in let f = c.args.f in let pair = c.in-Some.pair in let ok = c.in_ok-full_supports.ensures in
+    let at = ap (λ l. slice_index l pair.place) c.scope.ensures ∙ ap (λ P. variable_at P f pair.place) (c.network-2.ensures ∙ ok.does.adds.network) ∙ ap (λ g. variable_at s.network g pair.place) (sym c.in-Some.ensures.function) in
+    shows_after s c.full_supports.new.store c.cut_costly.new.store c.args.limits c.cut_costly.result ok.does.adds c.cut_costly.ensures.does.adds ok.full c.cut_costly.ensures.below
+    (λ is full below. full_is_directional s.network (history s) k c.lacking-lacks.result f pair (subst IsNetwork c.network.ensures c.limits.ensures) c.lacking-lacks.ensures c.in-Some.ensures full
+    (below_at s c.full_supports.new.store k _ _ is at below))

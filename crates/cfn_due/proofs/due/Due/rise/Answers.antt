@@ -6,9 +6,9 @@ use Rattle.cfn_due.proofs.due.Due.rise.Goals as goal
 
 pub returns-clause-last : goal.returns-clause-last
 returns-clause-last c =
-    let directed = c.put_functions.ensures in
+    let directed = c.put_upper.ensures in
     let existing = c.put_near.ensures in
-    let now : Dues = record { arcs = c.self.inside.arcs; directed = c.put_functions.new.queue; existing = c.put_near.new.queue } in
+    let now : Dues = record { arcs = c.self.inside.arcs; directed = c.put_upper.new.queue; existing = c.put_near.new.queue } in
     let was = last_stays c.args.network.now c.args.last.now (record { arcs = c.self.inside.arcs; directed = c.self.inside.directed; existing = c.self.inside.existing }) now _ _ _ (none_goes c.self.inside.arcs) directed existing
     (subst (IsLast c.args.network.now c.args.last.now) (sym c.self.view_is) c.requires.last) in
     record { risen = (directed.put, existing.put); lost = was.lost; changed = was.changed }

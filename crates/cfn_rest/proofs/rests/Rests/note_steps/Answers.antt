@@ -6,7 +6,7 @@ use Rattle.cfn_model.specs.Network.{IsNetwork}
 use Rattle.cfn_model.specs.Steps.{InRange}
 use Rattle.cfn_store.proofs.CallerLemmas.{exact_here}
 use Rattle.cfn_store.specs.Standing.{history}
-use Rattle.cfn_due.specs.Going.{GoesDirected, GoesWithOne}
+use Rattle.cfn_due.specs.Going.{GoesFull, GoesWithOne}
 use Rattle.cfn_due.proofs.CallerLemmas.{step_in_range}
 use Rattle.cfn_rest.specs.Resting.{AreDoubted, IsDoubted}
 use Rattle.cfn_rest.proofs.Doubting.{steps_none, steps_more, sure_along}
@@ -35,7 +35,7 @@ loop-i-preserved c =
     let there = c.loop-i-test.true in
     record {
       doubted = steps_more s.network s.block c.args.start c.loop-i.i c.step.result c.args.self.now c.loop-i.self c.note_step.new.self c.loop-i.auto.i (omega (arith, there, c.block_len-i-end.ensures)) (c.step.ensures c.step.result)
-          c.loop-i.invariant.doubted (subst (λ P. AreDoubted c.loop-i.self c.note_step.new.self (GoesDirected P (Did c.step.result))) c.network-network.ensures c.note_step.ensures.doubted);
+          c.loop-i.invariant.doubted (subst (λ P. AreDoubted c.loop-i.self c.note_step.new.self (GoesFull P (Did c.step.result))) c.network-network.ensures c.note_step.ensures.doubted);
       last = subst (λ P. IfSome c.note_step.new.last (IsDoubted P c.note_step.new.self)) c.network-network.ensures c.note_step.ensures.last;
     }
 
@@ -45,4 +45,4 @@ returns c = λ sure.
     let long = length-drop c.args.start s.block in
     let all = take_all (c.loop-i.i - c.args.start) (drop c.args.start s.block) (omega (arith, long, c.loop-i-test.false, c.block_len-i-end.ensures)) in
     sure_along s.network s.block s.base c.args.start c.args.self.now c.loop-i.self (subst IsNetwork c.network-network.ensures c.limits.ensures) c.exact.ensures
-    (subst (λ steps. AreDoubted c.args.self.now c.loop-i.self (GoesWithOne (GoesDirected s.network) steps)) all c.loop-i.invariant.doubted) sure
+    (subst (λ steps. AreDoubted c.args.self.now c.loop-i.self (GoesWithOne (GoesFull s.network) steps)) all c.loop-i.invariant.doubted) sure
