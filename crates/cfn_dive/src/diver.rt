@@ -8,7 +8,7 @@ use crate::growing::Grown;
 use crate::parts::Parts;
 use cfn_branch::Rule;
 use cfn_low::{Holder, Incumbent, Low};
-use cfn_net::Network;
+use cfn_net::{Network, Tables};
 use cfn_task::{Piece, Task};
 use std::alloc::{AllocError, Global};
 use std::marker::Model;
@@ -39,11 +39,18 @@ pub enum Dived {
 }
 
 impl<'n> Diver<'n> {
-    /// For the tasks of a network, whose splits `rule` names. An `Err` is want of memory.
-    pub fn make(alloc: Global, network: &'n Network, rule: Rule) -> Result<Diver<'n>, AllocError>
+    /// For the tasks of a network, whose tables other divers may have too, and whose splits `rule` names. An `Err` is want of
+    /// memory.
+    pub fn make(
+        alloc: Global,
+        network: &'n Network,
+        tables: &'n Tables,
+        rule: Rule,
+    ) -> Result<Diver<'n>, AllocError>
+        requires { tables.now ≡ network.now }
         ensures { IfOk result (λ diver. diver ≡ network.now) }
     {
-        let parts = Parts::make(alloc, network, rule)?;
+        let parts = Parts::make(alloc, network, tables, rule)?;
         Ok(Diver { parts })
     }
 

@@ -7,7 +7,7 @@ use cfn_branch::{Rule, Weights};
 use cfn_edac::Enforcer;
 use cfn_incidence::Incidence;
 use cfn_model::Decision;
-use cfn_net::{Network, Scored};
+use cfn_net::{Network, Scored, Tables};
 use cfn_node::step_limit;
 use cfn_proof::NodeId;
 use cfn_store::{Mark, Store};
@@ -48,12 +48,18 @@ pub struct Parts<'n> {
 }
 
 impl<'n> Parts<'n> {
-    /// The parts for a network, with the store at its root. An `Err` is want of memory.
-    pub fn make(alloc: Global, network: &'n Network, rule: Rule) -> Result<Parts<'n>, AllocError>
+    /// The parts for a network and its tables, with the store at its root. An `Err` is want of memory.
+    pub fn make(
+        alloc: Global,
+        network: &'n Network,
+        tables: &'n Tables,
+        rule: Rule,
+    ) -> Result<Parts<'n>, AllocError>
+        requires { tables.now ≡ network.now }
         ensures of { IfOk result (IsOf network.now) }
         ensures rule { IfOk result (λ made. made.rule ≡ rule) }
     {
-        let store = Store::build(alloc, network)?;
+        let store = Store::over(alloc, network, tables)?;
         let (enforcer, trimmer) = helpers(alloc, network)?;
         let (weights, incidence) = branching(alloc, network)?;
         let (values, offer) = buffers(alloc, network)?;

@@ -6,7 +6,7 @@ ghost use Rattle.cfn_task.specs.Values.{IsTaskOf};
 use cfn_branch::Rule;
 use cfn_dive::{Dived, Diver};
 use cfn_low::{Holder, Incumbent, Low, Unnamed};
-use cfn_net::{Builder, Network, Scored};
+use cfn_net::{Builder, Network, Scored, Tables};
 use cfn_pool::{Pool, Taken};
 use cfn_proof::{End, NodeId, Tree};
 use cfn_task::{Piece, Task};
@@ -141,7 +141,8 @@ fn dive_in_tri(alloc: Global, backtracks: u64) -> Result<Option<Made>, AllocErro
     let network = tri(alloc)?;
     let unnamed = Unnamed::make(alloc, &network)?;
     let empty = Scored::empty(alloc, &network)?;
-    let mut diver = Diver::make(alloc, &network, Rule::Degrees)?;
+    let tables = Tables::expand(alloc, &network)?;
+    let mut diver = Diver::make(alloc, &network, &tables, Rule::Degrees)?;
     dive::<Brand>(alloc, &network, &mut diver, unnamed, empty, backtracks)
 }
 

@@ -15,6 +15,3 @@ mod rule;
 pub use holder::{Holder, Note};
 pub use low::{Low, Unnamed};
 pub use rule::Incumbent;
-
-#[cfg(test)]
-mod tests;

@@ -3,7 +3,7 @@ use Rattle.std.proofs.Common.{◌≡◌, ℕ, ◌-◌, ◌<◌, List, [], ◌∷
 use Rattle.std.specs.List.{AllByRecursion}
 use Rattle.crossbeam_deque.specs.Tasks.{Pushes, Takes, Forks, Merges, Learns, Finds}
 use Rattle.cfn_rota.specs.declared.rule.Tally.{Tally}
-use Rattle.cfn_rota.specs.Balances.{weigh, total, tally, pushed, taken, joined, KnowsWhole, Balanced}
+use Rattle.cfn_rota.specs.Balances.{weigh, total, tally, pushed, taken, joined, KnowsMost, KnowsWhole, Balanced}
 use Rattle.cfn_rota.proofs.Tallies.{weigh_append, total_set, total_more, one_totals, idle_set, idle_more}
 
 module _ {T : Type 0} (F : T → Type 0) where
@@ -34,7 +34,7 @@ module _ {T : Type 0} (F : T → Type 0) where
     refl,
   )
 
-  pub takes : (port : ℕ) (v : Tally T) → 0 < v.parts → Takes (Balanced F) port v 1 (λ xs w. (w ≡ taken v xs) × AllByRecursion F xs)
+  pub takes : (port : ℕ) (v : Tally T) → 0 < v.parts → Takes (Balanced F) port v 1 (λ xs w. (w ≡ taken v xs) × AllByRecursion F xs × KnowsMost w)
   takes port v some_part xs items views any few b at = let w = taken v xs in (
     w,
     record {
@@ -46,7 +46,15 @@ module _ {T : Type 0} (F : T → Type 0) where
       idle = idle_set views port w (λ none. absurd (omega (arith, none, some_part))) b.idle;
       fits = right xs items b.fits;
     },
-    (refl, left xs items b.fits),
+    (
+      refl,
+      left xs items b.fits,
+      λ all h.
+          let one : total (λ y. y.parts) views ≡ v.parts = b.parts ∙ sym all in
+          let s = one_totals (λ y. weigh h y.pushed) views port v (λ j y is none. ap (weigh h) (b.idle j y is none).0) at one in
+          let t = one_totals (λ y. weigh h y.taken) views port v (λ j y is none. ap (weigh h) (b.idle j y is none).1) at one in
+          omega (arith, s, t, b.weights h, weigh_append h v.taken xs, weigh_append h xs items),
+    ),
   )
 
   pub forks : (port : ℕ) (v : Tally T) → 1 < v.parts → Forks (Balanced F) port v (tally (v.parts - 1) v.pushed v.taken) (tally 1 [] [])

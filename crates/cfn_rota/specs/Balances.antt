@@ -1,5 +1,5 @@
 -- What the ends of a lane have pushed and taken.
-use Rattle.std.specs.Prelude.{◌≡◌, ℕ, ◌+◌, List, [], ◌∷◌, ◌++◌}
+use Rattle.std.specs.Prelude.{◌≡◌, ℕ, ◌+◌, ◌≤◌, List, [], ◌∷◌, ◌++◌}
 use Rattle.std.specs.List.{AllByRecursion}
 use mathlib.Core.Option.{some}
 use lib.ListN.{get_elem?}
@@ -31,6 +31,14 @@ module _ {T : Type 0} where
   -- However tasks are weighed, what was pushed weighs what was taken and what is left.
   abbrev pub AreWhole : List T → List T → List T → Type 0
   AreWhole pushed taken left = (h : T → ℕ) → weigh h pushed ≡ weigh h taken + weigh h left
+
+  -- However tasks are weighed, what was taken weighs no more than what was pushed.
+  abbrev pub AreWithin : List T → List T → Type 0
+  AreWithin taken pushed = (h : T → ℕ) → weigh h taken ≤ weigh h pushed
+
+  -- The end that has all parts knows that no more was taken than pushed.
+  abbrev pub KnowsMost : Tally T → Type 0
+  KnowsMost v = v.parts ≡ 128 → AreWithin v.taken v.pushed
 
   -- The end that has all parts knows all that was pushed and taken.
   abbrev pub KnowsWhole : Tally T → List T → Type 0

@@ -2,7 +2,7 @@
 
 ghost use Rattle.std.specs.Prelude.{◌≡◌, ◌+◌, ◌-◌, ◌<◌, ◌≤◌, [], ◌∷◌, ◌++◌, List, length, IfOk, IfErr, OnErr, MatchOption};
 ghost use Rattle.std.specs.List.{AllByRecursion};
-ghost use Rattle.cfn_rota.specs.Balances.{AreWhole};
+ghost use Rattle.cfn_rota.specs.Balances.{AreWhole, AreWithin};
 ghost use Rattle.cfn_rota.specs.Values.{IsNew};
 
 use crate::rule::{Balance, Counting, Kind, Parting, Pushing, Taking, Tally};
@@ -70,11 +70,12 @@ impl<T: Drop, K: Kind<T>> Lane<T, K> {
     }
 
     /// Takes the task that was pushed first of those that are left. `None` comes only where the lane was empty at one moment:
-    /// where this end has all parts, it has taken all that was pushed. It takes no memory.
+    /// where this end has all parts, it has taken all that was pushed. Where it has all parts and takes a task, it has taken no
+    /// more than was pushed. It takes no memory.
     pub fn pop(&mut self) -> Option<T>
         ensures { MatchOption result
             ((self.new ≡ self.old) × (self.old.parts ≡ 128 → AreWhole self.old.pushed self.old.taken []))
-            (λ task. (self.new ≡ record self.old { taken = self.old.taken ++ task ∷ [] }) × K.fits task) }
+            (λ task. (self.new ≡ record self.old { taken = self.old.taken ++ task ∷ [] }) × K.fits task × (self.old.parts ≡ 128 → AreWithin self.new.taken self.old.pushed)) }
     {
         self.owner.pop_as::<Taking<K>>()
     }

@@ -53,9 +53,9 @@ pub(crate) struct Taking<K> {
 impl<T, K: Kind<T>> Outcome<T, Tally<T>> for Taking<K> {
     ghost use Rattle.std.specs.Prelude.{◌≡◌, []};
     ghost use Rattle.std.specs.List.{AllByRecursion};
-    ghost use Rattle.cfn_rota.specs.Balances.{taken, KnowsWhole};
+    ghost use Rattle.cfn_rota.specs.Balances.{taken, KnowsMost, KnowsWhole};
 
-    ghost then = { λ v xs w. (w ≡ taken v xs) × AllByRecursion K.fits xs };
+    ghost then = { λ v xs w. (w ≡ taken v xs) × AllByRecursion K.fits xs × KnowsMost w };
 
     ghost empty = { λ v. KnowsWhole v [] };
 }

@@ -1,15 +1,19 @@
 -- What holds of the pool of a search.
-use Rattle.std.specs.Prelude.{◌≡◌, ◌≢◌, ℕ, ◌<◌, ◌≤◌, List, [], ◌∷◌}
+use Rattle.std.specs.Prelude.{◌≡◌, ◌≢◌, ℕ, ◌<◌, ◌≤◌, ◌⊎◌, Bool, List, [], ◌∷◌}
 use Rattle.cfn_model.specs.declared.report.Row.{Row}
 use Rattle.cfn_model.specs.Network.{Network}
 use Rattle.cfn_model.specs.Tree.{OpenBelow}
 use Rattle.cfn_proof.specs.Outcome.{opening}
 use Rattle.cfn_proof.specs.declared.outcome.Stop.{Stop}
 use Rattle.cfn_proof.specs.declared.outcome.Stop.TheVariants.{Done, Budget, Memory}
-use Rattle.cfn_leaves.specs.declared.taking.Taken.{Taken}
-use Rattle.cfn_leaves.specs.declared.taking.Taken.TheVariants as taken
-use Rattle.cfn_machine.specs.Pool.{Pool, tree_of, price}
+use Rattle.cfn_task.specs.Values.{TaskValue, PieceValue}
+use Rattle.cfn_dive.specs.Making.{IsPieceOf}
+use Rattle.cfn_machine.specs.Pool.{Pool, Task, tree_of, price}
+use Rattle.cfn_machine.specs.Steps.{PoolReturns, IsNotOut}
+use Rattle.cfn_pool.specs.Views.{Held, pool}
 use Rattle.cfn_machine.specs.Word.{all_shares}
+use Rattle.cfn_search.specs.declared.steps.Asked.{Asked}
+use Rattle.cfn_search.specs.declared.steps.Asked.TheVariants as asked
 
 -- It began with one open leaf, and its rows begin with the opening's.
 pub record IsSearch (P : Network) (pool : Pool) : Type 0 where
@@ -41,9 +45,16 @@ pub record HasMore (old new : Pool) : Type 0 where
   pub within : new.nodes ≤ new.budget
 
 -- A task that is handed out is of the network.
-abbrev pub IsTaskFor : Network → Taken → Type 0
-IsTaskFor P (taken.Given task) = task.network ≡ P
-IsTaskFor P taken.Empty = Unit {0}
-IsTaskFor P taken.Spent = Unit {0}
-IsTaskFor P taken.Again = Unit {0}
-IsTaskFor P taken.Memory = Unit {0}
+abbrev pub IsTaskFor : Network → Asked → Type 0
+IsTaskFor P (asked.Task task) = task.network ≡ P
+IsTaskFor P asked.Later = Unit {0}
+IsTaskFor P asked.Over = Unit {0}
+
+-- A piece is made of a task at a threshold, by a dive that ended as dives do.
+pub record IsMadeOf (task : TaskValue) (granted k : ℕ) (piece : PieceValue) : Type 0 where
+  pub cut : Bool
+  pub piece_is : IsPieceOf task granted k piece cut
+
+-- A task's leaf is free again; or it was not out as the task says, and nothing changes.
+abbrev pub IsReturned : Held → Task → Held → Type 0
+IsReturned old task new = PoolReturns (pool old) task (pool new) ⊎ ((new ≡ old) × IsNotOut (pool old) task)

@@ -3,18 +3,19 @@
 ghost use Rattle.std.specs.Prelude.{◌≡◌, ◌+◌, ◌≤◌, IfSome};
 ghost use Rattle.cfn_machine.specs.Word.{all_shares};
 ghost use Rattle.cfn_pool.specs.Views.{pool};
+ghost use Rattle.cfn_rota.specs.Values.{access};
 ghost use Rattle.cfn_search.specs.Searching.{IsSearch};
 ghost use Rattle.cfn_search.specs.Granting.{IsLimit};
 ghost use Rattle.cfn_search.specs.Boards.{IsBoard, IsOffered};
 
-use crate::errands::Own;
+use crate::errands::Errands;
 use crate::grants::wanted;
+use crate::hand::{InHand, Made};
 use crate::search::hand_in;
-use crate::steps::{back, take};
+use crate::steps::{Asked, take};
 use cfn_low::{Holder, Incumbent, Low};
 use cfn_net::Network;
-use cfn_pool::{Pool, Taken};
-use cfn_task::{Piece, Task};
+use cfn_pool::Pool;
 use std::marker::{Brand, Model};
 
 /// Which search it is: how many nodes may be made, and how many shares of the word its workers have. No value of it is made.
@@ -43,8 +44,7 @@ pub(crate) struct Board<M: Incumbent + Squad> {
     held: Pool<M>,
     /// How often it changed so that there may be a leaf to take, modulo 2^64.
     changes: u64,
-    /// Whether memory was refused for a piece. Its leaf stays out, and no worker may wait for it: no leaf is handed out any
-    /// more.
+    /// Whether memory was refused for a piece. Then no leaf is handed out any more.
     stopped: bool,
 }
 
@@ -59,10 +59,9 @@ impl<M: Incumbent + Squad> Model for Board<M> {
 }
 
 /// The answer to a worker that asks for a leaf.
-#[derive(Drop)]
 pub(crate) enum Offer {
-    /// A task, and whether others were pushed to the worker's lane.
-    Task { task: Task, more: bool },
+    /// A task, and whether others were laid in the worker's lane.
+    Task { task: InHand, more: bool },
     /// None now: the count of changes is this.
     Later { changes: u64 },
     /// None any more, or no memory for a leaf's path.
@@ -106,40 +105,43 @@ impl<M: Incumbent + Squad> Board<M> {
         worker: u32,
         known: bool,
         limit: u64,
-        lane: &mut Own<M>,
+        errands: &mut Errands<M>,
     ) -> Offer
         requires own { network.now ≡ M.network }
         requires limit { IsLimit limit }
-        ensures { IsOffered M.network result }
+        ensures offer { IsOffered M.network result }
+        ensures same { access errands.new ≡ access errands.old }
     {
         if self.stopped {
             return Offer::Over;
         }
         let want = wanted(self.held.nodes() == 0, known, limit, network.variables());
         match take(network, &mut self.held, worker, want) {
-            Taken::Given { task } => {
-                let more = self.fill(network, worker, want, lane);
+            Asked::Task { task } => {
+                let more = self.fill(network, worker, want, errands);
                 Offer::Task { task, more }
             }
-            Taken::Again => Offer::Later {
+            Asked::Later => Offer::Later {
                 changes: self.changes,
             },
-            Taken::Empty | Taken::Spent | Taken::Memory => Offer::Over,
+            Asked::Over => Offer::Over,
         }
     }
 
     /// Takes more leaves for a worker's lane, up to three and up to the first answer other than a task; whether there were some.
-    fn fill(&mut self, network: &Network, worker: u32, want: u64, lane: &mut Own<M>) -> bool
+    fn fill(&mut self, network: &Network, worker: u32, want: u64, errands: &mut Errands<M>) -> bool
         requires own { network.now ≡ M.network }
         requires wants { 1 ≤ want }
+        ensures same { access errands.new ≡ access errands.old }
     {
         let mut more = false;
         for _ in 0..MORE_TASKS {
-            let Taken::Given { task } = take(network, &mut self.held, worker, want) else {
-                break;
+            let laid = match take(network, &mut self.held, worker, want) {
+                Asked::Task { task } => task.lay(errands),
+                Asked::Later | Asked::Over => break,
             };
-            if let Err(task) = lane.push(task) {
-                self.back(&task);
+            if let Err(task) = laid {
+                self.back(task);
                 break;
             }
             more = true;
@@ -157,25 +159,25 @@ impl<M: Incumbent + Squad> Board<M> {
         network: &Network,
         low: &Low<M>,
         part: &mut Holder<M>,
-        piece: Piece,
+        made: Made,
         limit: u64,
     ) -> Option<u64>
         requires network { network.now ≡ M.network }
-        requires own { piece.network ≡ M.network }
-        requires seen { part.old.seen ≤ piece.threshold }
+        requires own { made.network ≡ M.network }
+        requires seen { part.old.seen ≤ made.threshold }
         requires limit { IsLimit limit }
         ensures part { part.new ≡ part.old }
         ensures next { IfSome result IsLimit }
     {
         self.tell();
-        let next = hand_in(network, low, &mut self.held, part, piece, limit);
+        let next = hand_in(network, low, &mut self.held, part, made, limit);
         self.stopped = self.stopped || next.is_none();
         if self.stopped { None } else { next }
     }
 
     /// Frees the leaf of a task whose worker ends before it has dived there, for another worker.
-    pub(crate) fn back(&mut self, task: &Task) {
+    pub(crate) fn back(&mut self, task: InHand) {
         self.tell();
-        back(&mut self.held, task);
+        task.back(&mut self.held);
     }
 }

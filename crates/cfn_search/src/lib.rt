@@ -7,8 +7,9 @@
 //! - `team.rt`: the search by several workers, from the first share of the word to the last;
 //! - `worker.rt`: one worker, `board.rt` what all share under a lock, and `errands.rt` the tasks that workers steal from each
 //!   other;
+//! - `hand.rt`: the task or the piece that a worker has in hand, which it can't lose;
 //! - `gate.rt`: a gate that workers pass, by which a test can hold them;
-//! - `steps.rt`: leaves are taken from the pool, and pieces are given to it;
+//! - `steps.rt`: leaves are taken from the pool, and its bounds are noted;
 //! - `grants.rt`: how many nodes and backtracks a dive may make;
 //! - `outcome.rt`: what a search that stopped hands out.
 #![tactic(auto)]
@@ -17,6 +18,7 @@ mod board;
 mod errands;
 mod gate;
 mod grants;
+mod hand;
 mod outcome;
 mod search;
 mod steps;

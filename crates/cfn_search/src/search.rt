@@ -8,15 +8,15 @@ ghost use Rattle.cfn_search.specs.Searching.{IsSearch, GoesOn, HasMore};
 ghost use Rattle.cfn_search.specs.Granting.{IsLimit};
 
 use crate::grants::{FEWEST_BACKTRACKS, limit_after, wanted};
+use crate::hand::Made;
 use crate::outcome::{conclude, meet, wind_up};
-use crate::steps::{back, give, note, sweep, take};
+use crate::steps::{Asked, note, sweep, take};
 use cfn_branch::Rule;
-use cfn_dive::{Dived, Diver};
+use cfn_dive::Diver;
 use cfn_low::{Holder, Incumbent, Low, Unnamed};
-use cfn_net::{Network, Scored};
-use cfn_pool::{Pool, Taken};
+use cfn_net::{Network, Scored, Tables};
+use cfn_pool::Pool;
 use cfn_proof::Outcome;
-use cfn_task::Piece;
 use std::alloc::{AllocError, Global};
 use std::marker::Brand;
 
@@ -47,7 +47,8 @@ pub fn solve_by(
 {
     let unnamed = Unnamed::make(alloc, network)?;
     let empty = Scored::empty(alloc, network)?;
-    let diver = Diver::make(alloc, network, rule)?;
+    let tables = Tables::expand(alloc, network)?;
+    let diver = Diver::make(alloc, network, &tables, rule)?;
     search::<Brand>(alloc, network, unnamed, empty, diver, budget)
 }
 
@@ -123,13 +124,14 @@ fn dive<M: Incumbent>(
 {
     let known = part.best().values().is_some();
     let want = wanted(held.nodes() == 0, known, limit, network.variables());
-    let Taken::Given { task } = take(network, held, WORKER, want) else {
-        return None;
+    let task = match take(network, held, WORKER, want) {
+        Asked::Task { task } => task,
+        Asked::Later | Asked::Over => return None,
     };
-    match diver.dive(alloc, network, task, low, part, limit) {
-        Dived::Piece { piece, cut: _ } => hand_in(network, low, held, part, piece, limit),
-        Dived::Memory { task } => {
-            back(held, &task);
+    match task.dive(alloc, network, diver, low, part, limit) {
+        Ok(made) => hand_in(network, low, held, part, made, limit),
+        Err(task) => {
+            task.back(held);
             None
         }
     }
@@ -141,12 +143,12 @@ pub(crate) fn hand_in<M: Incumbent>(
     low: &Low<M>,
     held: &mut Pool<M>,
     part: &mut Holder<M>,
-    piece: Piece,
+    made: Made,
     limit: u64,
 ) -> Option<u64>
     requires network { network.now ≡ M.network }
-    requires own { piece.network ≡ M.network }
-    requires seen { part.old.seen ≤ piece.threshold }
+    requires own { made.network ≡ M.network }
+    requires seen { part.old.seen ≤ made.threshold }
     requires search { IsSearch M.network (pool held.old) }
     requires limit { IsLimit limit }
     ensures goes { GoesOn M.network (pool held.old) (pool held.new) }
@@ -156,7 +158,7 @@ pub(crate) fn hand_in<M: Incumbent>(
 {
     let before = held.seen();
     let leaves = held.open_leaves();
-    if !give(low, held, part, piece) {
+    if !made.give(low, held, part) {
         return None;
     }
     note(network, held);

@@ -1,24 +1,26 @@
 //! Several workers, each in a thread of its own.
 
-ghost use Rattle.std.specs.Prelude.{◌≡◌, ◌+◌, ◌<◌, ◌≤◌, length, None, IfOk, OnOk};
+ghost use Rattle.std.specs.Prelude.{◌≡◌, ◌+◌, ◌<◌, ◌≤◌, [], ◌∷◌, ◌++◌, All, map, reverse, length, None, IfOk, OnOk};
 ghost use Rattle.cfn_model.specs.declared.limits.TheConstants.{GREATEST};
 ghost use Rattle.cfn_proof.specs.Outcome.{IsOutcome};
 ghost use Rattle.cfn_machine.specs.Word.{all_shares};
 ghost use Rattle.cfn_pool.specs.Views.{pool};
-ghost use Rattle.cfn_search.specs.Searching.{IsSearch};
+ghost use Rattle.cfn_rota.specs.Balances.{AreWhole};
+ghost use Rattle.cfn_rota.specs.Values.{AreAll, access};
+ghost use Rattle.cfn_search.specs.Searching.{IsSearch, GoesOn};
 
 use crate::board::{Board, Squad};
-use crate::errands::{Errand, ROOM};
+use crate::errands::{Errand, Errands, ROOM};
 use crate::gate::Gate;
 use crate::outcome::{conclude, meet, wind_up};
 use crate::search::solve;
 use crate::steps::sweep;
 use crate::worker::{Shared, Worker};
 use cfn_low::{Holder, Incumbent, Low, Unnamed};
-use cfn_net::{Network, Scored};
+use cfn_net::{Network, Scored, Tables};
 use cfn_pool::Pool;
 use cfn_proof::Outcome;
-use cfn_rota::deal;
+use cfn_rota::{Ends, deal};
 use cfn_task::Task;
 use std::alloc::{AllocError, Global};
 use std::marker::Brand;
@@ -70,42 +72,84 @@ fn search<M: Incumbent + Squad + Send + Sync, R: Threads + Wait + Sync, G: Gate 
     ensures { IfOk result (IsOutcome network.now budget) }
 {
     let (low, mut holder) = unnamed.named::<M>();
-    let crew = recruit(alloc, network, &low, &mut holder, workers)?;
-    let Ok(mut held) = Pool::begin(alloc, network, holder, budget) else {
-        return Err(AllocError);
-    };
-    sweep(&low, &mut held);
+    let tables = Tables::expand(alloc, network)?;
+    let parts = split(alloc, network, &low, &mut holder, workers)?;
+    let ends = deal(alloc, workers, ROOM)?;
+    let held = open(alloc, network, &low, holder, budget)?;
+    let crew = recruit(alloc, parts, ends)?;
     let board = Mutex::new(Board::new(held));
-    let crew = work_all(rt, alloc, network, &low, &board, crew, gate);
+    let crew = work_all(rt, alloc, network, &tables, &low, &board, crew, gate);
     let mut held = board.into_inner().into_pool();
     disband(&low, &mut held, crew);
     wind_up(&low, &mut held);
     Ok(conclude(network, low, held))
 }
 
-/// Workers, each with one share of the word and the ends of all lanes. An `Err` is want of memory.
-pub(crate) fn recruit<M: Incumbent>(
+/// A pool at the beginning of a search, with a part of the word that keeps nothing. An `Err` is want of memory.
+fn open<M: Incumbent>(
+    alloc: Global,
+    network: &Network,
+    low: &Low<M>,
+    holder: Holder<M>,
+    budget: u64,
+) -> Result<Pool<M>, AllocError>
+    requires own { network.now ≡ M.network }
+    requires none { holder.held ≡ None }
+    requires seen { holder.seen ≡ M.network.upper }
+    ensures search { IfOk result (λ held. IsSearch M.network (pool held)) }
+    ensures budget { IfOk result (λ held. (pool held).budget ≡ budget) }
+    ensures shares { IfOk result (λ held. (pool held).view.shares ≡ holder.shares) }
+{
+    let Ok(mut held) = Pool::begin(alloc, network, holder, budget) else {
+        return Err(AllocError);
+    };
+    sweep(low, &mut held);
+    Ok(held)
+}
+
+/// One share of the word for each worker. An `Err` is want of memory.
+pub(crate) fn split<M: Incumbent>(
     alloc: Global,
     network: &Network,
     low: &Low<M>,
     holder: &mut Holder<M>,
     workers: u32,
-) -> Result<Vec<Worker<M>>, AllocError>
+) -> Result<Vec<Holder<M>>, AllocError>
     requires own { network.now ≡ M.network }
     requires all { holder.old.shares ≡ all_shares }
     requires few { workers ≤ 64 }
-    ensures crew { IfOk result (λ crew. length crew.items ≡ workers) }
+    ensures count { IfOk result (λ parts. length parts.items ≡ workers) }
+    ensures ones { IfOk result (λ parts. All (λ part. part.shares ≡ 1) parts.items) }
     ensures shares { OnOk result (holder.new.shares + workers ≡ all_shares) }
     ensures held { holder.new.held ≡ holder.old.held }
     ensures seen { holder.new.seen ≡ holder.old.seen }
 {
-    let mut ends = deal::<Task, Errand<M>>(alloc, workers, ROOM)?;
-    let mut crew = Vec::with_capacity(alloc, workers as usize)?;
-    while let Some(own) = ends.pop() {
-        let number = crew.len() as u32;
+    let mut parts = Vec::with_capacity(alloc, workers as usize)?;
+    for _ in 0..workers {
         let empty = Scored::empty(alloc, network)?;
-        let part = low.split(holder, empty);
-        crew.push_reserved(Worker::new(number, part, own));
+        parts.push_reserved(low.split(holder, empty));
+    }
+    Ok(parts)
+}
+
+/// Workers in the order of their numbers, each with one share of the word and its ends of all lanes. An `Err`, want of memory,
+/// comes before there is a worker.
+pub(crate) fn recruit<M: Incumbent>(
+    alloc: Global,
+    mut parts: Vec<Holder<M>>,
+    mut ends: Vec<Ends<Task, Errand<M>>>,
+) -> Result<Vec<Worker<M>>, AllocError>
+    requires few { length parts.items ≤ 64 }
+    requires count { length ends.items ≡ length parts.items }
+    requires ones { All (λ part. part.shares ≡ 1) parts.items }
+    requires all { AreAll (reverse (map access ends.items)) }
+    ensures crew { IfOk result (λ crew. length crew.items ≡ length parts.items) }
+    ensures all { IfOk result (λ crew. AreAll (map access crew.items)) }
+{
+    let mut crew = Vec::with_capacity(alloc, parts.len())?;
+    while let (Some(part), Some(own)) = (parts.pop(), ends.pop()) {
+        let number = crew.len() as u32;
+        crew.push_reserved(Worker::new(number, part, Errands::of(own)));
     }
     Ok(crew)
 }
@@ -115,17 +159,21 @@ fn work_all<M: Incumbent + Squad + Send + Sync, R: Threads + Wait + Sync, G: Gat
     rt: &R,
     alloc: Global,
     network: &Network,
+    tables: &Tables,
     low: &Low<M>,
     board: &Mutex<Board<M>>,
     mut crew: Vec<Worker<M>>,
     gate: &G,
 ) -> Vec<Worker<M>>
     requires own { network.now ≡ M.network }
-    ensures { length result.items ≡ length crew.items }
+    requires tables { tables.now ≡ M.network }
+    ensures count { length result.items ≡ length crew.items }
+    ensures same { map access result.items ≡ map access crew.items }
 {
     let changed = Condvar::new();
     let shared = Shared {
         network,
+        tables,
         low,
         board,
         changed: &changed,
@@ -142,8 +190,10 @@ fn work_each<M: Incumbent + Squad + Send + Sync, R: Threads + Wait + Sync, G: Ga
     shared: &Shared<'_, M, G>,
     crew: &mut [Worker<M>],
 )
-    requires { shared.now.network.now ≡ M.network }
-    ensures { length crew.new ≡ length crew.old }
+    requires network { shared.now.network.now ≡ M.network }
+    requires tables { shared.now.tables.now ≡ M.network }
+    ensures count { length crew.new ≡ length crew.old }
+    ensures same { map access crew.new ≡ map access crew.old }
 {
     let threads = crew.len();
     if threads > 0 {
@@ -151,20 +201,61 @@ fn work_each<M: Incumbent + Squad + Send + Sync, R: Threads + Wait + Sync, G: Ga
             rt,
             crew,
             threads,
-            &|_, worker| worker.work(rt, alloc, shared),
+            &|_: usize, worker: &mut Worker<M>|
+                requires network { shared.now.network.now ≡ M.network }
+                requires tables { shared.now.tables.now ≡ M.network }
+                ensures { access worker.exit.now ≡ access worker.entry.now }
+            { worker.work(rt, alloc, shared) },
         );
     }
 }
 
-/// Joins the workers' parts of the word into the pool's.
-fn disband<M: Incumbent>(low: &Low<M>, held: &mut Pool<M>, mut crew: Vec<Worker<M>>)
+/// Ends the workers once their threads have ended: gives back what is left in their lanes, and joins their parts of the word
+/// into the pool's.
+pub(crate) fn disband<M: Incumbent>(low: &Low<M>, held: &mut Pool<M>, mut crew: Vec<Worker<M>>)
     requires search { IsSearch M.network (pool held.old) }
     requires shares { (pool held.old).view.shares + length crew.items ≡ all_shares }
+    requires all { AreAll (map access crew.items) }
     ensures search { IsSearch M.network (pool held.new) }
     ensures budget { (pool held.new).budget ≡ (pool held.old).budget }
     ensures shares { (pool held.new).view.shares ≡ all_shares }
 {
     while let Some(worker) = crew.pop() {
-        meet(low, held, worker.into_part());
+        end(low, held, worker, crew.as_mut_slice());
+    }
+    crew.destroy_empty();
+}
+
+/// Ends the last of some workers, whose ends are all of their lanes: the others' ends are all of theirs then.
+fn end<M: Incumbent>(
+    low: &Low<M>,
+    held: &mut Pool<M>,
+    mut worker: Worker<M>,
+    others: &mut [Worker<M>],
+)
+    requires search { IsSearch M.network (pool held.old) }
+    requires share { (pool held.old).view.shares + 1 ≤ all_shares }
+    requires all { AreAll (map access others.old ++ access worker ∷ []) }
+    ensures search { IsSearch M.network (pool held.new) }
+    ensures budget { (pool held.new).budget ≡ (pool held.old).budget }
+    ensures share { (pool held.new).view.shares ≡ (pool held.old).view.shares + 1 }
+    ensures others { AreAll (map access others.new) }
+    ensures count { length others.new ≡ length others.old }
+{
+    worker.gather(others);
+    give_left(held, &mut worker);
+    meet(low, held, worker.retire());
+}
+
+/// Gives back all that is left in a worker's whole lane.
+fn give_left<M: Incumbent>(held: &mut Pool<M>, worker: &mut Worker<M>)
+    requires search { IsSearch M.network (pool held.old) }
+    requires whole { worker.old.lane.parts ≡ 128 }
+    ensures goes { GoesOn M.network (pool held.old) (pool held.new) }
+    ensures whole { worker.new.lane.parts ≡ 128 }
+    ensures empty { AreWhole worker.new.lane.pushed worker.new.lane.taken [] }
+{
+    while let Some(task) = worker.take_left() {
+        task.back(held);
     }
 }

@@ -52,6 +52,51 @@ impl Gate for Meeting {
     }
 }
 
+/// A gate by which a worker is about to wait with a count of changes that has moved already.
+///
+/// The first task, the root of `tri`, is held until the other worker is about to wait, since there is no leaf. That worker is
+/// held until the second task is taken: then the count has moved, and nobody tells it any more. The second task is held until
+/// the third is taken, by the worker that need not wait. Each is held for at most 100,000,000 turns.
+#[derive(Drop)]
+struct Moving {
+    /// How many tasks were taken.
+    taken: AtomicU64,
+    /// How often a worker was about to wait.
+    waits: AtomicU64,
+    /// How many were held to the last turn.
+    missed: AtomicU64,
+}
+
+impl Moving {
+    /// Holds whoever calls it until a count is that much.
+    fn hold(&self, count: &AtomicU64, least: u64) {
+        for _ in 0..100_000_000 {
+            if count.load(Ordering::SeqCst) >= least {
+                return;
+            }
+        }
+        self.missed.fetch_add(1, Ordering::SeqCst);
+    }
+}
+
+impl Gate for Moving {
+    fn pass(&self, _worker: u32, point: Point) {
+        match point {
+            Point::Taken => match self.taken.fetch_add(1, Ordering::SeqCst) {
+                0 => self.hold(&self.waits, 1),
+                1 => self.hold(&self.taken, 3),
+                _ => {}
+            },
+            Point::Waiting => {
+                if self.waits.fetch_add(1, Ordering::SeqCst) == 0 {
+                    self.hold(&self.taken, 2);
+                }
+            }
+            Point::BeforeGive | Point::Ended => {}
+        }
+    }
+}
+
 /// A gate that holds one of four workers for some time, at one of the points or at each.
 #[derive(Drop)]
 struct Holding {
@@ -116,6 +161,18 @@ fn four_workers_agree_under_twenty_gates(rt: HostRuntime) -> Result<(), Fail> {
 fn two_workers_are_at_work_at_once(rt: HostRuntime) -> Result<(), Fail> {
     let gate = Meeting {
         taken: AtomicU64::new(0),
+        missed: AtomicU64::new(0),
+    };
+    assert!(rt; together(&rt, 2, &gate)? == (1, true));
+    assert_eq!(rt; gate.missed.load(Ordering::SeqCst), 0);
+    Ok(())
+}
+
+#[test]
+fn worker_does_not_wait_for_a_change_that_came(rt: HostRuntime) -> Result<(), Fail> {
+    let gate = Moving {
+        taken: AtomicU64::new(0),
+        waits: AtomicU64::new(0),
         missed: AtomicU64::new(0),
     };
     assert!(rt; together(&rt, 2, &gate)? == (1, true));

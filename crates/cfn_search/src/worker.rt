@@ -1,40 +1,45 @@
 //! One worker: it takes tasks from its lane, from those of others or from the pool, dives, and gives back what it made, until
 //! there is no leaf to take. Then it gives back what its lane holds.
 
-ghost use Rattle.std.specs.Prelude.{◌≡◌, IfSome};
+ghost use Rattle.std.specs.Prelude.{◌≡◌, [], ◌∷◌, ◌++◌, map, length, IfSome, MatchOption};
+ghost use Rattle.cfn_rota.specs.Balances.{AreWhole, AreWithin};
+ghost use Rattle.cfn_rota.specs.Values.{AreAll, EndsWith, Meets, access, lanes_of};
 ghost use Rattle.cfn_task.specs.Values.{IsTaskOf};
 ghost use Rattle.cfn_search.specs.Boards.{IsOffered};
 
 use crate::board::{Board, Offer, Squad};
-use crate::errands::All;
+use crate::errands::Errands;
 use crate::gate::{Gate, Point};
 use crate::grants::FEWEST_BACKTRACKS;
+use crate::hand::InHand;
 use cfn_branch::Rule;
-use cfn_dive::{Dived, Diver};
+use cfn_dive::Diver;
 use cfn_low::{Holder, Incumbent, Low};
-use cfn_net::Network;
-use cfn_task::Task;
+use cfn_net::{Network, Tables};
 use std::alloc::Global;
 use std::marker::Model;
 use std::sync::{Condvar, Mutex, Wait};
 
 /// A worker: its number, how many backtracks its next dive may make, its part of the word, which has one share, and its ends
-/// of the lanes of tasks.
-#[derive(Drop)]
+/// of the lanes of tasks. Contracts see these ends.
+///
+/// It is not `Drop`, so no worker can be let go but by `retire`, once nothing is left in its lane.
 pub(crate) struct Worker<M: Incumbent> {
     number: u32,
     limit: u64,
     part: Holder<M>,
-    ends: All<M>,
+    errands: Errands<M>,
 }
 
 impl<M: Incumbent> Model for Worker<M> {
     ghost use Rattle.std.specs.Prelude.{◌≡◌};
+    ghost use Rattle.cfn_rota.specs.Values.{EndsValue};
+    ghost use Rattle.cfn_task.specs.Values.{TaskValue};
     ghost use Rattle.cfn_search.specs.Granting.{IsLimit};
 
-    ghost Value = { Unit {0} };
+    ghost Value = { EndsValue TaskValue };
 
-    ghost view = { λ w. tt };
+    ghost view = { λ w. w.errands };
 
     ghost invariant = { λ w. (w.part.shares ≡ 1) × IsLimit w.limit };
 }
@@ -43,6 +48,8 @@ impl<M: Incumbent> Model for Worker<M> {
 #[derive(Drop)]
 pub(crate) struct Shared<'a, M: Incumbent + Squad, G> {
     pub network: &'a Network,
+    /// The network's tables.
+    pub tables: &'a Tables,
     pub low: &'a Low<M>,
     pub board: &'a Mutex<Board<M>>,
     /// Told at each change of the board.
@@ -52,22 +59,64 @@ pub(crate) struct Shared<'a, M: Incumbent + Squad, G> {
 
 impl<M: Incumbent> Worker<M> {
     /// A worker that has not dived.
-    pub(crate) fn new(number: u32, part: Holder<M>, ends: All<M>) -> Worker<M>
+    pub(crate) fn new(number: u32, part: Holder<M>, errands: Errands<M>) -> Worker<M>
         requires { part.shares ≡ 1 }
+        ensures { result ≡ errands }
     {
         Worker {
             number,
             limit: FEWEST_BACKTRACKS,
             part,
-            ends,
+            errands,
         }
     }
 
-    /// Its part of the word.
-    pub(crate) fn into_part(self) -> Holder<M>
+    /// Puts its own lane together with all thieves of it, and gives the workers before it back the thieves of theirs.
+    pub(crate) fn gather(&mut self, others: &mut [Worker<M>])
+        requires all { AreAll (map access others.old ++ access self.old ∷ []) }
+        ensures whole { self.new.lane.parts ≡ 128 }
+        ensures others { AreAll (map access others.new) }
+        ensures count { length others.new ≡ length others.old }
+    {
+        self.errands.absorb_own();
+        let mut left = others.len();
+        while left > 0 {
+            left -= 1;
+            self.exchange(&mut others[left]);
+        }
+    }
+
+    /// Two workers absorb each other's last thieves, which are of each other's lanes.
+    fn exchange(&mut self, other: &mut Worker<M>)
+        requires mine { EndsWith (lanes_of self.old.thieves) other.old.lane.lane }
+        requires theirs { EndsWith (lanes_of other.old.thieves) self.old.lane.lane }
+        ensures meets { Meets (access self.old) (access self.new) other.old.lane.lane }
+        ensures other_meets { Meets (access other.old) (access other.new) self.old.lane.lane }
+    {
+        self.errands.exchange(&mut other.errands);
+    }
+
+    /// Takes a task that is left in its lane.
+    pub(crate) fn take_left(&mut self) -> Option<InHand>
+        ensures { MatchOption result
+            ((self.new ≡ self.old) × (self.old.lane.parts ≡ 128 → AreWhole self.old.lane.pushed self.old.lane.taken []))
+            (λ task. (self.new ≡ record self.old { lane = record self.old.lane { taken = self.old.lane.taken ++ task ∷ [] } }) × (task.network ≡ M.network) × (self.old.lane.parts ≡ 128 → AreWithin self.new.lane.taken self.old.lane.pushed)) }
+    {
+        self.errands.pop()
+    }
+
+    /// Its part of the word, where its lane is whole and all that was pushed there was taken.
+    pub(crate) fn retire(self) -> Holder<M>
+        requires whole { self.lane.parts ≡ 128 }
+        requires empty { AreWhole self.lane.pushed self.lane.taken [] }
         ensures { result.shares ≡ 1 }
     {
-        let Worker { part, .. } = self;
+        let Worker {
+            number: _,
+            limit: _,
+            part,
+            errands: _,
+        } = self;
         part
     }
 }
@@ -81,9 +130,11 @@ impl<M: Incumbent + Squad> Worker<M> {
         alloc: Global,
         shared: &Shared<'_, M, G>,
     )
-        requires { shared.now.network.now ≡ M.network }
+        requires network { shared.now.network.now ≡ M.network }
+        requires tables { shared.now.tables.now ≡ M.network }
+        ensures { access self.new ≡ access self.old }
     {
-        if let Ok(mut diver) = Diver::make(alloc, shared.network, Rule::Degrees) {
+        if let Ok(mut diver) = Diver::make(alloc, shared.network, shared.tables, Rule::Degrees) {
             self.dive_all(rt, alloc, shared, &mut diver);
         }
         self.give_up(rt, shared);
@@ -102,6 +153,7 @@ impl<M: Incumbent + Squad> Worker<M> {
     )
         requires network { shared.now.network.now ≡ M.network }
         requires diver { diver.old ≡ M.network }
+        ensures { access self.new ≡ access self.old }
     {
         for _ in rt.forever() {
             let Some(task) = self.ask(rt, shared) else {
@@ -115,12 +167,13 @@ impl<M: Incumbent + Squad> Worker<M> {
     }
 
     /// Finds a task, and waits while others may still bring one.
-    fn ask<R: Wait, G: Gate>(&mut self, rt: &R, shared: &Shared<'_, M, G>) -> Option<Task>
+    fn ask<R: Wait, G: Gate>(&mut self, rt: &R, shared: &Shared<'_, M, G>) -> Option<InHand>
         requires { shared.now.network.now ≡ M.network }
-        ensures { IfSome result (IsTaskOf M.network) }
+        ensures task { IfSome result (IsTaskOf M.network) }
+        ensures same { access self.new ≡ access self.old }
     {
         for _ in rt.forever() {
-            if let Some(task) = self.ends.find() {
+            if let Some(task) = self.errands.find() {
                 return Some(task);
             }
             match self.ask_board(rt, shared) {
@@ -131,7 +184,7 @@ impl<M: Incumbent + Squad> Worker<M> {
                     return Some(task);
                 }
                 Offer::Later { changes } => {
-                    if let Some(task) = self.ends.steal() {
+                    if let Some(task) = self.errands.steal() {
                         return Some(task);
                     }
                     self.wait(rt, shared, changes);
@@ -145,7 +198,8 @@ impl<M: Incumbent + Squad> Worker<M> {
     /// Asks the board for a leaf, and for more for its lane.
     fn ask_board<R: Wait, G: Gate>(&mut self, rt: &R, shared: &Shared<'_, M, G>) -> Offer
         requires { shared.now.network.now ≡ M.network }
-        ensures { IsOffered M.network result }
+        ensures offer { IsOffered M.network result }
+        ensures same { access self.new ≡ access self.old }
     {
         let known = self.part.best().values().is_some();
         shared.board.lock(rt).take(
@@ -153,7 +207,7 @@ impl<M: Incumbent + Squad> Worker<M> {
             self.number,
             known,
             self.limit,
-            &mut self.ends.lane,
+            &mut self.errands,
         )
     }
 
@@ -167,12 +221,14 @@ impl<M: Incumbent + Squad> Worker<M> {
     }
 
     /// Gives back what its lane holds, for other workers.
-    fn give_up<R: Wait, G: Gate>(&mut self, rt: &R, shared: &Shared<'_, M, G>) {
+    fn give_up<R: Wait, G: Gate>(&mut self, rt: &R, shared: &Shared<'_, M, G>)
+        ensures { access self.new ≡ access self.old }
+    {
         for _ in rt.forever() {
-            let Some(task) = self.ends.lane.pop() else {
+            let Some(task) = self.errands.pop() else {
                 break;
             };
-            shared.board.lock(rt).back(&task);
+            shared.board.lock(rt).back(task);
         }
     }
 
@@ -183,32 +239,33 @@ impl<M: Incumbent + Squad> Worker<M> {
         alloc: Global,
         shared: &Shared<'_, M, G>,
         diver: &mut Diver<'_>,
-        task: Task,
+        task: InHand,
     ) -> bool
         requires network { shared.now.network.now ≡ M.network }
         requires diver { diver.old ≡ M.network }
         requires task { IsTaskOf M.network task }
-        ensures { diver.new ≡ diver.old }
+        ensures diver { diver.new ≡ diver.old }
+        ensures same { access self.new ≡ access self.old }
     {
-        let dived = diver.dive(
+        let dived = task.dive(
             alloc,
             shared.network,
-            task,
+            diver,
             shared.low,
             &mut self.part,
             self.limit,
         );
         shared.gate.pass(self.number, Point::BeforeGive);
         let next = match dived {
-            Dived::Piece { piece, cut: _ } => shared.board.lock(rt).give(
+            Ok(made) => shared.board.lock(rt).give(
                 shared.network,
                 shared.low,
                 &mut self.part,
-                piece,
+                made,
                 self.limit,
             ),
-            Dived::Memory { task } => {
-                shared.board.lock(rt).back(&task);
+            Err(task) => {
+                shared.board.lock(rt).back(task);
                 None
             }
         };

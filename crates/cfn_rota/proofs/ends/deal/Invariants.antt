@@ -1,5 +1,5 @@
-use Rattle.std.proofs.Common.{◌≡◌, ◌≤◌, ◌+◌, length, All, vec_capacity}
-use Rattle.cfn_rota.specs.Values.{IsNew}
+use Rattle.std.proofs.Common.{◌≡◌, ◌≤◌, ◌+◌, ◌++◌, length, map, reverse, All, vec_capacity}
+use Rattle.cfn_rota.specs.Values.{IsNew, lanes_of, access, own_lanes}
 use Rattle.cfn_rota.proofs.ends.deal.Given as goal
 
 abbrev pub invariant-loop-lane : goal.invariant-loop-lane
@@ -9,6 +9,11 @@ invariant-loop-lane g l = record {
   room : l.workers ≤ vec_capacity l.all;
   left : All (IsNew l.room) l.lanes.items;
   new : All (λ ends. IsNew l.room ends.lane) l.all.items;
+  left_parts : All (λ lane. lane.parts + l.workers ≡ 128) l.lanes.items;
+  parts : All (λ ends. ends.lane.parts + l.workers ≡ 128) l.all.items;
+  order : map (λ lane. lane.lane) l.lanes.items ++ own_lanes (reverse (map access l.all.items)) ≡ map (λ lane. lane.lane) l.initial.lanes.items;
+  hired : All (λ theirs. lanes_of theirs.items ≡ map (λ lane. lane.lane) l.initial.lanes.items) l.thieves.items;
+  all : All (λ ends. lanes_of ends.thieves ≡ map (λ lane. lane.lane) l.initial.lanes.items) l.all.items;
 }
 
 abbrev pub decreases-loop-lane : goal.decreases-loop-lane

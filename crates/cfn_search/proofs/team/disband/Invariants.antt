@@ -1,6 +1,7 @@
-use Rattle.std.proofs.Common.{◌≡◌, ◌+◌, length}
+use Rattle.std.proofs.Common.{◌≡◌, ◌+◌, length, map}
 use Rattle.cfn_machine.specs.Word.{all_shares}
 use Rattle.cfn_pool.specs.Views.{pool}
+use Rattle.cfn_rota.specs.Values.{AreAll, access}
 use Rattle.cfn_search.specs.Searching.{IsSearch}
 use Rattle.cfn_search.proofs.team.disband.Given as goal
 
@@ -9,6 +10,7 @@ invariant-loop-worker g l = record {
   search : IsSearch g.M.Incumbent.network (pool l.held);
   budget : (pool l.held).budget ≡ (pool l.fn.held).budget;
   shares : (pool l.held).view.shares + length l.crew.items ≡ all_shares;
+  all : AreAll (map access l.crew.items);
 }
 
 abbrev pub decreases-loop-worker : goal.decreases-loop-worker

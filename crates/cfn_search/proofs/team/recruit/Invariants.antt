@@ -1,16 +1,16 @@
-use Rattle.std.proofs.Common.{◌≡◌, ◌+◌, ◌≤◌, length, vec_capacity}
-use Rattle.cfn_machine.specs.Word.{all_shares}
+use Rattle.std.proofs.Common.{◌≡◌, ◌+◌, ◌++◌, ◌≤◌, length, map, reverse, All, vec_capacity}
+use Rattle.cfn_rota.specs.Values.{access}
 use Rattle.cfn_search.proofs.team.recruit.Given as goal
 
--- the workers so far have a share each, and the part keeps what it kept
-abbrev pub invariant-loop-own : goal.invariant-loop-own
-invariant-loop-own g l = record {
-  crew : length l.crew.items + length l.ends.items ≡ l.workers;
-  room : l.workers ≤ vec_capacity l.crew;
-  shares : l.holder.shares + length l.crew.items ≡ all_shares;
-  held : l.holder.held ≡ l.fn.holder.held;
-  seen : l.holder.seen ≡ l.fn.holder.seen;
+-- the workers so far have the first ends, and each part that is left has one share
+abbrev pub invariant-loop-part : goal.invariant-loop-part
+invariant-loop-part g l = record {
+  count : length l.crew.items + length l.parts.items ≡ length l.fn.parts.items;
+  ends : length l.ends.items ≡ length l.parts.items;
+  room : length l.fn.parts.items ≤ vec_capacity l.crew;
+  ones : All (λ part. part.shares ≡ 1) l.parts.items;
+  order : map access l.crew.items ++ reverse (map access l.ends.items) ≡ reverse (map access l.fn.ends.items);
 }
 
-abbrev pub decreases-loop-own : goal.decreases-loop-own
-decreases-loop-own g l = length l.ends.items
+abbrev pub decreases-loop-part : goal.decreases-loop-part
+decreases-loop-part g l = length l.parts.items

@@ -1,10 +1,8 @@
 //! Two parts of one word, on one thread.
 
-ghost use Rattle.std.specs.Prelude.{◌≡◌, ◌<◌, ◌≤◌, min, Some, None, IfOk};
-ghost use Rattle.cfn_model.specs.Certificate.{threshold_of};
-ghost use Rattle.cfn_low.specs.Holding.{kept, price_of};
+ghost use Rattle.std.specs.Prelude.{◌≡◌, None};
 
-use super::*;
+use cfn_low::{Incumbent, Unnamed};
 use cfn_net::{Builder, Network, Scored};
 use std::alloc::{AllocError, Global};
 use std::marker::Brand;
@@ -17,8 +15,8 @@ fn three(alloc: Global) -> Result<Network, AllocError> {
     builder.finish()
 }
 
-/// What is seen by one part after another has lowered the word, and in the end.
-#[derive(Clone, Copy)]
+/// What is seen by one part before and after another has lowered the word, and in the end.
+#[derive(Clone, Copy, Debug, PartialEq, Eq)]
 struct Sighting {
     before: u64,
     after: u64,
@@ -31,7 +29,6 @@ fn lower_and_look<M: Incumbent>(unnamed: Unnamed, empty: Scored, offer: &Scored)
     requires network { M.network ≡ unnamed.network }
     requires empty { empty ≡ record { network = unnamed.network; held = None } }
     requires offer { offer.now.network ≡ unnamed.network }
-    ensures before { result.before ≡ unnamed.network.upper }
 {
     let (low, mut one) = unnamed.named::<M>();
     let mut other = low.split(&mut one, empty);
@@ -47,9 +44,8 @@ fn lower_and_look<M: Incumbent>(unnamed: Unnamed, empty: Scored, offer: &Scored)
     }
 }
 
-#[test]
-fn what_one_part_lowers_another_sees(rt: HostRuntime) -> Result<(), Fail> {
-    let alloc = rt.alloc();
+/// The same in that network, where the value 1 is offered.
+fn seen_by_parts(alloc: Global) -> Result<Sighting, AllocError> {
     let network = three(alloc)?;
     let mut offer = Scored::empty(alloc, &network)?;
     network.limits();
@@ -58,7 +54,16 @@ fn what_one_part_lowers_another_sees(rt: HostRuntime) -> Result<(), Fail> {
     }
     let unnamed = Unnamed::make(alloc, &network)?;
     let empty = Scored::empty(alloc, &network)?;
-    let seen = lower_and_look::<Brand>(unnamed, empty, &offer);
-    assert!(rt; seen.before == 20 && seen.after == 5 && seen.word == 5);
+    Ok(lower_and_look::<Brand>(unnamed, empty, &offer))
+}
+
+#[test]
+fn what_one_part_lowers_another_sees(rt: HostRuntime) -> Result<(), Fail> {
+    let seen = Sighting {
+        before: 20,
+        after: 5,
+        word: 5,
+    };
+    assert_eq!(rt; seen_by_parts(rt.alloc())?, seen);
     Ok(())
 }
