@@ -3,7 +3,7 @@ use Rattle.std.proofs.Common.{◌≡◌, ℕ, zero, suc, ◌-◌, ◌<◌, min, 
 use Rattle.std.proofs.lemmas.List.FromFn.{length-map-range_with_len}
 use Rattle.cfn_model.specs.Network.{Function, Network, IsFunction, IsNetwork, cells, dims, dims_at, function_of, last_listed}
 use Rattle.cfn_net.specs.declared.open.Open.{Open}
-use Rattle.cfn_net.specs.Building.{CanTake, IsScope, list_at_end, share_of, with_entry, with_function, with_last}
+use Rattle.cfn_net.specs.Building.{CanTake, list_at_end, share_of, with_entry, with_function, with_last}
 use Rattle.cfn_net.specs.Drafting.{IsDraft, IsOpen, IsShare, open_function, with_open, written}
 use Rattle.cfn_net.proofs.Listings.{IsFunction-function_of, function_at-with_function, with_last-with_function}
 use Rattle.cfn_net.proofs.Keeping.{IsFunction-share, IsNetwork-with_function}

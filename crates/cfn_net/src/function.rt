@@ -1,6 +1,6 @@
 //! One cost function, lent by its network: its scope, its default, and its table with a cost for each tuple, the last
 //! variable running fastest.
-ghost use Rattle.std.specs.Prelude.{◌≡◌, ◌↔◌, ℕ, ◌+◌, ◌^◌, ◌<◌, ◌≤◌, List, length, slice_index, IfSome, IsNone};
+ghost use Rattle.std.specs.Prelude.{◌≡◌, ◌↔◌, ℕ, ◌+◌, ◌^◌, ◌<◌, ◌≤◌, List, length, slice_index, IfSome, IsNone, IsSome};
 ghost use Rattle.cfn_model.specs.Network.{Fits, cells, cell, dims, restrict, entry};
 ghost use Rattle.cfn_model.specs.declared.limits.TheConstants.{MOST_TUPLES};
 ghost use Rattle.cfn_net.specs.Building.{IsScope};
@@ -60,7 +60,8 @@ impl<'a> Function<'a> {
 
     /// The entries that are listed, where they are not kept densely.
     pub(crate) fn listed(&self) -> Option<Listed<'a>>
-        ensures { IfSome result (λ listed. spread (length self.now.entries) listed.rest listed.cells.now ≡ self.now.entries) }
+        ensures entries { IfSome result (λ listed. spread (length self.now.entries) listed.rest listed.cells.now ≡ self.now.entries) }
+        ensures form { IsSome result ↔ IsSparse self.now }
     {
         self.table.listed()
     }

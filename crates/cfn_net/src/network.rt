@@ -1,5 +1,5 @@
 //! The network, which does not change once it is built.
-ghost use Rattle.std.specs.Prelude.{◌≡◌, ◌≢◌, ℕ, ◌+◌, ◌-◌, ◌*◌, ◌^◌, ◌<◌, ◌≤◌, ◌↔◌, List, [], length, slice_index, IfOk, IfSome, IsNone, OnOk, OnErr};
+ghost use Rattle.std.specs.Prelude.{◌≡◌, ◌≢◌, ℕ, ◌+◌, ◌-◌, ◌*◌, ◌^◌, ◌<◌, ◌≤◌, ◌↔◌, List, [], length, slice_index, IfOk, IfSome, IsNone, IsSome, OnOk, OnErr};
 ghost use Rattle.cfn_model.specs.declared.limits.TheConstants.{GREATEST};
 ghost use Rattle.cfn_model.specs.Words.{IsWord};
 ghost use Rattle.cfn_model.specs.Network.{Fits, IsFunction, IsNetwork, function_at, scope_at, arity, dims_at, entry_at, restrict, cells, cell, cost, dims};
@@ -135,8 +135,9 @@ impl Network {
     /// other cells.
     pub fn listed(&self, f: u32) -> Option<Listed<'_>>
         requires { f < length self.now.functions }
-        ensures { IfSome result (λ listed. spread (cells (dims_at self.now f)) listed.rest listed.cells.now
+        ensures entries { IfSome result (λ listed. spread (cells (dims_at self.now f)) listed.rest listed.cells.now
             ≡ (function_at self.now f).entries) }
+        ensures form { IsSome result ↔ IsSparse (function_at self.now f) }
     {
         self.limits();
         self.function(f).listed()

@@ -1,5 +1,5 @@
 //! The entries of a function, kept densely, or where few differ from its default, as a list of those.
-ghost use Rattle.std.specs.Prelude.{◌≡◌, ◌↔◌, ℕ, ◌^◌, ◌<◌, length, slice_index, IfOk, IfSome, IsNone, OnErr};
+ghost use Rattle.std.specs.Prelude.{◌≡◌, ◌↔◌, ℕ, ◌^◌, ◌<◌, length, slice_index, IfOk, IfSome, IsNone, IsSome, OnErr};
 ghost use Rattle.cfn_net.specs.Listed.{AreSparse, spread};
 ghost use Rattle.cfn_net.specs.Tables.{IsForm, Tabulates, entries_of};
 
@@ -70,7 +70,8 @@ impl Table {
 
     /// The entries that are listed, where they are not kept densely.
     pub(crate) fn listed(&self) -> Option<Listed<'_>>
-        ensures { IfSome result (λ listed. spread (length (entries_of self.now)) listed.rest listed.cells.now ≡ entries_of self.now) }
+        ensures entries { IfSome result (λ listed. spread (length (entries_of self.now)) listed.rest listed.cells.now ≡ entries_of self.now) }
+        ensures form { (default : ℕ) → IsForm default self.now → IsSome result ↔ AreSparse default (entries_of self.now) }
     {
         match self {
             Table::Dense(_) => None,
