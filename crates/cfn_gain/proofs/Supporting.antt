@@ -9,6 +9,7 @@ use Rattle.cfn_model.specs.Steps.{IsPlace, CanProject}
 use Rattle.cfn_consistency.specs.Consistency.{HasSupport, IsArcConsistent}
 use Rattle.cfn_store.specs.declared.scan.Extreme.{Extreme}
 use Rattle.cfn_store.specs.declared.scan.Sense.TheVariants.{Least}
+use Rattle.cfn_store.specs.Doubts.{AreFreeFrom}
 use Rattle.cfn_store.specs.Extremes.{NonePicked, IsExtreme, IsFree}
 use Rattle.cfn_store.specs.Standing.{Standing, history}
 use Rattle.cfn_gain.specs.declared.limits.Limits.{Limits}
@@ -89,6 +90,10 @@ supported_passed before now limits f i n m p passed = record {
         (passed a from l (subst (λ t. IsPlace t.network f i a) (sym is) place) (subst (λ t. IsTrue (is_live (history t) (variable_at t.network f i) a)) (sym is) live))))
   ];
 }
+
+-- all values, where the ones from n on have a tuple that costs nothing
+pub supported_all : (before now : Standing) (limits : Limits) (f i n : ℕ) → Passing before now limits (AreSupportedTo before.network (history before) f i n) → AreFreeFrom now.network (history now) f i n → IsUnchanged before now → AreSupported before.network (history before) f i
+supported_all before now limits f i n p free same a place live = (supported_passed before now limits f i n (a + 1) p (λ b from l. free b from)).fact same a (omega arith) place live
 
 pub place_more : (before now next : Standing) (limits : Limits) (f n : ℕ) → Passing before now limits (ArePlacesTo before.network (history before) f n) → Does now next limits (Ok tt) → (IsUnchanged now next → AreSupported now.network (history now) f n) → Passing before next limits (ArePlacesTo before.network (history before) f (n + 1))
 place_more before now next limits f n p does here =

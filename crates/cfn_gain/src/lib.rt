@@ -18,4 +18,4 @@ mod supports;
 pub use levels::{cut_costly, level};
 pub use limits::{Halt, Limits};
 pub use moves::{cut_tuple, cut_value, extend, lacking, lift, project};
-pub use supports::{gain, support, support_all, support_at};
+pub use supports::{gain, support_all, support_at};

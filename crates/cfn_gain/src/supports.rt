@@ -1,11 +1,12 @@
 //! Arc consistency (Larrosa and Schiex 2004): what the live tuples with a value have in common goes to its unary cost.
 
-ghost use Rattle.std.specs.Prelude.{◌≡◌, ◌-◌, ◌<◌, ◌^◌, length, IsTrue, OnOk};
+ghost use Rattle.std.specs.Prelude.{◌≡◌, ℕ, ◌-◌, ◌<◌, ◌^◌, length, IsTrue, OnOk};
 ghost use Rattle.cfn_model.specs.Network.{arity, variable_at};
 ghost use Rattle.cfn_model.specs.Sums.{is_live};
 ghost use Rattle.cfn_model.specs.Steps.{IsPlace, CanProject};
 ghost use Rattle.cfn_consistency.specs.Openness.{TakesPart};
 ghost use Rattle.cfn_consistency.specs.Consistency.{HasSupport, IsArcConsistent};
+ghost use Rattle.cfn_store.specs.Doubts.{IsLacking};
 ghost use Rattle.cfn_store.specs.Standing.{history};
 ghost use Rattle.cfn_gain.specs.Calls.{GoesOn, Does, Shows, Grows};
 ghost use Rattle.cfn_gain.specs.Gains.{Gains, HasCost};
@@ -13,7 +14,7 @@ ghost use Rattle.cfn_gain.specs.Supports.{AreSupported};
 
 use crate::limits::{Halt, Limits};
 use crate::moves::{cut_value, lacking, project};
-use cfn_store::Store;
+use cfn_store::{Doubt, Store};
 
 /// Projects to a live value what all live tuples with it have, at least `least`, but no more than makes its unary cost what
 /// the floor lacks: then it is cut. With no such tuple `least` may be any amount, as the greatest. In a function that takes
@@ -50,31 +51,6 @@ pub fn gain(
     cut_value(store, limits, x, value)
 }
 
-/// Makes a live value arc consistent in `f`: where no step was made it has a support.
-pub fn support(
-    store: &mut Store<'_>,
-    limits: Limits,
-    f: u32,
-    place: u32,
-    value: u32,
-) -> Result<(), Halt>
-    requires goes { GoesOn store.old limits }
-    requires place { IsPlace store.old.network f place value }
-    requires live { IsTrue (is_live (history store.old) (variable_at store.old.network f place) value) }
-    ensures does { Does store.old store.new limits result }
-    ensures gains { TakesPart store.old.network (history store.old) f → Gains store.old store.new limits result }
-    ensures support { Shows store.old store.new result (HasSupport store.old.network (history store.old) f place value) }
-{
-    let least = match store.least_support(f, place, value) {
-        Some(extreme) => extreme.cost,
-        None => u64::MAX,
-    };
-    if least > 0 {
-        gain(store, limits, f, place, value, least)?;
-    }
-    Ok(())
-}
-
 /// Makes the live values at a place of `f` arc consistent.
 pub fn support_at(store: &mut Store<'_>, limits: Limits, f: u32, place: u32) -> Result<(), Halt>
     requires goes { GoesOn store.old limits }
@@ -85,15 +61,33 @@ pub fn support_at(store: &mut Store<'_>, limits: Limits, f: u32, place: u32) -> 
     ensures supports { Shows store.old store.new result (AreSupported store.old.network (history store.old) f place) }
 {
     store.network().limits();
-    let size = store
-        .network()
-        .size(store.network().scope(f)[place as usize]);
-    let mut value = store.next_in_doubt(f, place, 0);
-    while value < size {
-        support(store, limits, f, place, value)?;
-        value = store.next_in_doubt(f, place, value + 1);
+    let mut from = 0;
+    while let Some(doubt) = store.next_lacking(f, place, from) {
+        gain_support(store, limits, f, place, doubt)?;
+        from = doubt.value + 1;
     }
     Ok(())
+}
+
+/// Projects to a live value that has no support what all live tuples with it have.
+fn gain_support(
+    store: &mut Store<'_>,
+    limits: Limits,
+    f: u32,
+    place: u32,
+    doubt: Doubt,
+) -> Result<(), Halt>
+    requires goes { GoesOn store.old limits }
+    requires lacking { (from : ℕ) × IsLacking store.old.network (history store.old) f place from doubt }
+    ensures does { Does store.old store.new limits result }
+    ensures gains { TakesPart store.old.network (history store.old) f → Gains store.old store.new limits result }
+    ensures support { Shows store.old store.new result (HasSupport store.old.network (history store.old) f place doubt.value) }
+{
+    let least = match doubt.least {
+        Some(extreme) => extreme.cost,
+        None => u64::MAX,
+    };
+    gain(store, limits, f, place, doubt.value, least)
 }
 
 /// Makes the live values of each variable of `f` arc consistent in it.

@@ -129,16 +129,6 @@ stands_along s f i a j line values k is place are l =
       live = live.1;
     }
 
--- a tuple that costs nothing is the least of those with one of its values, where no cost is below 0
-pub nothing_is_least : (P : Network) (history : List Event) (f i a j b : ℕ) (found : Extreme) → IsExact P history → f < length P.functions → IsLeastBetween P history f i a j b found → found.cost ≡ 0 → IsExtreme P history f i a Least found
-nothing_is_least P history f i a j b found exact there least none = record {
-  tuple = least.tuple;
-  picked = picked_one P history f i a j b least.tuple least.picked;
-  cell_is = least.cell_is;
-  cost_is = least.cost_is;
-  bounds = λ other picked. let debt = exact.no_debts.residual f other there picked.fits picked.live in subst (λ n. pos n ≤ℤ residual P history f other) (sym none) debt;
-}
-
 -- such a tuple is one that has one of its values, too
 pub free_between : (P : Network) (history : List Event) (f i a j b : ℕ) (found : Extreme) → IsLeastBetween P history f i a j b found → found.cost ≡ 0 → IsFree P history f i a
 free_between P history f i a j b found least none = record {

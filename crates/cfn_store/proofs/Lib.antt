@@ -20,4 +20,5 @@ pub mod Lines
 pub mod Sides
 pub mod Tuples
 pub mod Least
+pub mod Doubting
 pub mod CallerLemmas

@@ -13,5 +13,6 @@ pub mod Scanning
 pub mod Reading
 pub mod Extremes
 pub mod Lines
+pub mod Doubts
 pub mod State
 pub mod Kept

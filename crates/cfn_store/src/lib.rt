@@ -30,4 +30,5 @@ pub use line::{Line, Side};
 pub use mark::Mark;
 pub use scan::{Extreme, Sense};
 pub use store::Store;
+pub use supports::Doubt;
 pub use unaries::Unaries;

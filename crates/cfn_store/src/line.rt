@@ -34,7 +34,7 @@ pub struct Side<'a> {
 
 impl<'a> Side<'a> {
     /// What a scan over a function's two variables reads, seen from a place.
-    #[inline]
+    #[inline(always)]
     pub(crate) fn of(scan: &Scan<'a>, first: u32, second: u32, place: usize) -> Side<'a>
         requires spot { IsSpot scan.now (first ∷ second ∷ []) start }
         requires place { place < 2 }

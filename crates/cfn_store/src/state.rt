@@ -93,7 +93,7 @@ impl State {
     }
 
     /// The scan over these tuples.
-    #[inline]
+    #[inline(always)]
     fn scan<'a>(
         &'a self,
         network: &'a Network,
@@ -129,7 +129,7 @@ impl State {
     }
 
     /// A function of two variables, seen from a place.
-    #[inline]
+    #[inline(always)]
     pub(crate) fn side<'a>(
         &'a self,
         network: &'a Network,

@@ -15,6 +15,7 @@ ghost use Rattle.cfn_live.specs.Sets.{AreLive, live_count};
 ghost use Rattle.cfn_store.specs.declared.scan.Sense.TheVariants.{Least, Greatest};
 ghost use Rattle.cfn_store.specs.Extremes.{NonePicked, IsExtreme, NoneBetween, IsLeastBetween, IsFree};
 ghost use Rattle.cfn_store.specs.Lines.{IsLine, IsSide};
+ghost use Rattle.cfn_store.specs.Doubts.{AreFreeBetween, AreFreeFrom, IsDoubt, IsLacking, IsSeen};
 ghost use Rattle.cfn_store.specs.Unaries.{AreUnaries};
 ghost use Rattle.cfn_store.specs.Shelf.{on_shelf};
 ghost use Rattle.cfn_store.specs.Rooms.{sets_of, IsProjectRoom, IsExtendRoom, IsLiftRoom, IsAbove, IsToExtend};
@@ -27,7 +28,7 @@ use crate::mark::Mark;
 use crate::scan::{Extreme, Pin, Sense};
 use crate::shelf::Shelf;
 use crate::state::{State, in_common};
-use crate::supports::Supports;
+use crate::supports::{Doubt, Supports};
 use crate::unaries::Unaries;
 use cfn_model::{Decision, Event, GREATEST, Step};
 use cfn_net::{Network, Tables};
@@ -351,63 +352,81 @@ impl<'n> Store<'n> {
         )
     }
 
-    /// The same of a value that is likely to cost nothing where it did so last: that is looked at first. Where it costs nothing
-    /// now is kept for the next time.
-    pub fn least_support(&mut self, f: u32, place: u32, value: u32) -> Option<Extreme>
-        requires { IsPlace self.old.network f place value }
-        ensures least { MatchOption result (NonePicked self.old.network (history self.old) f place value)
-            (IsExtreme self.old.network (history self.old) f place value Least) }
+    /// The first live value at a place of `f`, from `from` on, with which no live tuple costs nothing, and the tuple that costs
+    /// least. In a function of two variables a tuple that cost nothing last is looked at first, and where a value costs nothing
+    /// now is kept for the next time. It takes no memory.
+    pub fn next_lacking(&mut self, f: u32, place: u32, from: u32) -> Option<Doubt>
+        requires function { f < length self.old.network.functions }
+        requires place { place < arity self.old.network f }
+        ensures lacking { MatchOption result (AreFreeFrom self.old.network (history self.old) f place from) (IsLacking self.old.network (history self.old) f place from) }
         ensures same { self.new ≡ self.old }
     {
-        if let Some(extreme) = self.old_support(f, place, value) {
-            return Some(extreme);
+        self.network().limits();
+        let mut from = from;
+        while let Some(doubt) = self.next_in_doubt(f, place, from) {
+            match doubt.least {
+                Some(extreme) if extreme.cost == 0 => {
+                    self.keep_support(f, place, doubt.value, extreme.cell);
+                }
+                _ => return Some(doubt),
+            }
+            from = doubt.value + 1;
         }
-        let found = self.least_residual(f, place, value);
-        if let Some(extreme) = found {
-            self.keep_support(f, place, value, extreme);
-        }
-        found
+        None
     }
 
-    /// The tuple with the other value with which a live value cost nothing last, where it costs nothing now.
-    fn old_support(&self, f: u32, place: u32, value: u32) -> Option<Extreme>
-        requires { IsPlace self.now.network f place value }
-        ensures { IfSome result (IsExtreme self.now.network (history self.now) f place value Least) }
-    {
-        self.network.limits();
-        if self.network.scope(f).len() != 2 {
-            return None;
-        }
-        let other = 1 - place;
-        let last = self.last_support(f, place, value, other)?;
-        let line = self.line(f, place, value, other)?;
-        let extreme = line.least(last)?;
-        if extreme.cost == 0 {
-            Some(extreme)
-        } else {
-            None
-        }
-    }
-
-    /// The first live value at a place of `f`, from `from` on, of which it is not known that a tuple with it costs nothing: in a
-    /// function of two variables the tuple that cost nothing last is looked at, in another one none is. Where all are known it
-    /// is no value of the variable. It takes no memory.
-    pub fn next_in_doubt(&self, f: u32, place: u32, from: u32) -> u32
+    /// The first live value there of which it is not known that a tuple with it costs nothing, and the tuple that costs least.
+    #[inline]
+    fn next_in_doubt(&self, f: u32, place: u32, from: u32) -> Option<Doubt>
         requires function { f < length self.now.network.functions }
         requires place { place < arity self.now.network f }
+        ensures { MatchOption result (AreFreeFrom self.now.network (history self.now) f place from) (IsDoubt self.now.network (history self.now) f place from) }
+    {
+        let network = self.network();
+        network.limits();
+        let side = self.side(f, place);
+        let value = self.next_unknown(&side, f, place, from);
+        if value >= network.size(network.scope(f)[place as usize]) {
+            return None;
+        }
+        Some(Doubt {
+            value,
+            least: self.least_seen(&side, f, place, value),
+        })
+    }
+
+    /// The least residual cost of the live tuples with a live value.
+    #[inline]
+    fn least_seen(&self, side: &Option<Side<'_>>, f: u32, place: u32, value: u32) -> Option<Extreme>
+        requires place { IsPlace self.now.network f place value }
+        requires live { IsTrue (is_live (history self.now) (variable_at self.now.network f place) value) }
+        requires side { IfSome side.now (IsSeen self.now f place) }
+        ensures { MatchOption result (NonePicked self.now.network (history self.now) f place value)
+            (IsExtreme self.now.network (history self.now) f place value Least) }
+    {
+        match side {
+            Some(side) => self.least_along(f, place, value, 1 - place, &side.line(value)),
+            None => self.least_of_all(f, place, value),
+        }
+    }
+
+    /// The first live value there, from `from` on, of which the tuple that cost nothing last does not do so now, or no value.
+    #[inline]
+    fn next_unknown(&self, side: &Option<Side<'_>>, f: u32, place: u32, from: u32) -> u32
+        requires function { f < length self.now.network.functions }
+        requires place { place < arity self.now.network f }
+        requires side { IfSome side.now (IsSeen self.now f place) }
         ensures from { from ≤ result }
         ensures live { IsPlace self.now.network f place result → IsTrue (is_live (history self.now) (variable_at self.now.network f place) result) }
-        ensures passed { (a : ℕ) → from ≤ a → a < result → IsPlace self.now.network f place a → IsTrue (is_live (history self.now) (variable_at self.now.network f place) a)
-            → IsFree self.now.network (history self.now) f place a }
+        ensures passed { AreFreeBetween self.now.network (history self.now) f place from result }
     {
         self.network.limits();
         let x = self.network.scope(f)[place as usize];
         let size = self.network.size(x);
-        let side = self.side(f, place);
         let known = self.last_supports(f, place);
         let mut value = from;
         while value < size {
-            if self.is_live(x, value) && !self.is_known(&side, known, f, place, value) {
+            if self.is_live(x, value) && !self.is_known(side, known, f, place, value) {
                 return value;
             }
             value += 1;
@@ -416,6 +435,7 @@ impl<'n> Store<'n> {
     }
 
     /// Whether a live value costs nothing together with the other value with which it did so last.
+    #[inline]
     fn is_known(
         &self,
         side: &Option<Side<'_>>,
@@ -426,13 +446,14 @@ impl<'n> Store<'n> {
     ) -> bool
         requires place { IsPlace self.now.network f place value }
         requires live { IsTrue (is_live (history self.now) (variable_at self.now.network f place) value) }
-        requires side { IfSome side.now (λ side. (arity self.now.network f ≡ 2) × ((other : ℕ) → other < arity self.now.network f → (place ≡ other → ⊥) → IsSide self.now.network (history self.now) f place other side)) }
+        requires side { IfSome side.now (IsSeen self.now f place) }
         ensures { IsTrue result → IsFree self.now.network (history self.now) f place value }
     {
+        self.network().limits();
         let (Some(side), Some(last)) = (side, known.get(value as usize)) else {
             return false;
         };
-        if !self.is_live_at(f, 1 - place, *last) {
+        if !self.is_live_number(side.other(), *last) {
             return false;
         }
         match side.line(value).least(*last) {
@@ -441,30 +462,13 @@ impl<'n> Store<'n> {
         }
     }
 
-    /// The live value of the other variable with which a value of a function of two variables cost nothing last, where there
-    /// is one. It may cost something now.
-    fn last_support(&self, f: u32, place: u32, value: u32, other: u32) -> Option<u32>
-        requires place { IsPlace self.now.network f place value }
-        requires other { other < arity self.now.network f }
-        ensures { IfSome result (λ b. IsPlace self.now.network f other b × IsTrue (is_live (history self.now) (variable_at self.now.network f other) b)) }
+    /// Whether a number is a live value of a variable.
+    #[inline]
+    fn is_live_number(&self, x: u32, value: u32) -> bool
+        requires { x < length self.now.network.sizes }
+        ensures { IsTrue result → IsValue self.now.network x value × IsTrue (is_live (history self.now) x value) }
     {
         self.network.limits();
-        let last = *self.last_supports(f, place).get(value as usize)?;
-        if self.is_live_at(f, other, last) {
-            Some(last)
-        } else {
-            None
-        }
-    }
-
-    /// Whether a number is a live value of the variable at a place.
-    fn is_live_at(&self, f: u32, place: u32, value: u32) -> bool
-        requires function { f < length self.now.network.functions }
-        requires place { place < arity self.now.network f }
-        ensures { IsTrue result → IsPlace self.now.network f place value × IsTrue (is_live (history self.now) (variable_at self.now.network f place) value) }
-    {
-        self.network.limits();
-        let x = self.network.scope(f)[place as usize];
         value < self.network.size(x) && self.is_live(x, value)
     }
 
@@ -491,19 +495,16 @@ impl<'n> Store<'n> {
         }
     }
 
-    /// Keeps where a value costs nothing.
-    fn keep_support(&mut self, f: u32, place: u32, value: u32, extreme: Extreme)
+    /// Keeps the tuple with which a value costs nothing.
+    fn keep_support(&mut self, f: u32, place: u32, value: u32, cell: u32)
         requires place { IsPlace self.old.network f place value }
-        requires cell { extreme.cell < cells (dims_at self.old.network f) }
+        requires cell { cell < cells (dims_at self.old.network f) }
         ensures { self.new ≡ self.old }
     {
         self.network.limits();
-        if extreme.cost > 0 {
-            return;
-        }
         let network = self.network;
         if network.scope(f).len() == 2 {
-            let last = network.value_at(f, extreme.cell, 1 - place);
+            let last = network.value_at(f, cell, 1 - place);
             let slot = self.support_start(f, place) + value as usize;
             self.supports.keep(f, slot, last);
         }
@@ -564,7 +565,7 @@ impl<'n> Store<'n> {
     }
 
     /// A function of two variables, seen from a place; `None` where `f` has another number of variables.
-    #[inline]
+    #[inline(always)]
     pub fn side(&self, f: u32, place: u32) -> Option<Side<'_>>
         requires function { f < length self.now.network.functions }
         requires place { place < arity self.now.network f }

@@ -1,10 +1,19 @@
 //! Where the values of functions of two variables cost nothing last: for each value at a place a value of the other variable.
 //! It is what is looked at first (a "support" in toulbar2), and nothing is promised of it.
 
+use crate::scan::Extreme;
 use crate::sums::widths;
 use cfn_net::Network;
 use cfn_rows::Rows;
 use std::alloc::{AllocError, Global};
+
+/// A live value at a place of a function, and the least residual cost of the live tuples with it, with a tuple that has it;
+/// there is none where no such tuple is live.
+#[derive(Clone, Copy)]
+pub struct Doubt {
+    pub value: u32,
+    pub least: Option<Extreme>,
+}
 
 /// A row for each function, with a number for each value of each place, one place behind another.
 #[derive(Drop)]

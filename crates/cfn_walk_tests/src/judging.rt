@@ -27,7 +27,7 @@ pub(crate) enum Fault {
     Live { variable: u32, value: u32 },
     Count { variable: u32 },
     Unary { variable: u32, value: u32 },
-    /// The least residual cost by `least_residual`, by `least_support`, and the greatest one.
+    /// The least residual cost, whether a value lacks a support, and the greatest residual cost.
     Least(Place),
     Support(Place),
     Greatest(Place),
@@ -176,8 +176,7 @@ fn fault_by(
     if !is_extreme(tuples, at, least, Sense::Least) {
         return Some(Fault::Least(at));
     }
-    let support = store.least_support(function, place, value);
-    if !is_extreme(tuples, at, support, Sense::Least) {
+    if !is_lacking(store, tuples, at) {
         return Some(Fault::Support(at));
     }
     let greatest = store.greatest_residual(function, place, value);
@@ -185,6 +184,27 @@ fn fault_by(
         return Some(Fault::Greatest(at));
     }
     None
+}
+
+/// Whether a store tells of a value at a place that it is the first from itself on that lacks a tuple that costs nothing, and
+/// what its tuples cost, exactly where it is live and these are such tuples.
+fn is_lacking(store: &mut Store<'_>, tuples: &[LiveTuple], at: Place) -> bool
+    requires { IsPlace store.old.network at.function at.place at.value }
+    ensures same { store.new ≡ store.old }
+{
+    let network = store.network();
+    network.limits();
+    let x = network.scope(at.function)[at.place as usize];
+    let is_free = tuples.iter().any(|tuple| {
+        tuple.cost == 0 && tuple.values.get(at.place as usize) == Some(&at.value)
+    });
+    let lacks = store.is_live(x, at.value) && !is_free;
+    match store.next_lacking(at.function, at.place, at.value) {
+        Some(doubt) if doubt.value == at.value => {
+            lacks && is_extreme(tuples, at, doubt.least, Sense::Least)
+        }
+        _ => !lacks,
+    }
 }
 
 /// Whether this is the least, or the greatest, residual cost of the tuples with a value at a place, and the number of one that
