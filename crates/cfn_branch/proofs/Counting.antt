@@ -1,5 +1,5 @@
 -- How many variables of a function are open.
-use Rattle.std.proofs.Common.{◌≡◌, ℕ, zero, suc, ◌+◌, ◌<◌, ◌≤◌, Bool, true, false, inl, inr, List, refl, sym, ap, ◌∙◌, add-one, arith}
+use Rattle.std.proofs.Common.{◌≡◌, ℕ, zero, suc, ◌+◌, ◌-◌, ◌<◌, ◌≤◌, Bool, true, false, inl, inr, List, refl, sym, ap, ◌∙◌, add-one, arith}
 use Rattle.std.proofs.lemmas.Bool.{cases_eq}
 use Rattle.std.proofs.lemmas.Bool.Decides.{nat_tests}
 use Rattle.std.specs.Prelude.{slice_index, nat_le, if◌then◌else◌}
@@ -46,3 +46,21 @@ two_are_open n h = grind (arith, nat_tests)
 
 pub fewer_are_open : (n : ℕ) → n < 2 → false ≡ nat_le 2 n
 fewer_are_open n h = grind (arith, nat_tests)
+
+-- two variables of which one is open: as many as the other one says
+pub two_tell : (s : Standing) (f i x y : ℕ) → i < 2 → x ≡ variable_at s.network f i → y ≡ variable_at s.network f (1 - i) → 2 ≤ choices s x → open_before s f 2 ≡ 1 + one (nat_le 2 (choices s y))
+two_tell s f zero x y l first second two =
+    let begin : open_before s f 0 ≡ 0 = refl in
+    let here = open_one_more s f 0 x first two in
+    let there = next_open s f 1 y second in
+    omega (arith, begin, here, there)
+two_tell s f (suc zero) x y l first second two =
+    let begin : open_before s f 0 ≡ 0 = refl in
+    let there = next_open s f 0 y second in
+    let here = open_one_more s f 1 x first two in
+    omega (arith, begin, here, there)
+two_tell s f (suc (suc i)) x y l first second two = absurd (omega (arith, l))
+
+pub one_and : (b : Bool) → b ≡ nat_le 2 (1 + one b)
+one_and true = refl
+one_and false = refl

@@ -7,12 +7,13 @@
 
 ghost use Rattle.std.specs.Prelude.{◌≡◌, ◌*◌, ◌<◌, ◌≤◌, true, false, length, nat_le, MatchOption};
 ghost use Rattle.cfn_consistency.specs.Openness.{open_count};
+ghost use Rattle.cfn_incidence.specs.Places.{StandsAt};
 ghost use Rattle.cfn_store.specs.Standing.{history};
 ghost use Rattle.cfn_branch.specs.Choosing.{choices, AllDecided, IsOpen, IsCheapest, IsSecondLeast, degree, HasScore, IsBetter, IsChosen};
 ghost use Rattle.cfn_branch.specs.Passing.{IsFirstOf};
 
 use crate::weights::Weights;
-use cfn_incidence::Incidence;
+use cfn_incidence::{Incidence, Place};
 use cfn_store::Store;
 
 /// What a variable is chosen by: how many values are live, the weighted degree, and the second-least unary cost.
@@ -96,21 +97,36 @@ fn score_of(weights: &Weights, incidence: &Incidence, store: &Store<'_>, x: u32)
     }
 }
 
-/// 1 and the weights of the functions on a variable that have two open variables or more. At most 2^53.
+/// 1 and the weights of the functions on an open variable that have two open variables or more. At most 2^53.
 fn weighted_degree(weights: &Weights, incidence: &Incidence, store: &Store<'_>, x: u32) -> u64
     requires incidence { incidence.now ≡ store.now.network }
     requires weights { length weights.now ≡ length store.now.network.functions }
-    requires variable { x < length store.now.network.sizes }
+    requires open { IsOpen store.now x }
     ensures { result ≡ degree store.now weights.now x }
 {
     store.network().limits();
     let mut sum = 1;
     for place in incidence.places(x) {
-        if has_two_open(store, place.function) {
+        if is_counted(store, *place, x) {
             sum += weights.of(place.function);
         }
     }
     sum
+}
+
+/// Whether the function at a place of an open variable has two open variables or more. Where it has two variables the other one
+/// tells.
+fn is_counted(store: &Store<'_>, place: Place, x: u32) -> bool
+    requires stands { StandsAt store.now.network x place }
+    requires open { IsOpen store.now x }
+    ensures { result ≡ nat_le 2 (open_count store.now.network (history store.now) place.function) }
+{
+    store.network().limits();
+    if place.other == x {
+        has_two_open(store, place.function)
+    } else {
+        store.count(place.other) >= 2
+    }
 }
 
 /// Whether a function has two open variables or more. It counts no further.

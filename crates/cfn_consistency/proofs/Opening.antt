@@ -9,6 +9,15 @@ use Rattle.cfn_model.specs.Sums.{is_live, removes}
 use Rattle.cfn_model.specs.Steps.{after}
 use Rattle.cfn_consistency.specs.Openness.{count_below, is_open, TakesPart, HasOpenPair}
 
+-- no more pass a test than there are
+pub count_most : (test : ℕ → Bool) (n : ℕ) → count_below test n ≤ n
+count_most test zero = omega arith
+count_most test (suc n) = let rest = count_most test n in let here = one (test n) in omega (arith, rest, here)
+  where
+    one : (b : Bool) → (if b then 1 else 0) ≤ 1
+    one true = omega arith
+    one false = omega arith
+
 -- of two tests the first passes where the second does
 abbrev Under : Bool → Bool → Type 0
 Under one other = one ≡ true → other ≡ true
@@ -32,7 +41,8 @@ later_live : (r b : Bool) → Under (not r && b) b
 later_live true b e = absurd cc
 later_live false b e = e
 
-later_open : (P : Network) (history : List Event) (event : Event) (x : ℕ) → Under (is_open P (event ∷ history) x) (is_open P history x)
+-- what is open after an event was so before it
+pub later_open : (P : Network) (history : List Event) (event : Event) (x : ℕ) → Under (is_open P (event ∷ history) x) (is_open P history x)
 later_open P history event x = at_least _ _ (count_fewer (is_live (event ∷ history) x) (is_live history x) (slice_index P.sizes x) (λ a. later_live (removes event x a) (is_live history x a)))
 
 later_part : (P : Network) (history : List Event) (event : Event) (f : ℕ) → TakesPart P history f → TakesPart P (event ∷ history) f

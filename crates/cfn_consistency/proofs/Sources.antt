@@ -26,7 +26,7 @@ live_at history sizes (x ∷ scope) (a ∷ tuple) zero h fits live = (both (is_l
 live_at history sizes (x ∷ scope) (a ∷ tuple) (suc j) h fits live =
     live_at history sizes scope tuple j (omega (arith, h)) fits.1 (both (is_live history x a) (all_live history scope tuple) live).1
 
-tuple_live_at : (P : Network) (history : List Event) (f j : ℕ) (tuple : List ℕ) → j < arity P f → Fits (dims_at P f) tuple → is_live_tuple P history f tuple ≡ true → is_live history (variable_at P f j) (slice_index tuple j) ≡ true
+pub tuple_live_at : (P : Network) (history : List Event) (f j : ℕ) (tuple : List ℕ) → j < arity P f → Fits (dims_at P f) tuple → is_live_tuple P history f tuple ≡ true → is_live history (variable_at P f j) (slice_index tuple j) ≡ true
 tuple_live_at P history f j tuple h fits live =
     let below = nat_lt (entry_at P f tuple) P.upper in
     let first = both (all_live history (scope_at P f) tuple && below) (not (is_cut history f (cell (dims_at P f) tuple))) live in

@@ -11,6 +11,7 @@ use Rattle.cfn_consistency.specs.Virtual.{Bans}
 use Rattle.cfn_due.specs.Going.{IsOn}
 use Rattle.cfn_incidence.specs.declared.incidence.Place.{Place}
 use Rattle.cfn_incidence.specs.Places.{ArePlaces, place_at}
+use Rattle.cfn_incidence.proofs.CallerLemmas.{place_found}
 use Rattle.cfn_store.specs.Standing.{Standing, history}
 use Rattle.cfn_derivation.specs.Derived.{AllAlive}
 use Rattle.cfn_derivation.specs.Working.{Work, HasRoom, NoneWaitsOn, IsQuietAt, IsDone, Goes}
@@ -110,15 +111,6 @@ pub none_in : (items : List ℕ) (f : ℕ) → ((j : ℕ) → j < length items �
 none_in [] f none = refl
 none_in (y ∷ items) f none = ap (λ b. b || is_in f items) (eqb_other f y (λ e. none 0 (omega arith) (sym e))) ∙ none_in items f (λ j h e. none (suc j) (omega (arith, h)) e)
 
--- what has a place is a function
-past_scope : (fs : List Function) (f i : ℕ) → i < length (slice_index_or fs f no_function).scope → f < length fs
-past_scope [] f i h = absurd (omega (arith, h))
-past_scope (g ∷ fs) zero i h = omega arith
-past_scope (g ∷ fs) (suc f) i h = let less = past_scope fs f i h in omega (arith, less)
-
-pub is_function : (P : Network) (f i : ℕ) → i < arity P f → f < length P.functions
-is_function P f i h = past_scope P.functions f i h
-
 -- where x waits no longer, what is not on it is done as before
 pub around_start : (P : Network) (history : List Event) (q : ℕ) (bans : Bans) (x : ℕ) (waiting : List ℕ) (places : List Place) → ArePlaces P x places → ((f : ℕ) → IsDone P history q bans (x ∷ waiting) f) → (f : ℕ) → NotAhead (λ j. (place_at places j).function) 0 (length places) f → IsDone P history q bans waiting f
 around_start P history q bans x waiting places are done f apart none = done f (λ y h on. by y h on (y == x) refl)
@@ -126,7 +118,7 @@ around_start P history q bans x waiting places are done f apart none = done f (�
     by : (y : ℕ) → is_in y (x ∷ waiting) ≡ true → IsOn P y f → (b : Bool) → (y == x) ≡ b → ⊥
     by y h on true e =
         let on_x = subst (λ z. IsOn P z f) (eqb-true y x e) on in
-        let found = are.all (record { function = f; place = on_x.0 }) (record { function = is_function P f on_x.0 on_x.1; place = on_x.1; is = on_x.2 }) in
+        let found = place_found P x f on_x.0 places are on_x.1 on_x.2 in
         apart found.0 (omega arith) found.1 (ap (λ (p : Place). p.function) found.2)
     by y h on false e = none y (sym (ap (λ b. b || is_in y waiting) e) ∙ h) on
 

@@ -16,6 +16,7 @@ use Rattle.cfn_due.specs.Going.{IsOn, GoesArc}
 use Rattle.cfn_due.proofs.CallerLemmas.{arc_goes_on}
 use Rattle.cfn_incidence.specs.declared.incidence.Place.{Place}
 use Rattle.cfn_incidence.specs.Places.{ArePlaces, place_at}
+use Rattle.cfn_incidence.proofs.CallerLemmas.{place_found}
 use Rattle.cfn_live.specs.Sets.{AreLive}
 use Rattle.cfn_store.specs.Exact.{AllInPlace, HasNoDebts, IsExactAlong}
 use Rattle.cfn_store.specs.Rooms.{sets_of}
@@ -24,7 +25,6 @@ use Rattle.cfn_store.proofs.CallerLemmas.{exact_here}
 use Rattle.cfn_derivation.specs.Watched.{TouchedAre, CostlyAre, AreCostly, HasCostly, Rises, Grows}
 use Rattle.cfn_derivation.proofs.Counting.{cut_fewer}
 use Rattle.cfn_derivation.proofs.Going.{with_size, with_stays, with_has, with_only}
-use Rattle.cfn_derivation.proofs.Looking.{is_function}
 
 -- lists that grow
 pub grows_none : (Goes : ℕ → Type 0) (queue : Waiting) → ((i : ℕ) → Goes i → ⊥) → Grows Goes queue queue
@@ -69,7 +69,7 @@ among_end P x places old new n are all grows = record {
   size = grows.size;
   stays = grows.stays;
   listed = λ f on.
-      (let found = are.all (record { function = f; place = on.0 }) (record { function = is_function P f on.0 on.1; place = on.1; is = on.2 }) in
+      (let found = place_found P x f on.0 places are on.1 on.2 in
       grows.listed f (found.0, (let h = found.1 in omega (arith, h, all)), ap (λ (p : Place). p.function) found.2));
 }
 

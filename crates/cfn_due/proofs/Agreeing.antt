@@ -11,7 +11,7 @@ use Rattle.cfn_model.specs.Network.{Network, arity, scope_at, variable_at, dims_
 use Rattle.cfn_model.specs.Sums.{unary, unary_by, residual, residual_by, removes, cuts, is_live, is_cut, all_live, is_live_tuple}
 use Rattle.cfn_model.proofs.CallerLemmas.{eqb_other}
 use Rattle.cfn_consistency.specs.Agreement.{AgreeOnValues, AgreeOnUnaries, AgreeOnFunction, AgreeAround, AgreeNear}
-use Rattle.cfn_due.specs.Going.{IsOn, GoesArc, GoesFull, GoesExisting}
+use Rattle.cfn_due.specs.Going.{IsOn, GoesBy, GoesArc, GoesFull, GoesExisting}
 
 -- an event that moves no costs
 abbrev pub MovesNothing : Event → Type 0
@@ -87,47 +87,54 @@ function_agrees P history event f still spares = record {
 pub first_false : (a b : ℕ) (c : Bool) → (a ≡ b → ⊥) → ((a == b) && c) ≡ false
 first_false a b c other = ap (λ t. t && c) (eqb_other a b other)
 
--- no variable of a function is one that it is not on
-apart : (P : Network) (x f i : ℕ) → i < arity P f → (IsOn P x f → ⊥) → x ≡ variable_at P f i → ⊥
-apart P x f i h off e = off (i, h, sym e)
+-- it takes no value of a variable by which f would end, and cuts no tuple of it
+pub record SparesBy (Ends : Network → ℕ → ℕ → Type 0) (P : Network) (event : Event) (f : ℕ) : Type 0 where
+  pub values : (x : ℕ) → Ends P x f → SparesValues event x
+  pub tuples : (c : ℕ) → cuts event f c ≡ false
 
-spares_function : (P : Network) (event : Event) (f : ℕ) → MovesNothing event → (GoesArc P event f → ⊥) → Spares P event f
-spares_function P (Did (Project g i a m)) f still stays = absurd still
-spares_function P (Did (Extend g i a m)) f still stays = absurd still
-spares_function P (Did (Lift x m)) f still stays = absurd still
-spares_function P (Did (CutValue x a)) f still stays = record {
-  values = λ j h b. first_false x (variable_at P f j) (a == b) (apart P x f j h stays);
+pub spares_by : (Ends : Network → ℕ → ℕ → Type 0) (P : Network) (event : Event) (f : ℕ) → MovesNothing event → (GoesBy Ends P event f → ⊥) → SparesBy Ends P event f
+spares_by Ends P (Did (Project g i a m)) f still stays = absurd still
+spares_by Ends P (Did (Extend g i a m)) f still stays = absurd still
+spares_by Ends P (Did (Lift x m)) f still stays = absurd still
+spares_by Ends P (Did (CutValue y a)) f still stays = record {
+  values = λ x ends b. first_false y x (a == b) (λ e. stays (subst (λ z. Ends P z f) (sym e) ends));
   tuples = λ c. refl;
 }
-spares_function P (Did (CutTuple g d)) f still stays = record {
-  values = λ j h b. refl;
+spares_by Ends P (Did (CutTuple g d)) f still stays = record {
+  values = λ x ends b. refl;
   tuples = λ c. first_false g f (d == c) stays;
 }
-spares_function P (Took d) f still stays = record {
-  values = λ j h b. first_false (variable_of d) (variable_at P f j) (not (keeps d b)) (apart P (variable_of d) f j h stays);
+spares_by Ends P (Took d) f still stays = record {
+  values = λ x ends b. first_false (variable_of d) x (not (keeps d b)) (λ e. stays (subst (λ z. Ends P z f) (sym e) ends));
   tuples = λ c. refl;
 }
-spares_function P (Refused d) f still stays = record {
-  values = λ j h b. first_false (variable_of d) (variable_at P f j) (keeps d b) (apart P (variable_of d) f j h stays);
+spares_by Ends P (Refused d) f still stays = record {
+  values = λ x ends b. first_false (variable_of d) x (keeps d b) (λ e. stays (subst (λ z. Ends P z f) (sym e) ends));
   tuples = λ c. refl;
 }
+
+spares_function : (P : Network) (event : Event) (f : ℕ) → MovesNothing event → (GoesFull P event f → ⊥) → Spares P event f
+spares_function P event f still stays = let spares = spares_by IsOn P event f still stays in record {
+  values = λ i h. spares.values (variable_at P f i) (i, h, refl);
+  tuples = spares.tuples;
+}
+
+-- where no costs are moved the arc consistency of a function goes as its full supports do
+arc_goes : (P : Network) (event : Event) (f : ℕ) → MovesNothing event → GoesFull P event f → GoesArc P event f
+arc_goes P (Did (Project g i a m)) f still goes = absurd still
+arc_goes P (Did (Extend g i a m)) f still goes = absurd still
+arc_goes P (Did (Lift x m)) f still goes = absurd still
+arc_goes P (Did (CutValue x a)) f still goes = goes
+arc_goes P (Did (CutTuple g c)) f still goes = goes
+arc_goes P (Took d) f still goes = goes
+arc_goes P (Refused d) f still goes = goes
 
 pub arcs_agree : (P : Network) (history : List Event) (event : Event) (f : ℕ) → MovesNothing event → (GoesArc P event f → ⊥) → AgreeOnFunction P (event ∷ history) history f
-arcs_agree P history event f still stays = function_agrees P history event f still (spares_function P event f still stays)
-
--- where arc consistency goes, the directional one goes, too
-full_goes : (P : Network) (event : Event) (f : ℕ) → MovesNothing event → GoesArc P event f → GoesFull P event f
-full_goes P (Did (Project g i a m)) f still goes = absurd still
-full_goes P (Did (Extend g i a m)) f still goes = absurd still
-full_goes P (Did (Lift x m)) f still goes = absurd still
-full_goes P (Did (CutValue x a)) f still goes = goes
-full_goes P (Did (CutTuple g c)) f still goes = goes
-full_goes P (Took d) f still goes = goes
-full_goes P (Refused d) f still goes = goes
+arcs_agree P history event f still stays = function_agrees P history event f still (spares_function P event f still (λ goes. stays (arc_goes P event f still goes)))
 
 pub full_agree : (P : Network) (history : List Event) (event : Event) (f : ℕ) → MovesNothing event → (GoesFull P event f → ⊥) → AgreeAround P (event ∷ history) history f
 full_agree P history event f still stays = record {
-  function = arcs_agree P history event f still (λ goes. stays (full_goes P event f still goes));
+  function = function_agrees P history event f still (spares_function P event f still stays);
   unaries = λ i h. unaries_agree P history event (variable_at P f i) still;
 }
 
@@ -166,7 +173,7 @@ existing_agree P history event x still stays = record {
 
 -- a tuple of a function with which an event does not go stays live
 pub tuple_stays : (P : Network) (history : List Event) (event : Event) (f : ℕ) (tuple : List ℕ) → MovesNothing event → (GoesFull P event f → ⊥) → is_live_tuple P (event ∷ history) f tuple ≡ is_live_tuple P history f tuple
-tuple_stays P history event f tuple still stays = tuple_same P history event f tuple (spares_function P event f still (λ goes. stays (full_goes P event f still goes)))
+tuple_stays P history event f tuple still stays = tuple_same P history event f tuple (spares_function P event f still stays)
 
 -- what is live stays so
 all_kept : (event : Event) (history : List Event) (scope tuple : List ℕ) → ((j : ℕ) → j < length scope → IsTrue (is_live history (slice_index scope j) (slice_index tuple j)) → IsTrue (is_live (event ∷ history) (slice_index scope j) (slice_index tuple j))) → IsTrue (all_live history scope tuple) → IsTrue (all_live (event ∷ history) scope tuple)

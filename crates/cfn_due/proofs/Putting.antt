@@ -1,13 +1,14 @@
 -- Numbers are put behind those that wait.
-use Rattle.std.proofs.Common.{◌≡◌, ◌⊎◌, ℕ, zero, suc, ◌+◌, ◌-◌, ◌<◌, ◌≤◌, inl, inr, Bool, true, false, ◌||◌, List, [], ◌∷◌, ◌++◌, length, append_assoc, refl, sym, ap, ◌∙◌, subst, arith, eq-eqb}
+use Rattle.std.proofs.Common.{◌≡◌, ◌⊎◌, ℕ, ◌+◌, ◌-◌, ◌<◌, ◌≤◌, inl, inr, Bool, true, false, ◌||◌, List, [], ◌∷◌, ◌++◌, length, append_assoc, refl, sym, ap, ◌∙◌, subst, arith, eq-eqb}
 use Rattle.std.proofs.lemmas.Bool.{cases_eq, false≢true}
-use Rattle.std.specs.Prelude.{slice_index_or, if◌then◌else◌}
-use Rattle.cfn_model.specs.Network.{Function, Network, no_function, arity, variable_at}
+use Rattle.std.specs.Prelude.{if◌then◌else◌}
+use Rattle.cfn_model.specs.Network.{Network, arity, variable_at}
 use Rattle.cfn_model.proofs.CallerLemmas.{eqb_other}
 use Rattle.cfn_queue.specs.Waiting.{Waiting, is_in, with_item}
 use Rattle.cfn_queue.proofs.CallerLemmas.{in_behind}
 use Rattle.cfn_incidence.specs.declared.incidence.Place.{Place}
-use Rattle.cfn_incidence.specs.Places.{ArePlaces, place_at}
+use Rattle.cfn_incidence.specs.Places.{StandsAt, place_in, place_at, ArePlaces}
+use Rattle.cfn_incidence.proofs.CallerLemmas.{stands_in, two_there}
 use Rattle.cfn_due.specs.Dues.{waits}
 use Rattle.cfn_due.specs.Going.{IsOn, IsUpper, IsNear, ArePut}
 use Rattle.cfn_due.specs.Remembered.{AllWait}
@@ -83,25 +84,12 @@ put_same old new Goes Other put there back = record {
   left = λ i stay. put.left i (λ goes. stay (there i goes));
 }
 
--- what has a place is a function
-past_scope : (fs : List Function) (f i : ℕ) → i < length (slice_index_or fs f no_function).scope → f < length fs
-past_scope [] f i h = absurd (omega (arith, h))
-past_scope (g ∷ fs) zero i h = omega arith
-past_scope (g ∷ fs) (suc f) i h = let less = past_scope fs f i h in omega (arith, less)
-
-pub is_function : (P : Network) (f i : ℕ) → i < arity P f → f < length P.functions
-is_function P f i h = past_scope P.functions f i h
-
 -- one of the first n is at hand or before
 split_last : (n j : ℕ) → j < n + 1 → (j < n) ⊎ (n ≡ j)
 split_last n j h = elim (cases_eq n j) [
   | inl e ↦ inr e
   | inr d ↦ inl (omega (arith, h, d))
 ]
-
--- f has one of the first n places
-abbrev pub IsAmong : List Place → ℕ → ℕ → Type 0
-IsAmong places n f = (j : ℕ) × (j < n) × ((place_at places j).function ≡ f)
 
 -- nothing goes yet, and then one more
 pub none_put : (queue : Waiting) (Fact : ℕ → ℕ → Type 0) → ArePut queue queue (λ i. (j : ℕ) × (j < 0) × Fact j i)
@@ -117,92 +105,79 @@ more_put old middle new Fact n first second =
     (λ i goes. (goes.0, (let h = goes.1 in omega (arith, h)), goes.2))
     (λ i goes. (n, omega arith, goes))
 
-pub functions_end : (P : Network) (x : ℕ) (places : List Place) (old new : Waiting) (n : ℕ) → ArePlaces P x places → length places ≤ n → n ≤ length places → ArePut old new (IsAmong places n) → ArePut old new (IsOn P x)
-functions_end P x places old new n are all most put =
-    put_same old new (IsAmong places n) (IsOn P x) put
-    (λ f among. (let h = among.1 in let stands = are.stands among.0 (omega (arith, h, most)) in
-    subst (IsOn P x) among.2 ((place_at places among.0).place, stands.place, stands.is)))
-    (λ f on. (let p : Place = record { function = f; place = on.0 } in
-    let found = are.all p (record { function = is_function P f on.0 on.1; place = on.1; is = on.2 }) in
-    let h = found.1 in
-    (found.0, omega (arith, h, all), ap (λ (q : Place). q.function) found.2)))
+-- a fact of i and one of the first n places
+abbrev pub Among : List Place → (Place → ℕ → Type 0) → ℕ → ℕ → Type 0
+Among places At n i = (j : ℕ) × (j < n) × At (place_at places j) i
 
--- f has place j of some places, and x may be its upper variable
-abbrev pub IsUpperPlace : Network → ℕ → List Place → ℕ → ℕ → Type 0
-IsUpperPlace P x places j f = ((place_at places j).function ≡ f) × (arity P f ≡ 2 → variable_at P f (1 - (place_at places j).place) ≤ x)
+-- all places of x
+places_end : (P : Network) (x : ℕ) (places : List Place) (old new : Waiting) (n : ℕ) (At : Place → ℕ → Type 0) (Goes : ℕ → Type 0) → ArePlaces P x places → n ≡ length places → ArePut old new (Among places At n) → ((p : Place) (i : ℕ) → StandsAt P x p → At p i → Goes i) → ((i : ℕ) → Goes i → (p : Place) × StandsAt P x p × At p i) → ArePut old new Goes
+places_end P x places old new n At Goes are whole put there back =
+    put_same old new (Among places At n) Goes put
+    (λ i among. there (place_at places among.0) i (are.stands among.0 (let h = among.1 in omega (arith, h, whole))) among.2)
+    (λ i goes. (let at = back i goes in let found = are.all at.0 at.1 in let h = found.1 in (found.0, omega (arith, h, whole), subst (λ p. At p i) (sym found.2) at.2)))
 
-abbrev pub IsUpperAmong : Network → ℕ → List Place → ℕ → ℕ → Type 0
-IsUpperAmong P x places n f = (j : ℕ) × (j < n) × IsUpperPlace P x places j f
+-- the function of a place
+abbrev pub IsOfPlace : Place → ℕ → Type 0
+IsOfPlace p f = p.function ≡ f
 
--- the function of a place is put where x may be its upper variable, and no other
-pub upper_put : (P : Network) (x : ℕ) (places : List Place) (n : ℕ) (old new : Waiting) → ((arity P (place_at places n).function ≡ 2) → variable_at P (place_at places n).function (1 - (place_at places n).place) ≤ x) → new ≡ with_item old (place_at places n).function → ArePut old new (IsUpperPlace P x places n)
-upper_put P x places n old new up is =
-    subst (λ queue. ArePut old queue (IsUpperPlace P x places n)) (sym is)
-    (put_same old (with_item old (place_at places n).function) (λ f. (place_at places n).function ≡ f) (IsUpperPlace P x places n) (put_one old (place_at places n).function)
-    (λ f e. (e, subst (λ g. arity P g ≡ 2 → variable_at P g (1 - (place_at places n).place) ≤ x) e up))
-    (λ f goes. goes.0))
+pub functions_end : (P : Network) (x : ℕ) (places : List Place) (old new : Waiting) (n : ℕ) → ArePlaces P x places → n ≡ length places → ArePut old new (Among places IsOfPlace n) → ArePut old new (IsOn P x)
+functions_end P x places old new n are whole put =
+    places_end P x places old new n IsOfPlace (IsOn P x) are whole put
+    (λ p f at e. subst (IsOn P x) e (p.place, at.place, at.is))
+    (λ f on. (place_in P f on.0, stands_in P x f on.0 on.1 on.2, refl))
 
-pub lower_passed : (P : Network) (x : ℕ) (places : List Place) (n : ℕ) (queue : Waiting) → arity P (place_at places n).function ≡ 2 → x < variable_at P (place_at places n).function (1 - (place_at places n).place) → ArePut queue queue (IsUpperPlace P x places n)
-lower_passed P x places n queue two lower =
-    put_none queue (IsUpperPlace P x places n) (λ f goes. absurd (let up = subst (λ g. arity P g ≡ 2 → variable_at P g (1 - (place_at places n).place) ≤ x) (sym goes.0) goes.1 two in omega (arith, up, lower)))
+-- the function of a place at which x is not the lower one of two variables
+abbrev pub IsUpperOf : ℕ → Place → ℕ → Type 0
+IsUpperOf x p f = (p.function ≡ f) × (p.other ≤ x)
 
-pub uppers_end : (P : Network) (x : ℕ) (places : List Place) (old new : Waiting) (n : ℕ) → ArePlaces P x places → length places ≤ n → n ≤ length places → ArePut old new (IsUpperAmong P x places n) → ArePut old new (IsUpper P x)
-uppers_end P x places old new n are all most put =
-    put_same old new (IsUpperAmong P x places n) (IsUpper P x) put
-    (λ f among. (let h = among.1 in let stands = are.stands among.0 (omega (arith, h, most)) in
-    subst (λ g. (arity P g ≡ 2 → variable_at P g (1 - (place_at places among.0).place) ≤ x) → IsUpper P x g) among.2.0 (λ up. ((place_at places among.0).place, stands.place, stands.is, up)) among.2.1))
-    (λ f upper. (let p : Place = record { function = f; place = upper.0 } in
-    let found = are.all p (record { function = is_function P f upper.0 upper.1; place = upper.1; is = upper.2 }) in
-    let h = found.1 in
-    (found.0, omega (arith, h, all), (ap (λ (q : Place). q.function) found.2, subst (λ (q : Place). arity P f ≡ 2 → variable_at P f (1 - q.place) ≤ x) (sym found.2) upper.3))))
+pub upper_put : (x : ℕ) (p : Place) (old new : Waiting) → p.other ≤ x → new ≡ with_item old p.function → ArePut old new (IsUpperOf x p)
+upper_put x p old new up is =
+    subst (λ queue. ArePut old queue (IsUpperOf x p)) (sym is)
+    (put_same old (with_item old p.function) (λ f. p.function ≡ f) (IsUpperOf x p) (put_one old p.function) (λ f e. (e, up)) (λ f goes. goes.0))
+
+pub lower_passed : (x : ℕ) (p : Place) (queue : Waiting) → x < p.other → ArePut queue queue (IsUpperOf x p)
+lower_passed x p queue lower = put_none queue (IsUpperOf x p) (λ f goes. absurd (let up = goes.1 in omega (arith, up, lower)))
+
+pub uppers_end : (P : Network) (x : ℕ) (places : List Place) (old new : Waiting) (n : ℕ) → ArePlaces P x places → n ≡ length places → ArePut old new (Among places (IsUpperOf x) n) → ArePut old new (IsUpper P x)
+uppers_end P x places old new n are whole put =
+    places_end P x places old new n (IsUpperOf x) (IsUpper P x) are whole put
+    (λ p f at goes. subst (IsUpper P x) goes.0 (p.place, at.place, at.is, λ two. subst (λ y. y ≤ x) (at.other two) goes.1))
+    (λ f upper. (let at = stands_in P x f upper.0 upper.1 upper.2 in (place_in P f upper.0, at, (refl, up at upper.3))))
+  where
+    up : {p : Place} → StandsAt P x p → (arity P p.function ≡ 2 → variable_at P p.function (1 - p.place) ≤ x) → p.other ≤ x
+    up {p = p} at lower = elim (cases_eq (arity P p.function) 2) [
+      | inl two ↦ subst (λ y. y ≤ x) (sym (at.other two)) (lower two)
+      | inr more ↦ subst (λ y. p.other ≤ y) (at.alone more) (omega arith)
+    ]
 
 -- x stands at one of the first n places of f
 abbrev pub IsWithin : Network → ℕ → ℕ → ℕ → Type 0
 IsWithin P f n x = (i : ℕ) × (i < n) × (variable_at P f i ≡ x)
 
--- y is x, or in the scope of a function that has one of the first n places
-abbrev pub IsNearAmong : Network → ℕ → List Place → ℕ → ℕ → Type 0
-IsNearAmong P x places n y = (x ≡ y) ⊎ ((j : ℕ) × (j < n) × IsOn P y (place_at places j).function)
+-- y is in the scope of the function of a place
+abbrev pub IsBeside : Network → Place → ℕ → Type 0
+IsBeside P p y = IsOn P y p.function
 
-pub near_start : (P : Network) (x : ℕ) (places : List Place) (old new : Waiting) → ArePut old new (λ y. x ≡ y) → ArePut old new (IsNearAmong P x places 0)
-near_start P x places old new put =
-    put_same old new (λ y. x ≡ y) (IsNearAmong P x places 0) put (λ y e. inl e)
-    (λ y near. elim near [
-      | inl e ↦ e
-      | inr none ↦ absurd (let h = none.1 in omega (arith, h))
-    ])
+-- where x waits, and there are two variables, the other one is all that is to be put
+pub other_put : (P : Network) (x : ℕ) (p : Place) (old new : Waiting) → StandsAt P x p → (p.other ≡ x → ⊥) → waits old x ≡ true → ArePut old new (λ y. p.other ≡ y) → ArePut old new (IsBeside P p)
+other_put P x p old new at apart here put = record {
+  size = put.size;
+  behind = put.behind;
+  put = λ y on. elim (cases_eq on.0 p.place) [
+    | inl same ↦ stays old new (λ z. p.other ≡ z) y put (subst (λ z. waits old z ≡ true) (sym at.is ∙ ap (variable_at P p.function) (sym same) ∙ on.2) here)
+    | inr other ↦ put.put y (at.other two ∙ ap (variable_at P p.function) (let h = on.1 in let l = at.place in omega (arith, h, l, two, other)) ∙ on.2)
+  ];
+  left = λ y off. put.left y (λ e. off (1 - p.place, omega (arith, two), sym (at.other two) ∙ e));
+}
+  where
+    two : arity P p.function ≡ 2
+    two = two_there P x p at apart
 
-pub near_more : (P : Network) (x : ℕ) (places : List Place) (old queue new : Waiting) (n : ℕ) → ArePut old queue (IsNearAmong P x places n) → ArePut queue new (λ y. IsOn P y (place_at places n).function) → ArePut old new (IsNearAmong P x places (n + 1))
-near_more P x places old queue new n put more =
-    put_then old queue new (IsNearAmong P x places n) (λ y. IsOn P y (place_at places n).function) (IsNearAmong P x places (n + 1)) put more
-    (λ y near. elim near [
-      | inl e ↦ inl (inl e)
-      | inr among ↦ (elim (split_last n among.0 among.1) [
-        | inl less ↦ inl (inr (among.0, less, among.2))
-        | inr e ↦ inr (subst (λ j. IsOn P y (place_at places j).function) (sym e) among.2)
-      ])
-    ])
-    (λ y near. elim near [
-      | inl e ↦ inl e
-      | inr among ↦ inr (among.0, (let h = among.1 in omega (arith, h)), among.2)
-    ])
-    (λ y on. inr (n, omega arith, on))
-
-pub near_end : (P : Network) (x : ℕ) (places : List Place) (old new : Waiting) (n : ℕ) → ArePlaces P x places → length places ≤ n → n ≤ length places → ArePut old new (IsNearAmong P x places n) → ArePut old new (IsNear P x)
-near_end P x places old new n are all most put =
-    put_same old new (IsNearAmong P x places n) (IsNear P x) put
-    (λ y near. elim near [
-      | inl e ↦ inl e
-      | inr among ↦
-          (let h = among.1 in let stands = are.stands among.0 (omega (arith, h, most)) in
-          inr ((place_at places among.0).function, ((place_at places among.0).place, stands.place, stands.is), among.2))
-    ])
-    (λ y near. elim near [
-      | inl e ↦ inl e
-      | inr both ↦
-          (let f = both.0 in let on = both.1 in
-          let p : Place = record { function = f; place = on.0 } in
-          let found = are.all p (record { function = is_function P f on.0 on.1; place = on.1; is = on.2 }) in
-          let h = found.1 in
-          inr (found.0, omega (arith, h, all), subst (IsOn P y) (sym (ap (λ (q : Place). q.function) found.2)) both.2))
-    ])
+pub near_end : (P : Network) (x : ℕ) (places : List Place) (old first new : Waiting) (n : ℕ) → ArePlaces P x places → n ≡ length places → first ≡ with_item old x → ArePut first new (Among places (IsBeside P) n) → ArePut old new (IsNear P x)
+near_end P x places old first new n are whole start put =
+    put_then old first new (λ y. x ≡ y) (λ y. (f : ℕ) × IsOn P x f × IsOn P y f) (IsNear P x)
+    (subst (λ queue. ArePut old queue (λ y. x ≡ y)) (sym start) (put_one old x))
+    (places_end P x places first new n (IsBeside P) (λ y. (f : ℕ) × IsOn P x f × IsOn P y f) are whole put
+    (λ p y at on. (p.function, (p.place, at.place, at.is), on))
+    (λ y both. (let on = both.1 in (place_in P both.0 on.0, stands_in P x both.0 on.0 on.1 on.2, both.2))))
+    (λ y near. near) (λ y e. inl e) (λ y both. inr both)

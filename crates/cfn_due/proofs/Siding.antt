@@ -1,15 +1,15 @@
 -- What supports of the values at one place go on over: also over the loss of values of the variable there.
-use Rattle.std.proofs.Common.{◌≡◌, ℕ, suc, ◌<◌, inl, inr, List, [], ◌∷◌, length, refl, sym, ap, ◌∙◌, subst, arith}
-use Rattle.std.proofs.lemmas.Bool.{and_parts, and_from, cases_eq}
+use Rattle.std.proofs.Common.{ℕ, ◌<◌, inl, inr, List, [], ◌∷◌, length, refl, sym, arith}
+use Rattle.std.proofs.lemmas.Bool.{and_parts}
 use Rattle.std.proofs.lemmas.Int.{ints}
-use Rattle.std.specs.Prelude.{not, ◌&&◌, ◌||◌, ◌==◌, false, nat_lt, slice_index, IsTrue}
+use Rattle.std.specs.Prelude.{not, ◌&&◌, ◌==◌, slice_index, IsTrue}
 use Rattle.cfn_model.specs.declared.step.Step.{Step}
 use Rattle.cfn_model.specs.declared.step.Step.TheVariants.{Project, Extend, Lift, CutValue, CutTuple}
 use Rattle.cfn_model.specs.declared.step.Event.{Event}
 use Rattle.cfn_model.specs.declared.step.Event.TheVariants.{Did, Took, Refused}
 use Rattle.cfn_model.specs.Decisions.{variable_of, keeps}
-use Rattle.cfn_model.specs.Network.{Network, arity, scope_at, variable_at, dims_at, entry_at, cell}
-use Rattle.cfn_model.specs.Sums.{removes, cuts, is_live, is_cut, all_live, is_live_tuple}
+use Rattle.cfn_model.specs.Network.{Network, variable_at}
+use Rattle.cfn_model.specs.Sums.{removes, is_live}
 use Rattle.cfn_model.specs.Steps.{after}
 use Rattle.cfn_store.specs.Exact.{HasNoDebts, IsExactAlong}
 use Rattle.cfn_consistency.specs.Consistency.{HasSupport}

@@ -1,36 +1,23 @@
 -- Directional arc consistency asks full supports of the lower of two open variables alone; so what the lower one of a function
 -- of two variables loses ends none.
-use Rattle.std.proofs.Common.{◌≡◌, ℕ, zero, suc, ◌+◌, ◌-◌, ◌<◌, ◌≤◌, inl, inr, Bool, true, false, List, ◌∷◌, length, refl, sym, ap, ◌∙◌, subst, arith}
+use Rattle.std.proofs.Common.{◌≡◌, ℕ, ◌-◌, ◌<◌, ◌≤◌, inl, inr, false, List, ◌∷◌, length, refl, sym, ap, ◌∙◌, subst, arith}
 use Rattle.std.proofs.lemmas.Bool.{cases_eq, and_parts}
 use Rattle.std.proofs.lemmas.Int.{ints}
-use Rattle.std.specs.Prelude.{ℤ, pos, ◌≤ℤ◌, not, ◌&&◌, ◌==◌, slice_index, nat_le, if◌then◌else◌, IsTrue}
-use Rattle.cfn_model.specs.declared.step.Step.TheVariants.{Project, Extend, Lift, CutValue, CutTuple}
+use Rattle.std.specs.Prelude.{ℤ, pos, ◌≤ℤ◌, not, IsTrue}
 use Rattle.cfn_model.specs.declared.step.Event.{Event}
-use Rattle.cfn_model.specs.declared.step.Event.TheVariants.{Did, Took, Refused}
-use Rattle.cfn_model.specs.Decisions.{variable_of, keeps}
 use Rattle.cfn_model.specs.Network.{Network, IsNetwork, arity, variable_at}
-use Rattle.cfn_model.specs.Sums.{removes, cuts, is_live, residual_by, unary_by}
+use Rattle.cfn_model.specs.Sums.{removes, is_live, residual_by, unary_by}
 use Rattle.cfn_store.specs.Exact.{HasNoDebts}
-use Rattle.cfn_consistency.specs.Agreement.{AgreeAround}
-use Rattle.cfn_consistency.specs.Openness.{count_below, is_open, HasOpenPair}
+use Rattle.cfn_consistency.specs.Openness.{is_open, HasOpenPair}
 use Rattle.cfn_consistency.specs.Consistency.{IsDirectional}
-use Rattle.cfn_consistency.proofs.CallerLemmas.{directional_is_local}
+use Rattle.cfn_consistency.proofs.CallerLemmas.{count_most, later_open, directional_is_local}
 use Rattle.cfn_due.specs.Going.{IsUpper, GoesDirected}
-use Rattle.cfn_due.proofs.Agreeing.{MovesNothing, SparesValues, same_unaries, same_costs, first_false, tuple_kept, around_agrees}
+use Rattle.cfn_due.proofs.Agreeing.{MovesNothing, SparesBy, spares_by, same_unaries, same_costs, tuple_kept, around_agrees}
 use Rattle.cfn_due.proofs.Falling.{full_kept}
 
 -- what is 0 does not rise
 pub falls_none : (z : ℤ) → z ≡ pos 0 → z ≤ℤ pos 0
 falls_none z e = omega (arith, ints, e)
-
--- no more pass a test than there are
-most : (test : ℕ → Bool) (n : ℕ) → count_below test n ≤ n
-most test zero = omega arith
-most test (suc n) = let rest = most test n in let one = one_at_most (test n) in omega (arith, rest, one)
-  where
-    one_at_most : (b : Bool) → (if b then 1 else 0) ≤ 1
-    one_at_most true = omega arith
-    one_at_most false = omega arith
 
 -- the two open variables of a function of two
 pub pair_of_two : (P : Network) (history : List Event) (f i : ℕ) → f < length P.functions → arity P f ≡ 2 → i < 2 → IsTrue (is_open P history (variable_at P f i)) → IsTrue (is_open P history (variable_at P f (1 - i))) → HasOpenPair P history f i (1 - i)
@@ -38,7 +25,7 @@ pair_of_two P history f i there two here one other = record {
   active = record {
     function = there;
     some = omega (arith, two);
-    few = let all = most (λ k. is_open P history (variable_at P f k)) (arity P f) in omega (arith, all, two);
+    few = let all = count_most (λ k. is_open P history (variable_at P f k)) (arity P f) in omega (arith, all, two);
   };
   one = (omega (arith, two, here), one);
   other = (omega (arith, two), other);
@@ -60,73 +47,28 @@ upper_is P f i j x here there apart lower at = (
       omega (arith, lower, at, same)),
 )
 
--- of f an event takes no tuple, and no value of a variable that may be the upper one
-record SparesUpper (P : Network) (event : Event) (f : ℕ) : Type 0 where
-  pub values : (j : ℕ) → j < arity P f → (arity P f ≡ 2 → variable_at P f (1 - j) ≤ variable_at P f j) → SparesValues event (variable_at P f j)
-  pub tuples : (c : ℕ) → cuts event f c ≡ false
-
-not_upper : (P : Network) (x f j : ℕ) → j < arity P f → (arity P f ≡ 2 → variable_at P f (1 - j) ≤ variable_at P f j) → (IsUpper P x f → ⊥) → x ≡ variable_at P f j → ⊥
-not_upper P x f j there up stays e = stays (j, there, sym e, λ two. subst (λ y. variable_at P f (1 - j) ≤ y) (sym e) (up two))
-
-spares_upper : (P : Network) (event : Event) (f : ℕ) → MovesNothing event → (GoesDirected P event f → ⊥) → SparesUpper P event f
-spares_upper P (Did (Project g i a m)) f still stays = absurd still
-spares_upper P (Did (Extend g i a m)) f still stays = absurd still
-spares_upper P (Did (Lift x m)) f still stays = absurd still
-spares_upper P (Did (CutValue x a)) f still stays = record {
-  values = λ j there up b. first_false x (variable_at P f j) (a == b) (not_upper P x f j there up stays);
-  tuples = λ c. refl;
-}
-spares_upper P (Did (CutTuple g d)) f still stays = record {
-  values = λ j there up b. refl;
-  tuples = λ c. first_false g f (d == c) stays;
-}
-spares_upper P (Took d) f still stays = record {
-  values = λ j there up b. first_false (variable_of d) (variable_at P f j) (not (keeps d b)) (not_upper P (variable_of d) f j there up stays);
-  tuples = λ c. refl;
-}
-spares_upper P (Refused d) f still stays = record {
-  values = λ j there up b. first_false (variable_of d) (variable_at P f j) (keeps d b) (not_upper P (variable_of d) f j there up stays);
-  tuples = λ c. refl;
-}
-
--- what is open after an event was so before it
-fewer : (one other : ℕ → Bool) (n : ℕ) → ((a : ℕ) → one a ≡ true → other a ≡ true) → count_below one n ≤ count_below other n
-fewer one other zero under = omega arith
-fewer one other (suc n) under = let h = by (one n) (other n) (under n) in let rest = fewer one other n under in omega (arith, h, rest)
-  where
-    by : (b d : Bool) → (b ≡ true → d ≡ true) → (if b then 1 else 0) ≤ (if d then 1 else 0)
-    by true true under = omega arith
-    by true false under = absurd (let e = under refl in cc)
-    by false d under = omega arith
-
-two_still : (m n : ℕ) → m ≤ n → nat_le 2 m ≡ true → nat_le 2 n ≡ true
-two_still m n le two = grind (arith, le, two)
-
-open_before : (P : Network) (history : List Event) (event : Event) (x : ℕ) → IsTrue (is_open P (event ∷ history) x) → IsTrue (is_open P history x)
-open_before P history event x = two_still _ _ (fewer (is_live (event ∷ history) x) (is_live history x) (slice_index P.sizes x) (λ a live. (and_parts (not (removes event x a)) (is_live history x a) live).1))
-
 -- the lower variable's full supports in a function of two variables
-lower_kept : (P : Network) (history : List Event) (event : Event) (f : ℕ) → MovesNothing event → IsNetwork P → HasNoDebts P (event ∷ history) → SparesUpper P event f → arity P f ≡ 2 → IsDirectional P history f → IsDirectional P (event ∷ history) f
+lower_kept : (P : Network) (history : List Event) (event : Event) (f : ℕ) → MovesNothing event → IsNetwork P → HasNoDebts P (event ∷ history) → SparesBy IsUpper P event f → arity P f ≡ 2 → IsDirectional P history f → IsDirectional P (event ∷ history) f
 lower_kept P history event f still net debts spares two was i j a pair lower place live =
     let other = other_place i j (arity P f) pair.one.0 pair.other.0 pair.different two in
     let back = other_place j i (arity P f) pair.other.0 pair.one.0 (λ e. pair.different (sym e)) two in
     let here = pair.one.0 in
     let up : arity P f ≡ 2 → variable_at P f (1 - j) ≤ variable_at P f j = λ t. (let same = ap (variable_at P f) back in omega (arith, lower, same)) in
     let pair_was = subst (HasOpenPair P history f i) other
-    (pair_of_two P history f i pair.active.function two (omega (arith, here, two)) (open_before P history event (variable_at P f i) pair.one.1)
-    (subst (λ k. IsTrue (is_open P history (variable_at P f k))) (sym other) (open_before P history event (variable_at P f j) pair.other.1))) in
+    (pair_of_two P history f i pair.active.function two (omega (arith, here, two)) (later_open P history event (variable_at P f i) pair.one.1)
+    (subst (λ k. IsTrue (is_open P history (variable_at P f k))) (sym other) (later_open P history event (variable_at P f j) pair.other.1))) in
     let has = was i j a pair_was lower place (and_parts (not (removes event (variable_at P f i) a)) (is_live history (variable_at P f i) a) live).1 in
     full_kept P history event f i j a net pair.active.function pair.other.0 debts
     (λ tuple. falls_none (residual_by event f tuple) (same_costs event f tuple still))
     (λ b. falls_none (unary_by P event (variable_at P f j) b) (same_unaries P event (variable_at P f j) b still))
     has
     (tuple_kept P history event f i a has.tuple spares.tuples
-    (λ k v l apart. subst (λ n. removes event (variable_at P f n) v ≡ false) (sym other ∙ other_place i k (arity P f) here l (λ e. apart (sym e)) two) (spares.values j pair.other.0 up v))
+    (λ k v l apart. subst (λ n. removes event (variable_at P f n) v ≡ false) (sym other ∙ other_place i k (arity P f) here l (λ e. apart (sym e)) two) (spares.values (variable_at P f j) (j, pair.other.0, refl, up) v))
     has.at live has.live)
 
 pub directed_agrees : (P : Network) (history : List Event) (event : Event) (f : ℕ) → MovesNothing event → IsNetwork P → HasNoDebts P (event ∷ history) → (GoesDirected P event f → ⊥) → IsDirectional P history f → IsDirectional P (event ∷ history) f
 directed_agrees P history event f still net debts stays was = elim (cases_eq (arity P f) 2) [
-  | inl two ↦ lower_kept P history event f still net debts (spares_upper P event f still stays) two was
-  | inr more ↦ (let spares = spares_upper P event f still stays in
-      (directional_is_local P (event ∷ history) history f (around_agrees P history event f still (λ j there. spares.values j there (λ two. absurd (more two))) spares.tuples)).1 was)
+  | inl two ↦ lower_kept P history event f still net debts (spares_by IsUpper P event f still stays) two was
+  | inr more ↦ (let spares = spares_by IsUpper P event f still stays in
+      (directional_is_local P (event ∷ history) history f (around_agrees P history event f still (λ j there. spares.values (variable_at P f j) (j, there, refl, λ two. absurd (more two))) spares.tuples)).1 was)
 ]

@@ -42,30 +42,29 @@ GoesSide P (Did (CutTuple g c)) f i = g ≡ f
 GoesSide P (Took d) f i = IsElsewhere P (variable_of d) f i
 GoesSide P (Refused d) f i = IsElsewhere P (variable_of d) f i
 
--- Full supports in f may end, also where unary costs of a variable of it rise.
-abbrev pub GoesFull : Network → Event → ℕ → Type 0
-GoesFull P (Did (Project g i a m)) f = IsOn P (variable_at P g i) f
-GoesFull P (Did (Extend g i a m)) f = g ≡ f
-GoesFull P (Did (Lift x m)) f = ⊥
-GoesFull P (Did (CutValue x a)) f = IsOn P x f
-GoesFull P (Did (CutTuple g c)) f = g ≡ f
-GoesFull P (Took d) f = IsOn P (variable_of d) f
-GoesFull P (Refused d) f = IsOn P (variable_of d) f
-
 -- The variable x is in the scope of f, and where that has two variables it is the upper one.
 abbrev pub IsUpper : Network → ℕ → ℕ → Type 0
 IsUpper P x f = (i : ℕ) × (i < arity P f) × (variable_at P f i ≡ x) × (arity P f ≡ 2 → variable_at P f (1 - i) ≤ x)
 
--- The directional arc consistency of f may end. Of a function of two variables it asks full supports of the lower one alone,
--- and none of these ends by what the lower one loses or by its unary costs.
+-- Full supports in f may end: costs of it rise, a tuple of it is cut, or a value of a variable, or unary costs of a variable
+-- rise, whose relation to f is one by which they end.
+abbrev pub GoesBy : (Network → ℕ → ℕ → Type 0) → Network → Event → ℕ → Type 0
+GoesBy Ends P (Did (Project g i a m)) f = Ends P (variable_at P g i) f
+GoesBy Ends P (Did (Extend g i a m)) f = g ≡ f
+GoesBy Ends P (Did (Lift x m)) f = ⊥
+GoesBy Ends P (Did (CutValue x a)) f = Ends P x f
+GoesBy Ends P (Did (CutTuple g c)) f = g ≡ f
+GoesBy Ends P (Took d) f = Ends P (variable_of d) f
+GoesBy Ends P (Refused d) f = Ends P (variable_of d) f
+
+-- Full supports of any variable of f, by any variable of it.
+abbrev pub GoesFull : Network → Event → ℕ → Type 0
+GoesFull P event f = GoesBy IsOn P event f
+
+-- The directional arc consistency of f. Of a function of two variables it asks full supports of the lower one alone, and none of
+-- these ends by what the lower one loses or by its unary costs.
 abbrev pub GoesDirected : Network → Event → ℕ → Type 0
-GoesDirected P (Did (Project g i a m)) f = IsUpper P (variable_at P g i) f
-GoesDirected P (Did (Extend g i a m)) f = g ≡ f
-GoesDirected P (Did (Lift x m)) f = ⊥
-GoesDirected P (Did (CutValue x a)) f = IsUpper P x f
-GoesDirected P (Did (CutTuple g c)) f = g ≡ f
-GoesDirected P (Took d) f = IsUpper P (variable_of d) f
-GoesDirected P (Refused d) f = IsUpper P (variable_of d) f
+GoesDirected P event f = GoesBy IsUpper P event f
 
 -- And the existential arc consistency of y, which depends on all functions on y.
 abbrev pub GoesExisting : Network → Event → ℕ → Type 0

@@ -1,4 +1,5 @@
 pub mod Dues
+pub mod Nexts
 pub mod Going
 pub mod Remembered
 pub mod Laws

@@ -6,19 +6,20 @@
 //! until the unary cost of its other value rises, which it does by a project to it alone (Cooper et al., Soft arc consistency
 //! revisited, 2010). An event puts what may end so, and nothing else.
 
-ghost use Rattle.std.specs.Prelude.{◌≡◌, ℕ, ◌+◌, ◌-◌, ◌<◌, ◌≤◌, true, false, not, List, [], ◌∷◌, length, take, drop, IfOk, IfSome, MatchOption};
+ghost use Rattle.std.specs.Prelude.{◌≡◌, ℕ, ◌<◌, ◌≤◌, true, not, List, ◌∷◌, length, take, drop, IfOk, MatchOption};
 ghost use Rattle.cfn_model.specs.declared.step.Event.{Event as PathEvent};
 ghost use Rattle.cfn_model.specs.declared.step.Event.TheVariants.{Did};
 ghost use Rattle.cfn_model.specs.Decisions.{variable_of};
-ghost use Rattle.cfn_model.specs.Network.{Network as CostNetwork, arity, variable_at};
-ghost use Rattle.cfn_model.specs.Steps.{InRange, IsDecision, after};
+ghost use Rattle.cfn_model.specs.Network.{Network as CostNetwork};
+ghost use Rattle.cfn_model.specs.Steps.{InRange, after};
 ghost use Rattle.cfn_queue.specs.Waiting.{new_queue, IsFirst};
 ghost use Rattle.cfn_incidence.specs.Places.{StandsAt};
 ghost use Rattle.cfn_store.specs.Exact.{InPlace, HasNoDebts};
 ghost use Rattle.cfn_store.specs.Standing.{history};
 ghost use Rattle.cfn_consistency.specs.Openness.{TakesPart};
 ghost use Rattle.cfn_consistency.specs.Consistency.{IsArcConsistent, IsDirectional, IsExistential, AreArcConsistent, AreDirectional, AreExistential};
-ghost use Rattle.cfn_due.specs.Dues.{emptied, without_first, rising, falling, all_due, NothingWaits, waits, waiting, HasSizes, Holds};
+ghost use Rattle.cfn_due.specs.Dues.{emptied, without_first, rising, falling, all_due, NothingWaits, waits, HasSizes, Holds};
+ghost use Rattle.cfn_due.specs.Nexts.{IsNext};
 ghost use Rattle.cfn_due.specs.Going.{IsOn, IsUpper, IsNear, ArePut, IsNoted, AreNoted};
 ghost use Rattle.cfn_due.specs.Remembered.{IsLast};
 
@@ -40,6 +41,15 @@ pub struct Due {
     directed: Queue,
     /// Variables that are to be made existential.
     existing: Queue,
+}
+
+/// What is due next: a function for arc consistency, else a variable for existential arc consistency, else a function for
+/// directional arc consistency. Of each kind it is the one that has waited longest.
+#[derive(Clone, Copy, Debug, PartialEq, Eq)]
+pub enum Next {
+    Arc(u32),
+    Existing(u32),
+    Directed(u32),
 }
 
 impl Model for Due {
@@ -90,14 +100,17 @@ impl Due {
         empty(&mut self.existing);
     }
 
-    /// Whether nothing waits.
-    pub fn is_empty(&self) -> bool
-        ensures none { result ≡ true → NothingWaits self.now }
-        ensures some { result ≡ false → 0 < waiting self.now }
+    /// What is due next. There is nothing exactly where nothing waits.
+    pub fn next(&self) -> Option<Next>
+        ensures { MatchOption result (NothingWaits self.now) (IsNext self.now) }
     {
-        self.arcs.first().is_none()
-            && self.directed.first().is_none()
-            && self.existing.first().is_none()
+        if let Some(f) = self.arcs.first() {
+            return Some(Next::Arc(f));
+        }
+        if let Some(x) = self.existing.first() {
+            return Some(Next::Existing(x));
+        }
+        self.directed.first().map(Next::Directed)
     }
 
     /// Whether a function does not wait for directional arc consistency, but has it.
@@ -107,30 +120,6 @@ impl Due {
         ensures directed { result ≡ true → (P : CostNetwork) (history : List PathEvent) → Holds P history self.now → IsDirectional P history f }
     {
         !self.directed.has(f)
-    }
-
-    /// The function that has waited longest for arc consistency.
-    pub fn first_arc(&self) -> Option<u32>
-        ensures first { MatchOption result (self.now.arcs.items ≡ []) (IsFirst self.now.arcs.items) }
-        ensures below { IfSome result (λ number. number < self.now.arcs.size) }
-    {
-        self.arcs.first()
-    }
-
-    /// The function that has waited longest for directional arc consistency.
-    pub fn first_directed(&self) -> Option<u32>
-        ensures first { MatchOption result (self.now.directed.items ≡ []) (IsFirst self.now.directed.items) }
-        ensures below { IfSome result (λ number. number < self.now.directed.size) }
-    {
-        self.directed.first()
-    }
-
-    /// The variable that has waited longest for existential arc consistency.
-    pub fn first_existing(&self) -> Option<u32>
-        ensures first { MatchOption result (self.now.existing.items ≡ []) (IsFirst self.now.existing.items) }
-        ensures below { IfSome result (λ number. number < self.now.existing.size) }
-    {
-        self.existing.first()
     }
 
     /// Takes the function away that has waited longest for arc consistency: it is so, if it takes part.
@@ -241,7 +230,7 @@ impl Due {
         if is_of(last.risen, x) {
             return;
         }
-        put_upper(network, incidence, x, &mut self.directed);
+        put_upper(incidence, x, &mut self.directed);
         put_near(network, incidence, x, &mut self.existing);
         last.risen = Some(x);
     }
@@ -261,7 +250,7 @@ impl Due {
         if is_of(last.lost, x) {
             return;
         }
-        put_functions(network, incidence, x, &mut self.arcs);
+        put_functions(incidence, x, &mut self.arcs);
         last.lost = Some(x);
     }
 
@@ -322,11 +311,10 @@ fn put_falling(queue: &mut Queue, size: u32)
 }
 
 /// Puts each function on `x`.
-fn put_functions(network: &Network, incidence: &Incidence, x: u32, queue: &mut Queue)
-    requires incidence { incidence.now ≡ network.now }
-    requires variable { x < length network.now.sizes }
-    requires size { queue.old.size ≡ length network.now.functions }
-    ensures { ArePut queue.old queue.new (IsOn network.now x) }
+fn put_functions(incidence: &Incidence, x: u32, queue: &mut Queue)
+    requires variable { x < length incidence.now.sizes }
+    requires size { queue.old.size ≡ length incidence.now.functions }
+    ensures { ArePut queue.old queue.new (IsOn incidence.now x) }
 {
     for place in incidence.places(x) {
         queue.put(place.function);
@@ -334,27 +322,16 @@ fn put_functions(network: &Network, incidence: &Incidence, x: u32, queue: &mut Q
 }
 
 /// Puts each function on `x`, but not one of two variables of which `x` is the lower one.
-fn put_upper(network: &Network, incidence: &Incidence, x: u32, queue: &mut Queue)
-    requires incidence { incidence.now ≡ network.now }
-    requires variable { x < length network.now.sizes }
-    requires size { queue.old.size ≡ length network.now.functions }
-    ensures { ArePut queue.old queue.new (IsUpper network.now x) }
+fn put_upper(incidence: &Incidence, x: u32, queue: &mut Queue)
+    requires variable { x < length incidence.now.sizes }
+    requires size { queue.old.size ≡ length incidence.now.functions }
+    ensures { ArePut queue.old queue.new (IsUpper incidence.now x) }
 {
     for place in incidence.places(x) {
-        if may_be_upper(network, *place, x) {
+        if place.other <= x {
             queue.put(place.function);
         }
     }
-}
-
-/// Whether a place's function has another number of variables than two, or its other variable is not above `x`.
-fn may_be_upper(network: &Network, place: Place, x: u32) -> bool
-    requires { StandsAt network.now x place }
-    ensures upper { result ≡ true → arity network.now place.function ≡ 2 → variable_at network.now place.function (1 - place.place) ≤ x }
-    ensures lower { result ≡ false → (arity network.now place.function ≡ 2) × (x < variable_at network.now place.function (1 - place.place)) }
-{
-    let scope = network.scope(place.function);
-    scope.len() != 2 || scope[1 - place.place as usize] <= x
 }
 
 /// Puts `x`, and each variable in the scope of a function on `x`.
@@ -366,7 +343,22 @@ fn put_near(network: &Network, incidence: &Incidence, x: u32, queue: &mut Queue)
 {
     queue.put(x);
     for place in incidence.places(x) {
+        put_beside(network, *place, x, queue);
+    }
+}
+
+/// Puts each variable in the scope of a place's function, where the one at the place, `x`, waits.
+fn put_beside(network: &Network, place: Place, x: u32, queue: &mut Queue)
+    requires stands { StandsAt network.now x place }
+    requires waits { waits queue.old x ≡ true }
+    requires size { queue.old.size ≡ length network.now.sizes }
+    ensures { ArePut queue.old queue.new (λ y. IsOn network.now y place.function) }
+{
+    network.limits();
+    if place.other == x {
         put_scope(network, place.function, queue);
+    } else {
+        queue.put(place.other);
     }
 }
 

@@ -11,4 +11,4 @@ mod due;
 mod last;
 pub mod laws;
 
-pub use due::Due;
+pub use due::{Due, Next};

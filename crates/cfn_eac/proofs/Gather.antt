@@ -13,6 +13,7 @@ use Rattle.cfn_incidence.specs.declared.incidence.Place.{Place}
 use Rattle.cfn_incidence.specs.Places.{place_at}
 use Rattle.cfn_dac.specs.declared.pair.Pair.{Pair}
 use Rattle.cfn_incidence.specs.Places.{StandsAt, ArePlaces}
+use Rattle.cfn_incidence.proofs.CallerLemmas.{place_found}
 use Rattle.cfn_eac.specs.Arms.{IsArm, IsReached, AreArms, pair_at, other_of}
 use Rattle.cfn_eac.specs.Gathering.{is_met, AreMarks, AreMarked, AreGathered, HasNoArm, IsArmAt}
 
@@ -268,7 +269,7 @@ all_gathered P history x places pairs n are h g = record {
   each = g.each;
   once = g.once;
   all = λ f i j open_pair is.
-      (let found = are.all (record { function = f; place = i }) (record { function = open_pair.active.function; place = open_pair.one.0; is = is }) in
+      (let found = place_found P x f i places are open_pair.one.0 is in
       let within = found.1 in
       subst (λ p. IsReached P pairs p.function (variable_at P p.function j)) found.2
       (g.reached found.0 j (omega (arith, h, within)) (subst (λ p. HasOpenPair P history p.function p.place j) (sym found.2) open_pair)));

@@ -3,3 +3,4 @@ pub mod Existing
 pub mod Amounts
 pub mod Owing
 pub mod Supporting
+pub mod Beside

@@ -1,8 +1,10 @@
 //! The arms of a variable: for each other open variable the first function whose two open variables they are.
 
-ghost use Rattle.std.specs.Prelude.{[], ◌≡◌, ◌<◌, length, IfOk, IfSome, MatchOption};
+ghost use Rattle.std.specs.Prelude.{[], ◌≡◌, ◌<◌, ◌≤◌, length, IfOk, IfSome, MatchOption};
 ghost use Rattle.cfn_incidence.specs.Places.{StandsAt};
 ghost use Rattle.cfn_model.specs.Network.{variable_at};
+ghost use Rattle.cfn_live.specs.Sets.{live_count};
+ghost use Rattle.cfn_store.specs.Rooms.{sets_of};
 ghost use Rattle.cfn_store.specs.Standing.{history};
 ghost use Rattle.cfn_eac.specs.Arms.{AreArms, AreOfFunctions};
 ghost use Rattle.cfn_eac.specs.Gathering.{HasNoArm, IsArmAt, ArePairs, AreMarks, IsClear};
@@ -83,15 +85,16 @@ impl<'n> Arms<'n> {
         if store.count(x) < 2 {
             self.pairs.clear();
         } else {
-            self.gather_all(store, incidence, x);
+            self.gather_open(store, incidence, x);
         }
     }
 
-    /// Gathers the arms of a variable from all its places.
-    fn gather_all(&mut self, store: &Store<'_>, incidence: &Incidence, x: u32)
+    /// Gathers the arms of an open variable from all its places.
+    fn gather_open(&mut self, store: &Store<'_>, incidence: &Incidence, x: u32)
         requires incidence { incidence.now ≡ self.old.network }
         requires network { store.now.network ≡ self.old.network }
         requires variable { x < length self.old.network.sizes }
+        requires open { 2 ≤ live_count (sets_of store.now) x }
         ensures network { self.new.network ≡ self.old.network }
         ensures arms { AreArms self.new.network (history store.now) x self.new.pairs }
     {
@@ -99,7 +102,7 @@ impl<'n> Arms<'n> {
         network.limits();
         self.pairs.clear();
         for place in incidence.places(x) {
-            if let Some(pair) = arm_at(store, *place) {
+            if let Some(pair) = arm_at(store, *place, x) {
                 let y = network.scope(pair.function)[pair.other as usize] as usize;
                 if !self.met[y] {
                     self.met[y] = true;
@@ -111,8 +114,24 @@ impl<'n> Arms<'n> {
     }
 }
 
-/// The open pair of a place's function with that place first, where there is one.
-fn arm_at(store: &Store<'_>, place: Place) -> Option<Pair>
+/// The open pair of a place's function with that place first, at which the open variable `x` stands, where there is one.
+fn arm_at(store: &Store<'_>, place: Place, x: u32) -> Option<Pair>
+    requires stands { StandsAt store.now.network x place }
+    requires open { 2 ≤ live_count (sets_of store.now) x }
+    ensures { MatchOption result (HasNoArm store.now.network (history store.now) place) (IsArmAt store.now.network (history store.now) place) }
+{
+    store.network().limits();
+    if place.other == x {
+        wide_arm_at(store, place)
+    } else if store.count(place.other) < 2 {
+        None
+    } else {
+        Some(pair_of(place, 1 - place.place))
+    }
+}
+
+/// The open pair of a place's function with that place first, where there is one, for any number of variables.
+fn wide_arm_at(store: &Store<'_>, place: Place) -> Option<Pair>
     requires { StandsAt store.now.network (variable_at store.now.network place.function place.place) place }
     ensures { MatchOption result (HasNoArm store.now.network (history store.now) place) (IsArmAt store.now.network (history store.now) place) }
 {

@@ -6,7 +6,7 @@
 //! only such as wait for directional arc consistency.
 
 ghost use Rattle.std.specs.Prelude.{◌≡◌, ◌-◌, ◌<◌, ◌≤◌, length, slice_index, true, IsTrue};
-ghost use Rattle.cfn_model.specs.Network.{variable_at};
+ghost use Rattle.cfn_model.specs.Network.{arity};
 ghost use Rattle.cfn_model.specs.Steps.{IsPlace};
 ghost use Rattle.cfn_model.specs.Sums.{is_live};
 ghost use Rattle.cfn_consistency.specs.Openness.{HasOpenPair};
@@ -15,7 +15,6 @@ ghost use Rattle.cfn_incidence.specs.Places.{StandsAt};
 ghost use Rattle.cfn_live.specs.Sets.{live_count};
 ghost use Rattle.cfn_store.specs.Rooms.{sets_of};
 ghost use Rattle.cfn_store.specs.Standing.{history};
-ghost use Rattle.cfn_dac.specs.Full.{IsPair, first_of};
 ghost use Rattle.cfn_due.specs.Dues.{HasSizes, Holds};
 ghost use Rattle.cfn_rest.specs.Resting.{AreSure};
 ghost use Rattle.cfn_eac.specs.Resting.{RestsOn};
@@ -53,37 +52,60 @@ pub(crate) fn is_at_rest(
         return true;
     }
     for place in incidence.places(x) {
-        if !rests_on(rests, due, store, *place, value) {
+        if !rests_on(rests, due, store, *place, x, value) {
             return false;
         }
     }
     true
 }
 
-/// Whether a place's function has two variables, and the live value of the open variable at the place has a full support in it
-/// if the other variable is open. What is seen is remembered.
-fn rests_on(rests: &mut Rests, due: &Due, store: &Store<'_>, place: Place, value: u32) -> bool
+/// Whether a place's function has two variables, and the live value of the open variable `x` at the place has a full support in
+/// it if the other variable is open. What is seen is remembered.
+fn rests_on(
+    rests: &mut Rests,
+    due: &Due,
+    store: &Store<'_>,
+    place: Place,
+    x: u32,
+    value: u32,
+) -> bool
     requires sizes { HasSizes store.now.network due.now }
     requires holds { Holds store.now.network (history store.now) due.now }
-    requires open { 2 ≤ live_count (sets_of store.now) (variable_at store.now.network place.function place.place) }
-    requires live { IsTrue (is_live (history store.now) (variable_at store.now.network place.function place.place) value) }
-    requires stands { StandsAt store.now.network (variable_at store.now.network place.function place.place) place }
+    requires stands { StandsAt store.now.network x place }
+    requires open { 2 ≤ live_count (sets_of store.now) x }
+    requires live { IsTrue (is_live (history store.now) x value) }
     requires place { IsPlace store.now.network place.function place.place value }
-    requires value { value ≡ slice_index rests.old.values (variable_at store.now.network place.function place.place) }
+    requires value { value ≡ slice_index rests.old.values x }
     requires sure { AreSure store.now.network (history store.now) rests.old }
     ensures rests { result ≡ true → RestsOn store.now.network (history store.now) place value }
     ensures sure { AreSure store.now.network (history store.now) rests.new }
     ensures values { rests.new.values ≡ rests.old.values }
 {
     store.network().limits();
-    if rests.is_sure(place) {
+    if store.count(place.other) < 2 || rests.is_sure(place) {
         return true;
     }
-    let scope = store.network().scope(place.function);
-    if scope.len() != 2 {
+    if place.other == x || !has_full_support(due, store, place, x, value) {
         return false;
     }
-    if store.count(scope[1 - place.place as usize]) < 2 {
+    rests.rely(place);
+    true
+}
+
+/// Whether a live value of `x` is seen to have a full support with regard to the other variable: each value of the lower one has
+/// one, where the function does not wait for directional arc consistency.
+fn has_full_support(due: &Due, store: &Store<'_>, place: Place, x: u32, value: u32) -> bool
+    requires sizes { HasSizes store.now.network due.now }
+    requires holds { Holds store.now.network (history store.now) due.now }
+    requires stands { StandsAt store.now.network x place }
+    requires two { arity store.now.network place.function ≡ 2 }
+    requires open { HasOpenPair store.now.network (history store.now) place.function place.place (1 - place.place) }
+    requires place { IsPlace store.now.network place.function place.place value }
+    requires live { IsTrue (is_live (history store.now) x value) }
+    ensures { result ≡ true → HasFullSupport store.now.network (history store.now) place.function place.place (1 - place.place) value }
+{
+    store.network().limits();
+    if x < place.other && due.is_directed(place.function) {
         return true;
     }
     let pair = Pair {
@@ -91,28 +113,5 @@ fn rests_on(rests: &mut Rests, due: &Due, store: &Store<'_>, place: Place, value
         place: place.place,
         other: 1 - place.place,
     };
-    if !has_full_support(due, store, pair, value) {
-        return false;
-    }
-    rests.rely(place);
-    true
-}
-
-/// Whether a live value is seen to have a full support: each value of the lower variable has one, where the function does not
-/// wait for directional arc consistency.
-fn has_full_support(due: &Due, store: &Store<'_>, pair: Pair, value: u32) -> bool
-    requires sizes { HasSizes store.now.network due.now }
-    requires holds { Holds store.now.network (history store.now) due.now }
-    requires pair { IsPair store.now.network pair }
-    requires open { HasOpenPair store.now.network (history store.now) pair.function pair.place pair.other }
-    requires place { IsPlace store.now.network pair.function pair.place value }
-    requires live { IsTrue (is_live (history store.now) (first_of store.now.network pair) value) }
-    ensures { result ≡ true → HasFullSupport store.now.network (history store.now) pair.function pair.place pair.other value }
-{
-    store.network().limits();
-    let scope = store.network().scope(pair.function);
-    if scope[pair.place as usize] < scope[pair.other as usize] && due.is_directed(pair.function) {
-        return true;
-    }
     least_total(store, pair, value) == 0
 }

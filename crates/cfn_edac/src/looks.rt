@@ -1,9 +1,9 @@
 //! What is done to a store where a function or all variables are looked at.
 
-ghost use Rattle.std.specs.Prelude.{◌≡◌, ℕ, ◌<◌, ◌≤◌, length, slice_index};
+ghost use Rattle.std.specs.Prelude.{◌≡◌, ◌<◌, true, length};
 ghost use Rattle.cfn_model.specs.Network.{arity};
 ghost use Rattle.cfn_consistency.specs.Openness.{TakesPart};
-ghost use Rattle.cfn_consistency.specs.Consistency.{IsNodeConsistent, IsArcConsistent, IsDirectional};
+ghost use Rattle.cfn_consistency.specs.Consistency.{IsNodeConsistent, IsArcConsistent};
 ghost use Rattle.cfn_store.specs.Standing.{history};
 ghost use Rattle.cfn_gain.specs.Calls.{GoesOn, Does, Shows};
 ghost use Rattle.cfn_gain.specs.Gains.{Gains};
@@ -90,11 +90,27 @@ fn support_side(
     ensures gains { Gains store.old store.new limits result }
     ensures supports { Shows store.old store.new result (HasSupports store.old.network (history store.old) f place) }
 {
-    if sides.is_doubted(f, place) {
-        support_at(store, limits, f, place)
-    } else {
-        Ok(())
+    if !sides.is_doubted(f, place) || is_met(store, f, place, sides) {
+        return Ok(());
     }
+    support_at(store, limits, f, place)
+}
+
+/// Whether the live value at a place of a function of two variables, where there is no other one, is seen to have a support: the
+/// other place has a live value and is not in doubt, and a support of that value is one of this value too.
+fn is_met(store: &Store<'_>, f: u32, place: u32, sides: &Sides) -> bool
+    requires function { f < length store.now.network.functions }
+    requires two { arity store.now.network f ≡ 2 }
+    requires place { place < 2 }
+    requires known { AreSupported store.now.network (history store.now) sides.now }
+    ensures { result ≡ true → HasSupports store.now.network (history store.now) f place }
+{
+    store.network().limits();
+    if sides.is_doubted(f, 1 - place) {
+        return false;
+    }
+    let scope = store.network().scope(f);
+    store.count(scope[place as usize]) < 2 && store.count(scope[1 - place as usize]) > 0
 }
 
 /// Makes the variables of a function level.

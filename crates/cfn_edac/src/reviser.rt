@@ -5,7 +5,7 @@
 //!
 //! Invariant: what does not wait is consistent in the store as it stands, and what is known of resting values and of supports is so there.
 
-ghost use Rattle.std.specs.Prelude.{◌≡◌, ◌<◌, ◌≤◌, ◌+◌, length, take, IfOk, IfSome, OnOk};
+ghost use Rattle.std.specs.Prelude.{◌≡◌, ◌<◌, ◌≤◌, length, take, IfOk, IfSome, OnOk};
 ghost use Rattle.cfn_queue.specs.Waiting.{IsFirst};
 ghost use Rattle.cfn_consistency.specs.Consistency.{IsNodeConsistent, AreFullyConsistent};
 ghost use Rattle.cfn_live.specs.Sets.{live_count};
@@ -13,7 +13,8 @@ ghost use Rattle.cfn_store.specs.Rooms.{sets_of};
 ghost use Rattle.cfn_store.specs.Standing.{history};
 ghost use Rattle.cfn_eac.specs.Asking.{IsCheapest};
 ghost use Rattle.cfn_model.specs.Steps.{after};
-ghost use Rattle.cfn_due.specs.Dues.{Holds, waiting};
+ghost use Rattle.cfn_due.specs.Dues.{Holds};
+ghost use Rattle.cfn_due.specs.Nexts.{IsNext};
 ghost use Rattle.cfn_gain.specs.Calls.{GoesOn, Does, Shows};
 ghost use Rattle.cfn_gain.specs.Gains.{Gains};
 ghost use Rattle.cfn_rest.specs.Resting.{AreSure};
@@ -23,7 +24,7 @@ ghost use Rattle.cfn_edac.specs.Settling.{IsBehindSettled};
 
 use crate::looks::{arc, levels};
 use cfn_dac::directional;
-use cfn_due::Due;
+use cfn_due::{Due, Next};
 use cfn_eac::{Arms, cheapest, existential};
 use cfn_gain::{Halt, Limits};
 use cfn_incidence::Incidence;
@@ -185,15 +186,13 @@ impl<'n> Reviser<'n> {
         ensures network { self.new.network ≡ self.old.network }
     {
         let before = store.block_len();
-        loop {
-            if self.due.is_empty() {
-                return Ok(());
-            }
-            self.revise_next(store, incidence, limits)?;
+        while let Some(next) = self.due.next() {
+            self.revise_next(store, incidence, limits, next)?;
             if store.block_len() > before {
                 return Ok(());
             }
         }
+        Ok(())
     }
 
     /// Looks at what is due next.
@@ -202,6 +201,7 @@ impl<'n> Reviser<'n> {
         store: &mut Store<'_>,
         incidence: &Incidence,
         limits: Limits,
+        next: Next,
     ) -> Result<(), Halt>
         requires network { store.old.network ≡ self.old.network }
         requires incidence { incidence.now ≡ self.old.network }
@@ -209,7 +209,7 @@ impl<'n> Reviser<'n> {
         requires holds { HoldsIn store.old self.old.due }
         requires sure { IsSureIn store.old self.old.rests }
         requires known { IsKnownIn store.old self.old.sides }
-        requires some { 0 < waiting self.old.due }
+        requires next { IsNext self.old.due next }
         ensures does { Does store.old store.new limits result }
         ensures gains { Gains store.old store.new limits result }
         ensures revised { OnOk result (IsRevised store.old store.new self.old.due self.new.due) }
@@ -217,15 +217,10 @@ impl<'n> Reviser<'n> {
         ensures known { OnOk result (IsKnownIn store.new self.new.sides) }
         ensures network { self.new.network ≡ self.old.network }
     {
-        if let Some(f) = self.due.first_arc() {
-            return self.revise_arc(store, incidence, limits, f);
-        }
-        if let Some(x) = self.due.first_existing() {
-            return self.revise_existing(store, incidence, limits, x);
-        }
-        match self.due.first_directed() {
-            Some(f) => self.revise_directed(store, incidence, limits, f),
-            None => unreachable!(),
+        match next {
+            Next::Arc(f) => self.revise_arc(store, incidence, limits, f),
+            Next::Existing(x) => self.revise_existing(store, incidence, limits, x),
+            Next::Directed(f) => self.revise_directed(store, incidence, limits, f),
         }
     }
 

@@ -1,6 +1,6 @@
 //! What waits, and what events put.
 
-use cfn_due::Due;
+use cfn_due::{Due, Next};
 use cfn_incidence::Incidence;
 use cfn_model::{Decision, Event, Step};
 use cfn_net::{Builder, Network};
@@ -17,24 +17,42 @@ fn chain(alloc: Global) -> Result<Network, AllocError> {
     builder.finish()
 }
 
+/// Takes away what is due next.
+fn take(due: &mut Due) -> Option<Next> {
+    let next = due.next()?;
+    match next {
+        Next::Arc(_) => due.done_arc(),
+        Next::Existing(_) => due.done_existing(),
+        Next::Directed(_) => due.done_directed(),
+    }
+    Some(next)
+}
+
 #[test]
 fn all_waits_in_its_order(rt: HostRuntime) -> Result<(), Fail> {
     let network = chain(rt.alloc())?;
     let mut due = Due::make(rt.alloc(), &network)?;
-    assert!(rt; !due.is_empty());
-    assert_eq!(rt; due.first_arc(), Some(0));
-    assert_eq!(rt; due.first_directed(), Some(2));
-    assert_eq!(rt; due.first_existing(), Some(0));
-    due.done_arc();
-    due.done_directed();
-    due.done_existing();
-    assert_eq!(rt; due.first_arc(), Some(1));
-    assert_eq!(rt; due.first_directed(), Some(1));
-    assert_eq!(rt; due.first_existing(), Some(1));
+    for f in 0..3 {
+        assert_eq!(rt; take(&mut due), Some(Next::Arc(f)));
+    }
+    for x in 0..3 {
+        assert_eq!(rt; take(&mut due), Some(Next::Existing(x)));
+    }
+    for f in 0..3 {
+        assert_eq!(rt; take(&mut due), Some(Next::Directed(2 - f)));
+    }
+    assert_eq!(rt; due.next(), None);
+    Ok(())
+}
+
+#[test]
+fn all_waits_again_that_was_taken_away(rt: HostRuntime) -> Result<(), Fail> {
+    let network = chain(rt.alloc())?;
+    let mut due = Due::make(rt.alloc(), &network)?;
     due.clear();
-    assert!(rt; due.is_empty());
+    assert_eq!(rt; due.next(), None);
     due.put_all(&network);
-    assert_eq!(rt; due.first_arc(), Some(0));
+    assert_eq!(rt; due.next(), Some(Next::Arc(0)));
     Ok(())
 }
 
@@ -50,13 +68,13 @@ fn decision_ends_what_is_known_of_its_functions(rt: HostRuntime) -> Result<(), F
             value: 0,
         };
         due.note(&network, &incidence, &Event::Refused(decision));
-        assert_eq!(rt; due.first_arc(), Some(1));
-        assert_eq!(rt; due.first_directed(), Some(1));
-        assert_eq!(rt; due.first_existing(), Some(2));
-        due.done_arc();
-        assert_eq!(rt; due.first_arc(), Some(2));
-        due.done_existing();
-        assert_eq!(rt; due.first_existing(), Some(1));
+        assert_eq!(rt; take(&mut due), Some(Next::Arc(1)));
+        assert_eq!(rt; take(&mut due), Some(Next::Arc(2)));
+        assert_eq!(rt; take(&mut due), Some(Next::Existing(2)));
+        assert_eq!(rt; take(&mut due), Some(Next::Existing(1)));
+        assert_eq!(rt; take(&mut due), Some(Next::Directed(1)));
+        assert_eq!(rt; take(&mut due), Some(Next::Directed(2)));
+        assert_eq!(rt; due.next(), None);
     }
     Ok(())
 }
@@ -75,7 +93,7 @@ fn lift_ends_nothing_and_an_extend_what_is_known_of_its_function(
             amount: 1,
         };
         due.note(&network, &incidence, &Event::Did(lift));
-        assert!(rt; due.is_empty());
+        assert_eq!(rt; due.next(), None);
     }
     if network.functions() == 3 && network.cells(1) == 4 {
         let cut = Step::CutTuple {
@@ -83,17 +101,17 @@ fn lift_ends_nothing_and_an_extend_what_is_known_of_its_function(
             cell: 3,
         };
         due.note(&network, &incidence, &Event::Did(cut));
-        assert_eq!(rt; due.first_arc(), Some(1));
-        assert_eq!(rt; due.first_directed(), Some(1));
-        assert_eq!(rt; due.first_existing(), Some(1));
-        due.done_arc();
-        assert_eq!(rt; due.first_arc(), None);
+        assert_eq!(rt; take(&mut due), Some(Next::Arc(1)));
+        assert_eq!(rt; take(&mut due), Some(Next::Existing(1)));
+        assert_eq!(rt; take(&mut due), Some(Next::Existing(2)));
+        assert_eq!(rt; take(&mut due), Some(Next::Directed(1)));
+        assert_eq!(rt; due.next(), None);
     }
     Ok(())
 }
 
-/// The first function that waits behind a store's one step, a cut of a value of the first variable.
-fn first_behind_a_cut(alloc: Global, network: &Network) -> Result<Option<u32>, AllocError> {
+/// What is due next behind a store's one step, a cut of a value of the first variable.
+fn next_behind_a_cut(alloc: Global, network: &Network) -> Result<Option<Next>, AllocError> {
     let incidence = Incidence::build(alloc, network)?;
     let mut store = Store::build(alloc, network)?;
     store.reserve(1)?;
@@ -104,12 +122,15 @@ fn first_behind_a_cut(alloc: Global, network: &Network) -> Result<Option<u32>, A
     }
     store.cut_value(0, 1);
     due.note_steps(&incidence, &store, 0);
-    Ok(due.first_arc())
+    Ok(due.next())
 }
 
 #[test]
 fn steps_of_a_block_are_noted(rt: HostRuntime) -> Result<(), Fail> {
     let network = chain(rt.alloc())?;
-    assert_eq!(rt; first_behind_a_cut(rt.alloc(), &network)?, Some(0));
+    assert_eq!(rt;
+        next_behind_a_cut(rt.alloc(), &network)?,
+        Some(Next::Arc(0))
+    );
     Ok(())
 }

@@ -21,16 +21,20 @@ fn places_of_each_variable(rt: HostRuntime) -> Result<(), Fail> {
     assert!(rt; network.variables() == 3);
     let first = incidence.places(0);
     assert_eq!(rt; first.len(), 2);
-    assert!(rt; first[0] == at(0, 0));
-    assert!(rt; first[1] == at(2, 1));
+    assert!(rt; first[0] == at(0, 0, 2));
+    assert!(rt; first[1] == at(2, 1, 1));
     assert_eq!(rt; incidence.places(1).len(), 1);
     let last = incidence.places(2);
     assert_eq!(rt; last.len(), 2);
-    assert!(rt; last[0] == at(0, 1));
-    assert!(rt; last[1] == at(1, 0));
+    assert!(rt; last[0] == at(0, 1, 0));
+    assert!(rt; last[1] == at(1, 0, 2));
     Ok(())
 }
 
-fn at(function: u32, place: u32) -> Place {
-    Place { function, place }
+fn at(function: u32, place: u32, other: u32) -> Place {
+    Place {
+        function,
+        place,
+        other,
+    }
 }

@@ -11,9 +11,10 @@ use Rattle.cfn_model.specs.Steps.{after}
 use Rattle.cfn_consistency.specs.Consistency.{HasFullSupport}
 use Rattle.cfn_incidence.specs.declared.incidence.Place.{Place}
 use Rattle.cfn_incidence.specs.Places.{ArePlaces, place_at}
+use Rattle.cfn_incidence.proofs.CallerLemmas.{is_function, place_found}
 use Rattle.cfn_store.specs.Exact.{IsExactAlong}
 use Rattle.cfn_due.specs.Going.{IsOn, GoesFull, GoesWithOne}
-use Rattle.cfn_due.proofs.CallerLemmas.{full_goes_along, goes_split, after_joined, is_function}
+use Rattle.cfn_due.proofs.CallerLemmas.{full_goes_along, goes_split, after_joined}
 use Rattle.cfn_rest.specs.Marking.{is_marked, IsElseSame}
 use Rattle.cfn_rest.specs.Resting.{Resting, is_sure, Rests, AreSure, AreDoubted}
 
@@ -89,7 +90,7 @@ among_next places n f is = elim (cases_eq is.0 n) [
 
 pub on_among : (P : Network) (x : ℕ) (places : List Place) (n : ℕ) → ArePlaces P x places → length places ≤ n → (f : ℕ) → IsOn P x f → IsAmong places n f
 on_among P x places n are whole f on =
-    let there = are.all (record { function = f; place = on.0 }) (record { function = is_function P f on.0 on.1; place = on.1; is = on.2 }) in
+    let there = place_found P x f on.0 places are on.1 on.2 in
     (there.0, (let l = there.1 in omega (arith, l, whole)), ap (λ (p : Place). p.function) there.2)
 
 -- another value for a variable of which nothing is sure

@@ -1,8 +1,8 @@
 -- At which places live values have supports, and what stays so.
-use Rattle.std.proofs.Common.{◌≡◌, ◌⊎◌, ℕ, zero, suc, ◌+◌, ◌-◌, ◌*◌, ◌<◌, ◌≤◌, inl, inr, Bool, true, false, true≢false, List, [], ◌∷◌, ◌++◌, length, take, drop, slice_index_or, get_or-drop, refl, sym, ap, ◌∙◌, subst, arith}
+use Rattle.std.proofs.Common.{◌≡◌, ◌⊎◌, ℕ, ◌+◌, ◌-◌, ◌*◌, ◌<◌, ◌≤◌, inl, inr, true, false, true≢false, List, [], ◌∷◌, ◌++◌, length, take, drop, slice_index_or, get_or-drop, refl, sym, ap, ◌∙◌, subst, arith}
 use Rattle.std.proofs.lemmas.Bool.{and_parts, cases_eq}
 use Rattle.std.proofs.lemmas.List.{take_more, take-append-drop, length-drop}
-use Rattle.std.specs.Prelude.{not, if◌then◌else◌, IsTrue}
+use Rattle.std.specs.Prelude.{not, IsTrue}
 use Rattle.cfn_model.specs.declared.step.Step.{Step}
 use Rattle.cfn_model.specs.declared.step.Event.{Event}
 use Rattle.cfn_model.specs.declared.step.Decision.{Decision}
@@ -11,13 +11,15 @@ use Rattle.cfn_model.specs.Decisions.{variable_of}
 use Rattle.cfn_model.specs.Network.{Network, arity, variable_at}
 use Rattle.cfn_model.specs.Sums.{removes, is_live}
 use Rattle.cfn_model.specs.Steps.{after}
-use Rattle.cfn_consistency.specs.Openness.{count_below, is_open, TakesPart}
+use Rattle.cfn_consistency.specs.Openness.{is_open, TakesPart}
 use Rattle.cfn_consistency.specs.Consistency.{HasSupport, AreArcConsistent}
+use Rattle.cfn_consistency.proofs.CallerLemmas.{count_most}
 use Rattle.cfn_incidence.specs.declared.incidence.Place.{Place}
 use Rattle.cfn_incidence.specs.Places.{ArePlaces, place_at}
+use Rattle.cfn_incidence.proofs.CallerLemmas.{is_function, place_found}
 use Rattle.cfn_store.specs.Exact.{HasNoDebts, IsExactAlong}
 use Rattle.cfn_due.specs.Going.{IsElsewhere, GoesSide, GoesWithOne}
-use Rattle.cfn_due.proofs.CallerLemmas.{side_goes_on, side_goes_along, goes_split, after_joined, is_function}
+use Rattle.cfn_due.proofs.CallerLemmas.{side_goes_on, side_goes_along, goes_split, after_joined}
 use Rattle.cfn_rest.specs.Marking.{is_marked, IsElseSame}
 use Rattle.cfn_rest.specs.Siding.{Siding, is_doubted, HasSupports, AreSupported, AreAsked, IsOtherAsked}
 
@@ -28,21 +30,12 @@ all_doubted P history r size all = record {
   each = λ f i l two known. absurd (let there = is_function P f 0 (omega (arith, two)) in true≢false (sym (all (2 * f + i) (omega (arith, l, there, size))) ∙ known));
 }
 
--- where nothing is
-most_below : (test : ℕ → Bool) (n : ℕ) → count_below test n ≤ n
-most_below test zero = omega arith
-most_below test (suc n) = let rest = most_below test n in let here = one (test n) in omega (arith, rest, here)
-  where
-    one : (b : Bool) → (if b then 1 else 0) ≤ 1
-    one true = omega arith
-    one false = omega arith
-
--- a function of two variables takes part
+-- where nothing is: a function of two variables takes part
 pub two_take_part : (P : Network) (history : List Event) (f : ℕ) → arity P f ≡ 2 → TakesPart P history f
 two_take_part P history f two = inl (record {
   function = is_function P f 0 (omega (arith, two));
   some = omega (arith, two);
-  few = (let most = most_below (λ j. is_open P history (variable_at P f j)) (arity P f) in omega (arith, most, two));
+  few = (let most = count_most (λ j. is_open P history (variable_at P f j)) (arity P f) in omega (arith, most, two));
 })
 
 pub none_doubted : (P : Network) (history : List Event) (k : ℕ) (r : Siding) → r.size ≡ length P.functions → AreArcConsistent P history k → AreSupported P history r
@@ -105,7 +98,7 @@ beside_all P x places n are whole f i l two elsewhere =
     let j = elsewhere.0 in
     let below = elsewhere.1 in
     let apart = elsewhere.3 in
-    let there = are.all (record { function = f; place = j }) (record { function = is_function P f j below; place = below; is = elsewhere.2 }) in
+    let there = place_found P x f j places are below elsewhere.2 in
     let within = there.1 in
     let same = there.2 in
     let place : (place_at places there.0).place ≡ j = ap (λ (p : Place). p.place) same in

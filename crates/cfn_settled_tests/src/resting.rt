@@ -10,6 +10,7 @@ use std::test::*;
 const PLACE: Place = Place {
     function: 0,
     place: 0,
+    other: 1,
 };
 
 /// Two variables with two values, and a function over both of which nothing costs anything.

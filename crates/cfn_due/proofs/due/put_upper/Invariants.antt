@@ -1,6 +1,6 @@
 use Rattle.cfn_due.specs.Going.{ArePut}
-use Rattle.cfn_due.proofs.Putting.{IsUpperAmong}
+use Rattle.cfn_due.proofs.Putting.{Among, IsUpperOf}
 use Rattle.cfn_due.proofs.due.put_upper.Given as goal
 
 abbrev pub invariant-loop-place : goal.invariant-loop-place
-invariant-loop-place l = ArePut l.initial.queue l.queue (IsUpperAmong l.network l.x l.place-items l.place-index)
+invariant-loop-place l = ArePut l.initial.queue l.queue (Among l.place-items (IsUpperOf l.x) l.place-index)

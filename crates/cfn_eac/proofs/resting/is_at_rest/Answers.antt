@@ -11,6 +11,7 @@ use Rattle.cfn_store.specs.Rooms.{sets_of}
 use Rattle.cfn_dac.proofs.CallerLemmas.{is_closed_by}
 use Rattle.cfn_incidence.specs.declared.incidence.Place.{Place}
 use Rattle.cfn_incidence.specs.Places.{ArePlaces, place_at}
+use Rattle.cfn_incidence.proofs.CallerLemmas.{place_found}
 use Rattle.cfn_store.specs.Standing.{Standing, history}
 use Rattle.cfn_eac.specs.Resting.{RestsOn}
 use Rattle.cfn_eac.proofs.resting.is_at_rest.Goals as goal
@@ -19,7 +20,7 @@ use Rattle.cfn_eac.proofs.resting.is_at_rest.Goals as goal
 all_supports : (P : Network) (h : List Event) (x a : ℕ) (places : List Place) (n : ℕ) → ArePlaces P x places → length places ≤ n → ((k : ℕ) → k < n → RestsOn P h (place_at places k) a)
     → (f i j : ℕ) → HasOpenPair P h f i j → variable_at P f i ≡ x → HasFullSupport P h f i j a
 all_supports P h x a places n are whole rests f i j pair at =
-    let there = are.all (record { function = f; place = i }) (record { function = pair.active.function; place = pair.one.0; is = at }) in
+    let there = place_found P x f i places are pair.one.0 at in
     let l = there.1 in
     let rest = subst (λ p. RestsOn P h p a) there.2 (rests there.0 (omega (arith, l, whole))) in
     let two = rest.two in

@@ -5,8 +5,8 @@ use Rattle.cfn_store.specs.Standing.{history}
 use Rattle.cfn_eac.specs.Arms.{AreArms}
 use Rattle.cfn_eac.specs.Gathering.{AreGathered, AreMarks, AreMarked, HasNoArm, IsArmAt}
 use Rattle.cfn_eac.proofs.Gather.{has_mark, mark_is, fresh, gathered_skip, gathered_met, gathered_more, marks_more, marked_more, all_gathered}
-use Rattle.cfn_eac.proofs.arms.Arms.gather_all.Goals.{in-Some+then-not-index, in-Some+else-not-index, in_default}
-use Rattle.cfn_eac.proofs.arms.Arms.gather_all.Goals as goal
+use Rattle.cfn_eac.proofs.arms.Arms.gather_open.Goals.{in-Some+then-not-index, in-Some+else-not-index, in_default}
+use Rattle.cfn_eac.proofs.arms.Arms.gather_open.Goals as goal
 
 pub returns-clause-arms : goal.returns-clause-arms
 returns-clause-arms c =
