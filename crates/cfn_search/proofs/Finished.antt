@@ -1,25 +1,23 @@
 -- What a search that stopped hands out.
-use Rattle.std.proofs.Common.{◌≡◌, ◌≢◌, ℕ, suc, ◌<◌, ◌≤◌, inl, inr, min, List, [], ◌∷◌, map, length, refl, sym, ap, ◌∙◌, subst, arith}
-use Rattle.std.specs.Prelude.{slice_index, Option, Some, None, IfSome, IsSomeAnd, sum_by}
+use Rattle.std.proofs.Common.{◌≡◌, ℕ, suc, ◌<◌, ◌≤◌, inl, inr, List, [], ◌∷◌, length, refl, sym, ap, ◌∙◌, subst, arith}
+use Rattle.std.specs.Prelude.{slice_index, Option, Some, None, IfSome, IsSomeAnd}
 use Rattle.std.specs.List.{AllByRecursion}
-use Rattle.std.proofs.lemmas.List.Sums.{sum_by-cons}
 use Rattle.cfn_model.specs.declared.limits.TheConstants.{MOST_VALUES}
 use Rattle.cfn_model.specs.declared.report.Row.{Row}
 use Rattle.cfn_model.specs.declared.step.Event.{Event}
 use Rattle.cfn_model.specs.declared.step.Event.TheVariants.{Took, Refused}
-use Rattle.cfn_model.specs.declared.version.Version.TheVariants.{Second}
 use Rattle.cfn_model.specs.Network.{Network, IsNetwork, Fits, cost}
 use Rattle.cfn_model.specs.Sums.{floor}
 use Rattle.cfn_model.specs.Steps.{after}
 use Rattle.cfn_model.specs.Words.{greatest}
-use Rattle.cfn_model.specs.Text.{IsSpelled, IsSpelledBest, IsSpelledTree, HasTree}
+use Rattle.cfn_model.specs.Text.{IsSpelledBest, IsSpelledTree, HasTree}
 use Rattle.cfn_model.specs.Tree as trees
 use Rattle.cfn_model.specs.Tree.{bound, count, splits, open_leaves}
 use Rattle.cfn_model.specs.Certificate.{Solution, Certificate, IsBest, threshold_of, threshold}
 use Rattle.cfn_model.proofs.CallerLemmas.{bound_low, fits_length}
 use Rattle.cfn_proof.specs.declared.outcome.Stop.{Stop}
 use Rattle.cfn_proof.specs.declared.outcome.Stop.TheVariants.{Done, Budget, Memory}
-use Rattle.cfn_proof.specs.Outcome.{HasCause, IsSearched, RowHolds, RowsHold, UpperHolds}
+use Rattle.cfn_proof.specs.Outcome.{HasCause, IsSearched, RowHolds, UpperHolds}
 use Rattle.cfn_net.specs.Scoring.{Scoring, IsPriced}
 use Rattle.cfn_proof.specs.Certificates.{solution_of}
 use Rattle.cfn_low.specs.Holding.{Holding as Part}
@@ -28,7 +26,8 @@ use Rattle.cfn_machine.specs.Pool.{View, Mark, PoolTree, Leaf, Shut, Fork, tree_
 use Rattle.cfn_machine.specs.Laws.{IsPool}
 use Rattle.cfn_low.specs.Steps.{IsCost}
 use Rattle.cfn_pool.specs.Views.{view_of, AreReached}
-use Rattle.cfn_search.specs.Searching.{IsSearch, IsLast, IsStop}
+use Rattle.cfn_worker.specs.Searching.{IsSearch}
+use Rattle.cfn_search.specs.Stopping.{IsLast, IsStop}
 
 -- an assignment's values have a spelling
 values_spelled : (sizes values : List ℕ) → ((x : ℕ) → x < length sizes → slice_index sizes x ≤ MOST_VALUES) → Fits sizes values → AllByRecursion (λ a. a ≤ greatest) values

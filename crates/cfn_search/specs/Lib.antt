@@ -1,3 +1,1 @@
-pub mod Searching
-pub mod Granting
-pub mod Boards
+pub mod Stopping

@@ -8,7 +8,8 @@ ghost use Rattle.cfn_proof.specs.Certificates.{solution_of};
 ghost use Rattle.cfn_proof.specs.Outcome.{IsOutcome};
 ghost use Rattle.cfn_machine.specs.Word.{all_shares};
 ghost use Rattle.cfn_pool.specs.Views.{pool};
-ghost use Rattle.cfn_search.specs.Searching.{IsSearch, IsLast, IsStop};
+ghost use Rattle.cfn_worker.specs.Searching.{IsSearch};
+ghost use Rattle.cfn_search.specs.Stopping.{IsLast, IsStop};
 
 use cfn_low::{Holder, Incumbent, Low};
 use cfn_net::{Network, Scored};

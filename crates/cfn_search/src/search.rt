@@ -1,22 +1,21 @@
 //! The search, and one dive of it.
 
-ghost use Rattle.std.specs.Prelude.{◌≡◌, ◌≤◌, None, IfOk, IfSome};
+ghost use Rattle.std.specs.Prelude.{◌≡◌, ◌+◌, ◌≤◌, None, IfOk, IfSome};
 ghost use Rattle.cfn_model.specs.declared.limits.TheConstants.{GREATEST};
 ghost use Rattle.cfn_proof.specs.Outcome.{IsOutcome};
+ghost use Rattle.cfn_machine.specs.Word.{all_shares};
 ghost use Rattle.cfn_pool.specs.Views.{pool};
-ghost use Rattle.cfn_search.specs.Searching.{IsSearch, GoesOn, HasMore};
-ghost use Rattle.cfn_search.specs.Granting.{IsLimit};
+ghost use Rattle.cfn_worker.specs.Searching.{IsSearch, GoesOn, HasMore};
+ghost use Rattle.cfn_worker.specs.Granting.{IsLimit};
 
-use crate::grants::{FEWEST_BACKTRACKS, limit_after, wanted};
-use crate::hand::Made;
 use crate::outcome::{conclude, meet, wind_up};
-use crate::steps::{Asked, note, sweep, take};
 use cfn_branch::Rule;
 use cfn_dive::Diver;
 use cfn_low::{Holder, Incumbent, Low, Unnamed};
 use cfn_net::{Network, Scored, Tables};
 use cfn_pool::Pool;
 use cfn_proof::Outcome;
+use cfn_worker::{Asked, FEWEST_BACKTRACKS, hand_in, sweep, take, wanted};
 use std::alloc::{AllocError, Global};
 use std::marker::Brand;
 
@@ -48,35 +47,93 @@ pub fn solve_by(
     let unnamed = Unnamed::make(alloc, network)?;
     let empty = Scored::empty(alloc, network)?;
     let tables = Tables::expand(alloc, network)?;
-    let diver = Diver::make(alloc, network, &tables, rule)?;
-    search::<Brand>(alloc, network, unnamed, empty, diver, budget)
+    search::<Brand>(alloc, network, &tables, rule, unnamed, empty, budget)
 }
 
 /// The search, over a word by its name.
 fn search<M: Incumbent>(
     alloc: Global,
     network: &Network,
+    tables: &Tables,
+    rule: Rule,
     unnamed: Unnamed,
     empty: Scored,
-    mut diver: Diver<'_>,
     budget: u64,
 ) -> Result<Outcome, AllocError>
     requires table { M.table ≡ unnamed.table }
     requires network { M.network ≡ unnamed.network }
     requires own { network.now ≡ unnamed.network }
+    requires tables { tables.now ≡ unnamed.network }
     requires empty { empty ≡ record { network = unnamed.network; held = None } }
-    requires diver { diver ≡ unnamed.network }
     ensures { IfOk result (IsOutcome network.now budget) }
 {
     let (low, mut holder) = unnamed.named::<M>();
     let mut part = low.split(&mut holder, empty);
+    let mut held = open(alloc, network, &low, holder, budget)?;
+    work(alloc, network, tables, rule, &low, &mut held, &mut part)?;
+    Ok(ended(network, low, held, part))
+}
+
+/// A pool at the beginning of a search, with a part of the word that keeps nothing. An `Err` is want of memory.
+pub(crate) fn open<M: Incumbent>(
+    alloc: Global,
+    network: &Network,
+    low: &Low<M>,
+    holder: Holder<M>,
+    budget: u64,
+) -> Result<Pool<M>, AllocError>
+    requires own { network.now ≡ M.network }
+    requires none { holder.held ≡ None }
+    requires seen { holder.seen ≡ M.network.upper }
+    ensures search { IfOk result (λ held. IsSearch M.network (pool held)) }
+    ensures budget { IfOk result (λ held. (pool held).budget ≡ budget) }
+    ensures shares { IfOk result (λ held. (pool held).view.shares ≡ holder.shares) }
+{
     let Ok(mut held) = Pool::begin(alloc, network, holder, budget) else {
         return Err(AllocError);
     };
-    dive_all(alloc, network, &low, &mut held, &mut part, &mut diver);
+    sweep(low, &mut held);
+    Ok(held)
+}
+
+/// The outcome of a search once its one worker has ended.
+fn ended<M: Incumbent>(
+    network: &Network,
+    low: Low<M>,
+    mut held: Pool<M>,
+    part: Holder<M>,
+) -> Outcome
+    requires own { network.now ≡ M.network }
+    requires search { IsSearch M.network (pool held) }
+    requires shares { (pool held).view.shares + part.shares ≡ all_shares }
+    ensures { IsOutcome network.now (pool held).budget result }
+{
     meet(&low, &mut held, part);
     wind_up(&low, &mut held);
-    Ok(conclude(network, low, held))
+    conclude(network, low, held)
+}
+
+/// Makes what it dives with, and dives until there is no leaf to take, or memory is refused. An `Err` is want of memory before
+/// the first dive.
+fn work<M: Incumbent>(
+    alloc: Global,
+    network: &Network,
+    tables: &Tables,
+    rule: Rule,
+    low: &Low<M>,
+    held: &mut Pool<M>,
+    part: &mut Holder<M>,
+) -> Result<(), AllocError>
+    requires own { network.now ≡ M.network }
+    requires tables { tables.now ≡ M.network }
+    requires search { IsSearch M.network (pool held.old) }
+    ensures goes { GoesOn M.network (pool held.old) (pool held.new) }
+    ensures part { part.new.shares ≡ part.old.shares }
+{
+    let mut diver = Diver::make(alloc, network, tables, rule)?;
+    dive_all(alloc, network, low, held, part, &mut diver);
+    drop(diver);
+    Ok(())
 }
 
 /// Dives until there is no leaf to take, or memory is refused.
@@ -94,7 +151,6 @@ fn dive_all<M: Incumbent>(
     ensures goes { GoesOn M.network (pool held.old) (pool held.new) }
     ensures part { part.new.shares ≡ part.old.shares }
 {
-    sweep(low, held);
     held.kept();
     let mut limit = FEWEST_BACKTRACKS;
     while let Some(next) = dive(alloc, network, low, held, part, diver, limit) {
@@ -135,36 +191,4 @@ fn dive<M: Incumbent>(
             None
         }
     }
-}
-
-/// Gives a dive's piece to the pool, notes the bounds, and closes what need not be searched any more.
-pub(crate) fn hand_in<M: Incumbent>(
-    network: &Network,
-    low: &Low<M>,
-    held: &mut Pool<M>,
-    part: &mut Holder<M>,
-    made: Made,
-    limit: u64,
-) -> Option<u64>
-    requires network { network.now ≡ M.network }
-    requires own { made.network ≡ M.network }
-    requires seen { part.old.seen ≤ made.threshold }
-    requires search { IsSearch M.network (pool held.old) }
-    requires limit { IsLimit limit }
-    ensures goes { GoesOn M.network (pool held.old) (pool held.new) }
-    ensures part { part.new ≡ part.old }
-    ensures next { IfSome result IsLimit }
-    ensures more { IfSome result (λ next. HasMore (pool held.old) (pool held.new)) }
-{
-    let before = held.seen();
-    let leaves = held.open_leaves();
-    if !made.give(low, held, part) {
-        return None;
-    }
-    note(network, held);
-    if held.seen() < before {
-        sweep(low, held);
-    }
-    held.kept();
-    Some(limit_after(limit, held.open_leaves() >= leaves))
 }

@@ -1,27 +1,23 @@
 //! Several workers, each in a thread of its own.
 
-ghost use Rattle.std.specs.Prelude.{◌≡◌, ◌+◌, ◌<◌, ◌≤◌, [], ◌∷◌, ◌++◌, All, map, reverse, length, None, IfOk, OnOk};
+ghost use Rattle.std.specs.Prelude.{◌≡◌, ◌+◌, ◌<◌, ◌≤◌, [], ◌∷◌, ◌++◌, All, map, reverse, length, IfOk, OnOk};
 ghost use Rattle.cfn_model.specs.declared.limits.TheConstants.{GREATEST};
 ghost use Rattle.cfn_proof.specs.Outcome.{IsOutcome};
 ghost use Rattle.cfn_machine.specs.Word.{all_shares};
 ghost use Rattle.cfn_pool.specs.Views.{pool};
-ghost use Rattle.cfn_rota.specs.Balances.{AreWhole};
 ghost use Rattle.cfn_rota.specs.Values.{AreAll, access};
-ghost use Rattle.cfn_search.specs.Searching.{IsSearch, GoesOn};
+ghost use Rattle.cfn_worker.specs.Boards.{IsBoard};
+ghost use Rattle.cfn_worker.specs.Searching.{IsSearch};
 
-use crate::board::{Board, Squad};
-use crate::errands::{Errand, Errands, ROOM};
-use crate::gate::Gate;
 use crate::outcome::{conclude, meet, wind_up};
-use crate::search::solve;
-use crate::steps::sweep;
-use crate::worker::{Shared, Worker};
+use crate::search::{open, solve};
 use cfn_low::{Holder, Incumbent, Low, Unnamed};
 use cfn_net::{Network, Scored, Tables};
 use cfn_pool::Pool;
 use cfn_proof::Outcome;
 use cfn_rota::{Ends, deal};
 use cfn_task::Task;
+use cfn_worker::{Board, Errand, Errands, Gate, ROOM, Shared, Squad, Worker};
 use std::alloc::{AllocError, Global};
 use std::marker::Brand;
 use std::sync::{Condvar, Mutex, Wait};
@@ -49,7 +45,8 @@ pub fn solve_together<R: Threads + Wait + Sync, G: Gate + Sync>(
         return solve(alloc, network, budget);
     }
     let unnamed = Unnamed::make(alloc, network)?;
-    search::<Brand, R, G>(rt, alloc, network, unnamed, workers, budget, gate)
+    let tables = Tables::expand(alloc, network)?;
+    search::<Brand, R, G>(rt, alloc, network, &tables, unnamed, workers, budget, gate)
 }
 
 /// The search, over a word by its name.
@@ -57,6 +54,7 @@ fn search<M: Incumbent + Squad + Send + Sync, R: Threads + Wait + Sync, G: Gate 
     rt: &R,
     alloc: Global,
     network: &Network,
+    tables: &Tables,
     unnamed: Unnamed,
     workers: u32,
     budget: u64,
@@ -65,6 +63,7 @@ fn search<M: Incumbent + Squad + Send + Sync, R: Threads + Wait + Sync, G: Gate 
     requires table { M.table ≡ unnamed.table }
     requires network { M.network ≡ unnamed.network }
     requires own { network.now ≡ unnamed.network }
+    requires tables { tables.now ≡ unnamed.network }
     requires budget { M.budget ≡ budget }
     requires crew { M.crew ≡ workers }
     requires some { 1 ≤ workers }
@@ -72,43 +71,64 @@ fn search<M: Incumbent + Squad + Send + Sync, R: Threads + Wait + Sync, G: Gate 
     ensures { IfOk result (IsOutcome network.now budget) }
 {
     let (low, mut holder) = unnamed.named::<M>();
-    let tables = Tables::expand(alloc, network)?;
-    let parts = split(alloc, network, &low, &mut holder, workers)?;
-    let ends = deal(alloc, workers, ROOM)?;
+    let (parts, ends) = supplies(alloc, network, &low, &mut holder, workers)?;
     let held = open(alloc, network, &low, holder, budget)?;
     let crew = recruit(alloc, parts, ends)?;
+    Ok(run(rt, alloc, network, tables, low, held, crew, gate))
+}
+
+/// The search from its beginning to its end, by some workers.
+fn run<M: Incumbent + Squad + Send + Sync, R: Threads + Wait + Sync, G: Gate + Sync>(
+    rt: &R,
+    alloc: Global,
+    network: &Network,
+    tables: &Tables,
+    low: Low<M>,
+    held: Pool<M>,
+    crew: Vec<Worker<M>>,
+    gate: &G,
+) -> Outcome
+    requires own { network.now ≡ M.network }
+    requires tables { tables.now ≡ M.network }
+    requires board { IsBoard M.network M.budget M.crew held }
+    requires crew { length crew.items ≡ M.crew }
+    requires all { AreAll (map access crew.items) }
+    ensures { IsOutcome network.now M.budget result }
+{
     let board = Mutex::new(Board::new(held));
-    let crew = work_all(rt, alloc, network, &tables, &low, &board, crew, gate);
+    let crew = work_all(rt, alloc, network, tables, &low, &board, crew, gate);
     let mut held = board.into_inner().into_pool();
     disband(&low, &mut held, crew);
     wind_up(&low, &mut held);
-    Ok(conclude(network, low, held))
+    conclude(network, low, held)
 }
 
-/// A pool at the beginning of a search, with a part of the word that keeps nothing. An `Err` is want of memory.
-fn open<M: Incumbent>(
+/// What each worker is made of: one share of the word, and its ends of the lanes. An `Err` is want of memory.
+fn supplies<M: Incumbent>(
     alloc: Global,
     network: &Network,
     low: &Low<M>,
-    holder: Holder<M>,
-    budget: u64,
-) -> Result<Pool<M>, AllocError>
+    holder: &mut Holder<M>,
+    workers: u32,
+) -> Result<(Vec<Holder<M>>, Vec<Ends<Task, Errand<M>>>), AllocError>
     requires own { network.now ≡ M.network }
-    requires none { holder.held ≡ None }
-    requires seen { holder.seen ≡ M.network.upper }
-    ensures search { IfOk result (λ held. IsSearch M.network (pool held)) }
-    ensures budget { IfOk result (λ held. (pool held).budget ≡ budget) }
-    ensures shares { IfOk result (λ held. (pool held).view.shares ≡ holder.shares) }
+    requires all { holder.old.shares ≡ all_shares }
+    requires few { workers ≤ 64 }
+    ensures count { IfOk result (λ made. length made.0.items ≡ workers) }
+    ensures ones { IfOk result (λ made. All (λ part. part.shares ≡ 1) made.0.items) }
+    ensures ends { IfOk result (λ made. length made.1.items ≡ workers) }
+    ensures all { IfOk result (λ made. AreAll (reverse (map access made.1.items))) }
+    ensures shares { OnOk result (holder.new.shares + workers ≡ all_shares) }
+    ensures held { holder.new.held ≡ holder.old.held }
+    ensures seen { holder.new.seen ≡ holder.old.seen }
 {
-    let Ok(mut held) = Pool::begin(alloc, network, holder, budget) else {
-        return Err(AllocError);
-    };
-    sweep(low, &mut held);
-    Ok(held)
+    let parts = split(alloc, network, low, holder, workers)?;
+    let ends = deal(alloc, workers, ROOM)?;
+    Ok((parts, ends))
 }
 
 /// One share of the word for each worker. An `Err` is want of memory.
-pub(crate) fn split<M: Incumbent>(
+fn split<M: Incumbent>(
     alloc: Global,
     network: &Network,
     low: &Low<M>,
@@ -134,7 +154,7 @@ pub(crate) fn split<M: Incumbent>(
 
 /// Workers in the order of their numbers, each with one share of the word and its ends of all lanes. An `Err`, want of memory,
 /// comes before there is a worker.
-pub(crate) fn recruit<M: Incumbent>(
+fn recruit<M: Incumbent>(
     alloc: Global,
     mut parts: Vec<Holder<M>>,
     mut ends: Vec<Ends<Task, Errand<M>>>,
@@ -212,7 +232,7 @@ fn work_each<M: Incumbent + Squad + Send + Sync, R: Threads + Wait + Sync, G: Ga
 
 /// Ends the workers once their threads have ended: gives back what is left in their lanes, and joins their parts of the word
 /// into the pool's.
-pub(crate) fn disband<M: Incumbent>(low: &Low<M>, held: &mut Pool<M>, mut crew: Vec<Worker<M>>)
+fn disband<M: Incumbent>(low: &Low<M>, held: &mut Pool<M>, mut crew: Vec<Worker<M>>)
     requires search { IsSearch M.network (pool held.old) }
     requires shares { (pool held.old).view.shares + length crew.items ≡ all_shares }
     requires all { AreAll (map access crew.items) }
@@ -243,19 +263,6 @@ fn end<M: Incumbent>(
     ensures count { length others.new ≡ length others.old }
 {
     worker.gather(others);
-    give_left(held, &mut worker);
+    worker.give_left(held);
     meet(low, held, worker.retire());
-}
-
-/// Gives back all that is left in a worker's whole lane.
-fn give_left<M: Incumbent>(held: &mut Pool<M>, worker: &mut Worker<M>)
-    requires search { IsSearch M.network (pool held.old) }
-    requires whole { worker.old.lane.parts ≡ 128 }
-    ensures goes { GoesOn M.network (pool held.old) (pool held.new) }
-    ensures whole { worker.new.lane.parts ≡ 128 }
-    ensures empty { AreWhole worker.new.lane.pushed worker.new.lane.taken [] }
-{
-    while let Some(task) = worker.take_left() {
-        task.back(held);
-    }
 }

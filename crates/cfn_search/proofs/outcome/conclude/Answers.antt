@@ -1,7 +1,7 @@
 use Rattle.std.proofs.Common.{◌≡◌, ℕ, ◌∙◌, refl, sym, ap, subst, arith, List, []}
 use Rattle.cfn_model.specs.Network.{Network, IsNetwork}
 use Rattle.cfn_model.specs.declared.report.Row.{Row}
-use Rattle.cfn_model.specs.Tree.{bound, open_leaves}
+use Rattle.cfn_model.specs.Tree.{open_leaves}
 use Rattle.cfn_model.proofs.CallerLemmas.{bound_low}
 use Rattle.cfn_model.specs.Certificate.{Certificate}
 use Rattle.cfn_model.specs.declared.version.Version.TheVariants.{Second}
@@ -9,10 +9,9 @@ use Rattle.cfn_proof.specs.Certificates.{solution_of}
 use Rattle.cfn_proof.specs.Nodes as nodes
 use Rattle.cfn_proof.specs.Outcome.{IsSearched}
 use Rattle.cfn_proof.proofs.CallerLemmas.{spelled_law, lines_law}
-use Rattle.cfn_model.specs.Text.{IsSpelledTree, HasTree}
-use Rattle.cfn_machine.specs.Pool.{Pool, tree_of}
+use Rattle.cfn_machine.specs.Pool.{tree_of}
 use Rattle.cfn_pool.specs.Views.{pool}
-use Rattle.cfn_search.specs.Searching.{IsStop}
+use Rattle.cfn_search.specs.Stopping.{IsStop}
 use Rattle.cfn_search.proofs.Finished.{searched, price_held, best_held}
 use Rattle.cfn_search.proofs.outcome.conclude.Goals as goal
 

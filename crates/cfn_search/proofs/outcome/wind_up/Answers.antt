@@ -1,10 +1,7 @@
-use Rattle.std.proofs.Common.{◌≡◌, ℕ, ◌∙◌, refl, sym, ap, subst, arith, List, []}
-use Rattle.cfn_model.specs.declared.step.Event.{Event}
+use Rattle.std.proofs.Common.{◌≡◌, ◌∙◌, sym, ap, subst, []}
 use Rattle.cfn_machine.specs.Pool.{Pool, Out, IsLeaf}
-use Rattle.cfn_machine.specs.Steps.{pool_met, pool_recalled}
 use Rattle.cfn_machine.proofs.CallerLemmas.{recalled_free, sweeps_all}
-use Rattle.cfn_pool.specs.Views.{view_of, pool}
-use Rattle.cfn_search.specs.Searching.{IsLast}
+use Rattle.cfn_pool.specs.Views.{pool}
 use Rattle.cfn_search.proofs.outcome.wind_up.Goals as goal
 
 pub returns-clause-last : goal.returns-clause-last

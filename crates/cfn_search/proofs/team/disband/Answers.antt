@@ -1,4 +1,4 @@
-use Rattle.std.proofs.Common.{rules, ◌++◌, [], ◌∷◌, ap, ◌∙◌, subst, sym, map, length, arith}
+use Rattle.std.proofs.Common.{◌++◌, [], ◌∷◌, ap, ◌∙◌, subst, sym, map, length, arith}
 use Rattle.std.proofs.lemmas.List.{length_push, with_items_is}
 use Rattle.cfn_rota.specs.Values.{AreAll, access}
 use Rattle.cfn_rota.proofs.CallerLemmas.{all_but_last}

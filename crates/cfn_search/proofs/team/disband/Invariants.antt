@@ -2,7 +2,7 @@ use Rattle.std.proofs.Common.{◌≡◌, ◌+◌, length, map}
 use Rattle.cfn_machine.specs.Word.{all_shares}
 use Rattle.cfn_pool.specs.Views.{pool}
 use Rattle.cfn_rota.specs.Values.{AreAll, access}
-use Rattle.cfn_search.specs.Searching.{IsSearch}
+use Rattle.cfn_worker.specs.Searching.{IsSearch}
 use Rattle.cfn_search.proofs.team.disband.Given as goal
 
 abbrev pub invariant-loop-worker : goal.invariant-loop-worker

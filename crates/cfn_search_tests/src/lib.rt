@@ -1,0 +1,9 @@
+//! Tests of the search, on one thread and by several workers, and no code of its own.
+#![tactic(auto)]
+
+#[cfg(test)]
+mod alone;
+#[cfg(test)]
+mod networks;
+#[cfg(test)]
+mod teams;

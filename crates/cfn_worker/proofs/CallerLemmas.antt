@@ -1,0 +1,2 @@
+-- What callers cite.
+pub use Rattle.cfn_worker.proofs.Crossing.{worker_send, shared_sync}

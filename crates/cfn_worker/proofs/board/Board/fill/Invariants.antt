@@ -1,0 +1,6 @@
+use Rattle.std.proofs.Common.{◌≡◌}
+use Rattle.cfn_rota.specs.Values.{access}
+use Rattle.cfn_worker.proofs.board.Board.fill.Given as goal
+
+abbrev pub invariant-loop : goal.invariant-loop
+invariant-loop g l = access l.errands ≡ access l.fn.errands

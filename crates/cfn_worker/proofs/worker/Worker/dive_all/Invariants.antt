@@ -1,0 +1,11 @@
+use Rattle.std.proofs.Common.{◌≡◌}
+use Rattle.cfn_rota.specs.Values.{access}
+use Rattle.cfn_worker.proofs.worker.Worker.dive_all.Given as goal
+
+abbrev pub invariant-loop : goal.invariant-loop
+invariant-loop g l = record {
+  next : (goal.iterator-loop g).can_next l.iterator';
+  finite : (goal.iterator-loop g).is_finite l.iterator';
+  diver : l.diver ≡ l.fn.diver;
+  same : access l.self ≡ access l.fn.self;
+}

@@ -1,0 +1,13 @@
+use Rattle.std.proofs.Common.{◌≡◌}
+use Rattle.cfn_rota.specs.Values.{access}
+use Rattle.cfn_worker.specs.Granting.{IsLimit}
+use Rattle.cfn_worker.proofs.worker.Worker.give_up.Given as goal
+
+abbrev pub invariant-loop : goal.invariant-loop
+invariant-loop g l = record {
+  next : (goal.iterator-loop g).can_next l.iterator';
+  finite : (goal.iterator-loop g).is_finite l.iterator';
+  share : l.self-inside.part.shares ≡ 1;
+  limit : IsLimit l.self-inside.limit;
+  same : access l.self-inside.errands ≡ access l.fn.self;
+}

@@ -1,0 +1,133 @@
+//! What a worker has in hand: a task, or the piece that it made of one.
+//!
+//! A worker can't lose what it has in hand. Neither type is `Drop`, so no value of it can be let go, and no other module sees
+//! its field. The ways out are those of this module: a task is laid in the worker's own lane, dived with or given back, and a
+//! piece is given to the pool.
+
+ghost use Rattle.std.specs.Prelude.{◌≡◌, [], ◌∷◌, ◌++◌, ◌<◌, ◌≤◌, length, IfOk, IfErr, IsTrue};
+ghost use Rattle.cfn_dive.specs.Diving.{HasFallen};
+ghost use Rattle.cfn_pool.specs.Views.{pool};
+ghost use Rattle.cfn_task.specs.Values.{IsTaskOf};
+ghost use Rattle.cfn_worker.specs.Searching.{IsSearch, GoesOn, IsMadeOf, IsReturned};
+
+use crate::errands::Errands;
+use cfn_dive::{Dived, Diver};
+use cfn_low::{Holder, Incumbent, Low};
+use cfn_net::Network;
+use cfn_pool::{Handed, Pool};
+use cfn_task::{Piece, Task};
+use std::alloc::Global;
+use std::marker::Model;
+
+/// A task that a worker has in hand.
+pub struct InHand {
+    task: Task,
+}
+
+impl Model for InHand {
+    ghost use Rattle.cfn_task.specs.Values.{TaskValue};
+
+    ghost Value = { TaskValue };
+
+    ghost view = { λ h. h.task };
+}
+
+impl InHand {
+    /// A task that a worker takes in hand.
+    pub(crate) fn of(task: Task) -> InHand
+        ensures { result ≡ task }
+    {
+        InHand { task }
+    }
+
+    /// Lays it in the worker's own lane. An `Err` gives it back, with the lane as it was, and comes only after as many pushes as
+    /// the lane has room for.
+    pub(crate) fn lay<M: Incumbent>(self, errands: &mut Errands<M>) -> Result<(), InHand>
+        requires own { IsTaskOf M.network self }
+        ensures laid { IfOk result (λ none. errands.new ≡ record errands.old { lane = record errands.old.lane { pushed = errands.old.lane.pushed ++ self ∷ [] } }) }
+        ensures back { IfErr result (λ given. (given ≡ self) × (errands.new ≡ errands.old)) }
+        ensures room { IfErr result (λ given. errands.old.lane.room ≤ length errands.old.lane.pushed) }
+    {
+        let InHand { task } = self;
+        errands.push(task).map_err(InHand::of)
+    }
+
+    /// Dives below its leaf, with at most `backtracks`, at least 1. An `Err`, want of memory, gives it back.
+    pub fn dive<M: Incumbent>(
+        self,
+        alloc: Global,
+        network: &Network,
+        diver: &mut Diver<'_>,
+        low: &Low<M>,
+        part: &mut Holder<M>,
+        backtracks: u64,
+    ) -> Result<Made, InHand>
+        requires network { network.now ≡ diver.old }
+        requires task { self.network ≡ diver.old }
+        requires word { M.network ≡ diver.old }
+        requires some { 1 ≤ backtracks }
+        ensures falls { HasFallen M.network part.old part.new }
+        ensures made { IfOk result (IsMadeOf self backtracks part.new.seen) }
+        ensures back { IfErr result (λ given. given ≡ self) }
+        ensures diver { diver.new ≡ diver.old }
+    {
+        let InHand { task } = self;
+        match diver.dive(alloc, network, task, low, part, backtracks) {
+            Dived::Piece { piece, cut: _ } => Ok(Made { piece }),
+            Dived::Memory { task } => Err(InHand { task }),
+        }
+    }
+
+    /// Gives it back to the pool: its leaf is free again, if it was out to the task's worker. It takes no memory.
+    pub fn back<M: Incumbent>(self, held: &mut Pool<M>)
+        requires search { IsSearch M.network (pool held.old) }
+        ensures back { IsReturned held.old self.task held.new }
+        ensures goes { GoesOn M.network (pool held.old) (pool held.new) }
+    {
+        let InHand { task } = self;
+        held.back(&task);
+    }
+}
+
+/// A piece that a worker made of a task.
+pub struct Made {
+    piece: Piece,
+}
+
+impl Model for Made {
+    ghost use Rattle.cfn_task.specs.Values.{PieceValue};
+
+    ghost Value = { PieceValue };
+
+    ghost view = { λ m. m.piece };
+}
+
+impl Made {
+    /// Gives it to the pool, and answers whether it is in its leaf's place: then there are more nodes than before. Where there
+    /// is no memory for it, its leaf is free again.
+    pub(crate) fn give<M: Incumbent>(
+        self,
+        low: &Low<M>,
+        held: &mut Pool<M>,
+        part: &mut Holder<M>,
+    ) -> bool
+        requires own { self.network ≡ M.network }
+        requires seen { part.old.seen ≤ self.threshold }
+        requires search { IsSearch M.network (pool held.old) }
+        ensures goes { GoesOn M.network (pool held.old) (pool held.new) }
+        ensures more { IsTrue result → (pool held.old).nodes < (pool held.new).nodes }
+        ensures part { part.new ≡ part.old }
+    {
+        let Made { piece } = self;
+        piece.kept();
+        let note = low.note(part);
+        match held.give(low, piece, note) {
+            Handed::Done => true,
+            Handed::Gone { .. } => false,
+            Handed::Memory { piece, note: _ } => {
+                held.back(piece.task());
+                false
+            }
+        }
+    }
+}

@@ -1,0 +1,293 @@
+//! One worker: it takes tasks from its lane, from those of others or from the pool, dives, and gives back what it made, until
+//! there is no leaf to take. Then it gives back what its lane holds.
+
+ghost use Rattle.std.specs.Prelude.{◌≡◌, [], ◌∷◌, ◌++◌, map, length, IfSome, MatchOption};
+ghost use Rattle.cfn_rota.specs.Balances.{AreWhole, AreWithin};
+ghost use Rattle.cfn_rota.specs.Values.{AreAll, EndsWith, Meets, access, lanes_of};
+ghost use Rattle.cfn_pool.specs.Views.{pool};
+ghost use Rattle.cfn_task.specs.Values.{IsTaskOf};
+ghost use Rattle.cfn_worker.specs.Boards.{IsOffered};
+ghost use Rattle.cfn_worker.specs.Searching.{IsSearch, GoesOn};
+
+use crate::board::{Board, Offer, Squad};
+use crate::errands::Errands;
+use crate::gate::{Gate, Point};
+use crate::grants::FEWEST_BACKTRACKS;
+use crate::hand::InHand;
+use cfn_branch::Rule;
+use cfn_dive::Diver;
+use cfn_low::{Holder, Incumbent, Low};
+use cfn_net::{Network, Tables};
+use cfn_pool::Pool;
+use std::alloc::Global;
+use std::marker::Model;
+use std::sync::{Condvar, Mutex, Wait};
+
+/// A worker: its number, how many backtracks its next dive may make, its part of the word, which has one share, and its ends
+/// of the lanes of tasks. Contracts see these ends.
+///
+/// It is not `Drop`, so no worker can be let go but by `retire`, once nothing is left in its lane.
+pub struct Worker<M: Incumbent> {
+    number: u32,
+    limit: u64,
+    part: Holder<M>,
+    errands: Errands<M>,
+}
+
+impl<M: Incumbent> Model for Worker<M> {
+    ghost use Rattle.std.specs.Prelude.{◌≡◌};
+    ghost use Rattle.cfn_rota.specs.Values.{EndsValue};
+    ghost use Rattle.cfn_task.specs.Values.{TaskValue};
+    ghost use Rattle.cfn_worker.specs.Granting.{IsLimit};
+
+    ghost Value = { EndsValue TaskValue };
+
+    ghost view = { λ w. w.errands };
+
+    ghost invariant = { λ w. (w.part.shares ≡ 1) × IsLimit w.limit };
+}
+
+/// What all workers share.
+#[derive(Drop)]
+pub struct Shared<'a, M: Incumbent + Squad, G> {
+    pub network: &'a Network,
+    /// The network's tables.
+    pub tables: &'a Tables,
+    pub low: &'a Low<M>,
+    pub board: &'a Mutex<Board<M>>,
+    /// Told at each change of the board.
+    pub changed: &'a Condvar,
+    pub gate: &'a G,
+}
+
+impl<M: Incumbent> Worker<M> {
+    /// A worker that has not dived.
+    pub fn new(number: u32, part: Holder<M>, errands: Errands<M>) -> Worker<M>
+        requires { part.shares ≡ 1 }
+        ensures { result ≡ errands }
+    {
+        Worker {
+            number,
+            limit: FEWEST_BACKTRACKS,
+            part,
+            errands,
+        }
+    }
+
+    /// Puts its own lane together with all thieves of it, and gives the workers before it back the thieves of theirs.
+    pub fn gather(&mut self, others: &mut [Worker<M>])
+        requires all { AreAll (map access others.old ++ access self.old ∷ []) }
+        ensures whole { self.new.lane.parts ≡ 128 }
+        ensures others { AreAll (map access others.new) }
+        ensures count { length others.new ≡ length others.old }
+    {
+        self.errands.absorb_own();
+        let mut left = others.len();
+        while left > 0 {
+            left -= 1;
+            self.exchange(&mut others[left]);
+        }
+    }
+
+    /// Two workers absorb each other's last thieves, which are of each other's lanes.
+    fn exchange(&mut self, other: &mut Worker<M>)
+        requires mine { EndsWith (lanes_of self.old.thieves) other.old.lane.lane }
+        requires theirs { EndsWith (lanes_of other.old.thieves) self.old.lane.lane }
+        ensures meets { Meets (access self.old) (access self.new) other.old.lane.lane }
+        ensures other_meets { Meets (access other.old) (access other.new) self.old.lane.lane }
+    {
+        self.errands.exchange(&mut other.errands);
+    }
+
+    /// Gives back all that is left in its whole lane.
+    pub fn give_left(&mut self, held: &mut Pool<M>)
+        requires search { IsSearch M.network (pool held.old) }
+        requires whole { self.old.lane.parts ≡ 128 }
+        ensures goes { GoesOn M.network (pool held.old) (pool held.new) }
+        ensures whole { self.new.lane.parts ≡ 128 }
+        ensures empty { AreWhole self.new.lane.pushed self.new.lane.taken [] }
+    {
+        while let Some(task) = self.take_left() {
+            task.back(held);
+        }
+    }
+
+    /// Takes a task that is left in its lane.
+    fn take_left(&mut self) -> Option<InHand>
+        ensures { MatchOption result
+            ((self.new ≡ self.old) × (self.old.lane.parts ≡ 128 → AreWhole self.old.lane.pushed self.old.lane.taken []))
+            (λ task. (self.new ≡ record self.old { lane = record self.old.lane { taken = self.old.lane.taken ++ task ∷ [] } }) × (task.network ≡ M.network) × (self.old.lane.parts ≡ 128 → AreWithin self.new.lane.taken self.old.lane.pushed)) }
+    {
+        self.errands.pop()
+    }
+
+    /// Its part of the word, where its lane is whole and all that was pushed there was taken.
+    pub fn retire(self) -> Holder<M>
+        requires whole { self.lane.parts ≡ 128 }
+        requires empty { AreWhole self.lane.pushed self.lane.taken [] }
+        ensures { result.shares ≡ 1 }
+    {
+        let Worker {
+            number: _,
+            limit: _,
+            part,
+            errands: _,
+        } = self;
+        part
+    }
+}
+
+impl<M: Incumbent + Squad> Worker<M> {
+    /// Takes leaves and dives until there is no leaf to take, or memory is refused, and gives back what its lane holds then.
+    /// What it dives with it makes itself, so that its memory is its own thread's.
+    pub fn work<R: Wait, G: Gate>(&mut self, rt: &R, alloc: Global, shared: &Shared<'_, M, G>)
+        requires network { shared.now.network.now ≡ M.network }
+        requires tables { shared.now.tables.now ≡ M.network }
+        ensures { access self.new ≡ access self.old }
+    {
+        if let Ok(mut diver) = Diver::make(alloc, shared.network, shared.tables, Rule::Degrees) {
+            self.dive_all(rt, alloc, shared, &mut diver);
+            drop(diver);
+        }
+        self.give_up(rt, shared);
+        shared.board.lock(rt).tell();
+        shared.changed.notify_all();
+        shared.gate.pass(self.number, Point::Ended);
+    }
+
+    /// Takes leaves and dives until there is no leaf to take, or memory is refused.
+    fn dive_all<R: Wait, G: Gate>(
+        &mut self,
+        rt: &R,
+        alloc: Global,
+        shared: &Shared<'_, M, G>,
+        diver: &mut Diver<'_>,
+    )
+        requires network { shared.now.network.now ≡ M.network }
+        requires diver { diver.old ≡ M.network }
+        ensures { access self.new ≡ access self.old }
+    {
+        for _ in rt.forever() {
+            let Some(task) = self.ask(rt, shared) else {
+                break;
+            };
+            shared.gate.pass(self.number, Point::Taken);
+            if !self.explore(rt, alloc, shared, diver, task) {
+                break;
+            }
+        }
+    }
+
+    /// Finds a task, and waits while others may still bring one.
+    fn ask<R: Wait, G: Gate>(&mut self, rt: &R, shared: &Shared<'_, M, G>) -> Option<InHand>
+        requires { shared.now.network.now ≡ M.network }
+        ensures task { IfSome result (IsTaskOf M.network) }
+        ensures same { access self.new ≡ access self.old }
+    {
+        for _ in rt.forever() {
+            if let Some(task) = self.errands.find() {
+                return Some(task);
+            }
+            match self.ask_board(rt, shared) {
+                Offer::Task { task, more } => {
+                    if more {
+                        shared.changed.notify_all();
+                    }
+                    return Some(task);
+                }
+                Offer::Later { changes } => {
+                    if let Some(task) = self.errands.steal() {
+                        return Some(task);
+                    }
+                    self.wait(rt, shared, changes);
+                }
+                Offer::Over => return None,
+            }
+        }
+        None
+    }
+
+    /// Asks the board for a leaf, and for more for its lane.
+    fn ask_board<R: Wait, G: Gate>(&mut self, rt: &R, shared: &Shared<'_, M, G>) -> Offer
+        requires { shared.now.network.now ≡ M.network }
+        ensures offer { IsOffered M.network result }
+        ensures same { access self.new ≡ access self.old }
+    {
+        let known = self.part.best().values().is_some();
+        shared.board.lock(rt).take(
+            shared.network,
+            self.number,
+            known,
+            self.limit,
+            &mut self.errands,
+        )
+    }
+
+    /// Waits while the board has changed so often.
+    fn wait<R: Wait, G: Gate>(&self, rt: &R, shared: &Shared<'_, M, G>, changes: u64) {
+        shared.gate.pass(self.number, Point::Waiting);
+        let board = shared.board.lock(rt);
+        let _board = shared
+            .changed
+            .wait_while(rt, board, |board| board.changes() == changes);
+    }
+
+    /// Gives back what its lane holds, for other workers.
+    fn give_up<R: Wait, G: Gate>(&mut self, rt: &R, shared: &Shared<'_, M, G>)
+        ensures { access self.new ≡ access self.old }
+    {
+        for _ in rt.forever() {
+            let Some(task) = self.errands.pop() else {
+                break;
+            };
+            shared.board.lock(rt).back(task);
+        }
+    }
+
+    /// Dives below a task's leaf, and gives back what was made; whether the worker goes on.
+    fn explore<R: Wait, G: Gate>(
+        &mut self,
+        rt: &R,
+        alloc: Global,
+        shared: &Shared<'_, M, G>,
+        diver: &mut Diver<'_>,
+        task: InHand,
+    ) -> bool
+        requires network { shared.now.network.now ≡ M.network }
+        requires diver { diver.old ≡ M.network }
+        requires task { IsTaskOf M.network task }
+        ensures diver { diver.new ≡ diver.old }
+        ensures same { access self.new ≡ access self.old }
+    {
+        let dived = task.dive(
+            alloc,
+            shared.network,
+            diver,
+            shared.low,
+            &mut self.part,
+            self.limit,
+        );
+        shared.gate.pass(self.number, Point::BeforeGive);
+        let next = match dived {
+            Ok(made) => shared.board.lock(rt).give(
+                shared.network,
+                shared.low,
+                &mut self.part,
+                made,
+                self.limit,
+            ),
+            Err(task) => {
+                shared.board.lock(rt).back(task);
+                None
+            }
+        };
+        shared.changed.notify_all();
+        match next {
+            Some(limit) => {
+                self.limit = limit;
+                true
+            }
+            None => false,
+        }
+    }
+}

@@ -1,0 +1,248 @@
+//! Whether what lies in a worker's lane is given back to the pool once the worker ends.
+
+ghost use Rattle.std.specs.Prelude.{◌≡◌, [], ◌∷◌, None, IfOk, IfSome};
+ghost use Rattle.cfn_pool.specs.Views.{pool};
+ghost use Rattle.cfn_rota.specs.Values.{AreAll, access};
+ghost use Rattle.cfn_task.specs.Values.{IsTaskOf};
+ghost use Rattle.cfn_worker.specs.Boards.{IsBoard};
+ghost use Rattle.cfn_worker.specs.Searching.{IsSearch, GoesOn};
+
+use cfn_low::{Holder, Incumbent, Low, Unnamed};
+use cfn_net::{Builder, Network, Scored, Tables};
+use cfn_pool::{Pool, Taken};
+use cfn_rota::{Ends, deal};
+use cfn_task::Task;
+use cfn_worker::{Asked, Board, Errand, Errands, OpenGate, ROOM, Shared, Squad, Worker, take};
+use std::alloc::{AllocError, AllocGlobal, Global};
+use std::marker::Brand;
+use std::sync::{Condvar, Mutex, Wait};
+use std::test::*;
+
+/// How many nodes the search may make.
+const BUDGET: u64 = 1_000;
+
+/// The number of the one worker, and of another that has ended.
+const WORKER: u32 = 0;
+
+const OTHER: u32 = 1;
+
+/// One variable with two values, of the costs 3 and 1 below 10.
+fn two(alloc: Global) -> Result<Network, AllocError> {
+    let mut builder = Builder::make(alloc, b"two", &[2], 10)?;
+    builder.function(&[0], 3, &[([1].as_slice(), 1)])?;
+    builder.finish()
+}
+
+/// A pool at the beginning of a search. An `Err` is want of memory.
+fn begin<M: Incumbent>(
+    alloc: Global,
+    network: &Network,
+    holder: Holder<M>,
+) -> Result<Pool<M>, AllocError>
+    requires own { network.now ≡ M.network }
+    requires none { holder.held ≡ None }
+    requires seen { holder.seen ≡ M.network.upper }
+    ensures search { IfOk result (λ held. IsSearch M.network (pool held)) }
+    ensures budget { IfOk result (λ held. (pool held).budget ≡ 1000) }
+    ensures shares { IfOk result (λ held. (pool held).view.shares ≡ holder.shares) }
+{
+    match Pool::begin(alloc, network, holder, BUDGET) {
+        Ok(held) => Ok(held),
+        Err(_) => Err(AllocError),
+    }
+}
+
+/// The ends of a single worker. An `Err` is want of memory.
+fn own_ends<M: Incumbent>(alloc: Global) -> Result<Ends<Task, Errand<M>>, AllocError>
+    ensures { IfOk result (λ own. AreAll (access own ∷ [])) }
+{
+    let mut ends = deal(alloc, 1, ROOM)?;
+    match ends.pop() {
+        Some(own) => Ok(own),
+        None => Err(AllocError),
+    }
+}
+
+/// The task of a free leaf.
+fn taken<M: Incumbent>(network: &Network, held: &mut Pool<M>, worker: u32) -> Option<Task>
+    requires own { network.now ≡ M.network }
+    requires search { IsSearch M.network (pool held.old) }
+    ensures goes { GoesOn M.network (pool held.old) (pool held.new) }
+    ensures task { IfSome result (IsTaskOf M.network) }
+{
+    match held.take(network, worker, 1) {
+        Taken::Given { task } => Some(task),
+        _ => None,
+    }
+}
+
+/// Frees a task's leaf.
+fn free<M: Incumbent>(held: &mut Pool<M>, task: &Task)
+    requires search { IsSearch M.network (pool held.old) }
+    ensures goes { GoesOn M.network (pool held.old) (pool held.new) }
+{
+    held.back(task);
+}
+
+/// Whether the pool has a leaf that is free.
+fn is_free<M: Incumbent>(network: &Network, held: &mut Pool<M>) -> bool
+    requires own { network.now ≡ M.network }
+    requires search { IsSearch M.network (pool held.old) }
+    ensures goes { GoesOn M.network (pool held.old) (pool held.new) }
+{
+    match take(network, held, WORKER, 1) {
+        Asked::Task { task } => {
+            task.back(held);
+            true
+        }
+        Asked::Later | Asked::Over => false,
+    }
+}
+
+/// Lays two tasks of the root in a worker's lane, and answers whether it did. The first was another worker's and was given back,
+/// so a piece of it comes too late; the second is out.
+fn lays_two<M: Incumbent>(
+    network: &Network,
+    held: &mut Pool<M>,
+    own: &mut Ends<Task, Errand<M>>,
+) -> bool
+    requires own { network.now ≡ M.network }
+    requires search { IsSearch M.network (pool held.old) }
+    ensures goes { GoesOn M.network (pool held.old) (pool held.new) }
+    ensures same { access own.new ≡ access own.old }
+{
+    let Some(late) = taken(network, held, OTHER) else {
+        return false;
+    };
+    free(held, &late);
+    let Some(task) = taken(network, held, WORKER) else {
+        return false;
+    };
+    own.push(late).is_ok() && own.push(task).is_ok()
+}
+
+/// The pool after a worker has worked alone.
+fn after_work<M: Incumbent + Squad, R: AllocGlobal + Wait>(
+    rt: &R,
+    network: &Network,
+    tables: &Tables,
+    low: &Low<M>,
+    held: Pool<M>,
+    worker: &mut Worker<M>,
+) -> Pool<M>
+    requires network { network.now ≡ M.network }
+    requires tables { tables.now ≡ M.network }
+    requires board { IsBoard M.network M.budget M.crew held }
+    ensures board { IsBoard M.network M.budget M.crew result }
+    ensures same { access worker.new ≡ access worker.old }
+{
+    let board = Mutex::new(Board::new(held));
+    let changed = Condvar::new();
+    let shared = Shared {
+        network,
+        tables,
+        low,
+        board: &board,
+        changed: &changed,
+        gate: &OpenGate,
+    };
+    worker.work(rt, rt.alloc(), &shared);
+    board.into_inner().into_pool()
+}
+
+/// Lets a single worker go: what is left in its lane is given back.
+fn let_go<M: Incumbent>(alloc: Global, held: &mut Pool<M>, mut worker: Worker<M>)
+    requires search { IsSearch M.network (pool held.old) }
+    requires all { AreAll (access worker ∷ []) }
+    ensures goes { GoesOn M.network (pool held.old) (pool held.new) }
+{
+    let mut others = Vec::new(alloc);
+    worker.gather(others.as_mut_slice());
+    others.destroy_empty();
+    worker.give_left(held);
+    let _part = worker.retire();
+}
+
+/// Whether the pool has a leaf after a worker has worked, before it is let go.
+fn free_after_work<M: Incumbent + Squad, R: AllocGlobal + Wait>(
+    rt: &R,
+    network: &Network,
+    tables: &Tables,
+    low: &Low<M>,
+    held: Pool<M>,
+    mut worker: Worker<M>,
+) -> bool
+    requires network { network.now ≡ M.network }
+    requires tables { tables.now ≡ M.network }
+    requires board { IsBoard M.network M.budget M.crew held }
+    requires all { AreAll (access worker ∷ []) }
+{
+    let mut held = after_work(rt, network, tables, low, held, &mut worker);
+    let free = is_free(network, &mut held);
+    let_go(rt.alloc(), &mut held, worker);
+    free
+}
+
+/// Whether the pool has a leaf after a worker that has not worked was let go.
+fn free_without_work<M: Incumbent>(
+    alloc: Global,
+    network: &Network,
+    mut held: Pool<M>,
+    worker: Worker<M>,
+) -> bool
+    requires own { network.now ≡ M.network }
+    requires search { IsSearch M.network (pool held) }
+    requires all { AreAll (access worker ∷ []) }
+{
+    let_go(alloc, &mut held, worker);
+    is_free(network, &mut held)
+}
+
+/// Whether the pool has a leaf while the only one lies in a worker's lane, and once the worker ended, by its work or without.
+fn asked<M: Incumbent + Squad, R: AllocGlobal + Wait>(
+    rt: &R,
+    network: &Network,
+    unnamed: Unnamed,
+    works: bool,
+) -> Result<(bool, bool), AllocError>
+    requires table { M.table ≡ unnamed.table }
+    requires network { M.network ≡ unnamed.network }
+    requires own { network.now ≡ unnamed.network }
+    requires budget { M.budget ≡ 1000 }
+    requires crew { M.crew ≡ 1 }
+{
+    let tables = Tables::expand(rt.alloc(), network)?;
+    let empty = Scored::empty(rt.alloc(), network)?;
+    let mut own = own_ends(rt.alloc())?;
+    let (low, mut holder) = unnamed.named::<M>();
+    let part = low.split(&mut holder, empty);
+    let mut held = begin(rt.alloc(), network, holder)?;
+    let laid = lays_two(network, &mut held, &mut own);
+    let before = is_free(network, &mut held);
+    let worker = Worker::new(WORKER, part, Errands::of(own));
+    let after = if works {
+        free_after_work(rt, network, &tables, &low, held, worker)
+    } else {
+        free_without_work(rt.alloc(), network, held, worker)
+    };
+    Ok((before, laid && after))
+}
+
+/// The same in a network of one variable.
+fn in_two<R: AllocGlobal + Wait>(rt: &R, works: bool) -> Result<(bool, bool), AllocError> {
+    let network = two(rt.alloc())?;
+    let unnamed = Unnamed::make(rt.alloc(), &network)?;
+    asked::<Brand, R>(rt, &network, unnamed, works)
+}
+
+#[test]
+fn worker_that_ends_gives_its_lane_back(rt: HostRuntime) -> Result<(), Fail> {
+    assert!(rt; in_two(&rt, true)? == (false, true));
+    Ok(())
+}
+
+#[test]
+fn what_is_left_in_a_lane_is_given_back(rt: HostRuntime) -> Result<(), Fail> {
+    assert!(rt; in_two(&rt, false)? == (false, true));
+    Ok(())
+}
