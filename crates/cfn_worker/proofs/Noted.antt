@@ -1,5 +1,5 @@
 -- A row that is noted leaves the search as it was.
-use Rattle.std.proofs.Common.{◌≡◌, List, [], ◌∷◌, ◌++◌, length, refl, sym, ap, ◌∙◌, subst, Bool, true, false, nat_lt, if◌then◌else◌}
+use Rattle.std.proofs.Common.{◌≡◌, List, [], ◌∷◌, ◌++◌, length, refl, sym, ap, ◌∙◌, subst, Bool, true, false, nat_lt, if◌then◌else◌, le_refl}
 use Rattle.cfn_model.specs.declared.report.Row.{Row}
 use Rattle.cfn_model.specs.Network.{Network}
 use Rattle.cfn_machine.specs.Pool.{Pool, row_of, tree_of}
@@ -7,13 +7,14 @@ use Rattle.cfn_machine.specs.Steps.{PoolNotes, is_last}
 use Rattle.cfn_worker.specs.Searching.{IsSearch, GoesOn}
 
 goes_by : (P : Network) (pool : Pool) (a b : Bool) (row : Row) → IsSearch P pool → GoesOn P pool (if a then (if b then pool else record pool { rows = pool.rows ++ row ∷ [] }) else pool)
-goes_by P pool true true row search = record { search = search; budget_is = refl; shares_are = refl }
+goes_by P pool true true row search = record { search = search; budget_is = refl; shares_are = refl; falls = le_refl pool.view.seen }
 goes_by P pool true false row search = record {
   search = record { begun_is = search.begun_is; others = search.others ++ row ∷ []; begin = ap (λ (rows : List Row). rows ++ row ∷ []) search.begin };
   budget_is = refl;
   shares_are = refl;
+  falls = le_refl pool.view.seen;
 }
-goes_by P pool false b row search = record { search = search; budget_is = refl; shares_are = refl }
+goes_by P pool false b row search = record { search = search; budget_is = refl; shares_are = refl; falls = le_refl pool.view.seen }
 
 pub noted : (P : Network) (pool new : Pool) → PoolNotes P pool new → IsSearch P pool → GoesOn P pool new
 noted P pool new is search =

@@ -6,7 +6,7 @@ use Rattle.cfn_proof.specs.Outcome.{opening}
 use Rattle.cfn_task.specs.Values.{TaskValue, PieceValue}
 use Rattle.cfn_dive.specs.Making.{IsPieceOf}
 use Rattle.cfn_machine.specs.Pool.{Pool, Task}
-use Rattle.cfn_machine.specs.Steps.{PoolReturns, IsNotOut}
+use Rattle.cfn_machine.specs.Steps.{PoolReturns, IsOut, IsNotOut}
 use Rattle.cfn_pool.specs.Views.{Held, pool}
 use Rattle.cfn_worker.specs.declared.steps.Asked.{Asked}
 use Rattle.cfn_worker.specs.declared.steps.Asked.TheVariants as asked
@@ -17,11 +17,12 @@ pub record IsSearch (P : Network) (pool : Pool) : Type 0 where
   pub others : List Row
   pub begin : pool.rows ≡ opening P ∷ others
 
--- From one pool of a search to another: the budget and the shares of the word stay.
+-- From one pool of a search to another: the budget and the shares of the word stay, and what was seen never rises.
 pub record GoesOn (P : Network) (old new : Pool) : Type 0 where
   pub search : IsSearch P new
   pub budget_is : new.budget ≡ old.budget
   pub shares_are : new.view.shares ≡ old.view.shares
+  pub falls : new.view.seen ≤ old.view.seen
 
 -- There are more nodes than before, and no more than the budget allows.
 pub record HasMore (old new : Pool) : Type 0 where
@@ -42,3 +43,7 @@ pub record IsMadeOf (task : TaskValue) (granted k : ℕ) (piece : PieceValue) : 
 -- A task's leaf is free again; or it was not out as the task says, and nothing changes.
 abbrev pub IsReturned : Held → Task → Held → Type 0
 IsReturned old task new = PoolReturns (pool old) task (pool new) ⊎ ((new ≡ old) × IsNotOut (pool old) task)
+
+-- So for a piece that is not in its leaf's place; or its leaf was not out at the end of its task's path, and nothing changes.
+abbrev pub IsLeft : Held → Task → Held → Type 0
+IsLeft old task new = IsReturned old task new ⊎ ((new ≡ old) × (IsOut (pool old) task → ⊥))

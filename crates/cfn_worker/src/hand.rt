@@ -4,11 +4,11 @@
 //! its field. The ways out are those of this module: a task is laid in the worker's own lane, dived with or given back, and a
 //! piece is given to the pool.
 
-ghost use Rattle.std.specs.Prelude.{◌≡◌, [], ◌∷◌, ◌++◌, ◌<◌, ◌≤◌, length, IfOk, IfErr, IsTrue};
+ghost use Rattle.std.specs.Prelude.{◌≡◌, [], ◌∷◌, ◌++◌, ◌<◌, ◌≤◌, length, IfOk, IfErr, IsTrue, IsFalse};
 ghost use Rattle.cfn_dive.specs.Diving.{HasFallen};
 ghost use Rattle.cfn_pool.specs.Views.{pool};
 ghost use Rattle.cfn_task.specs.Values.{IsTaskOf};
-ghost use Rattle.cfn_worker.specs.Searching.{IsSearch, GoesOn, IsMadeOf, IsReturned};
+ghost use Rattle.cfn_worker.specs.Searching.{IsSearch, GoesOn, IsMadeOf, IsReturned, IsLeft};
 
 use crate::errands::Errands;
 use cfn_dive::{Dived, Diver};
@@ -103,8 +103,9 @@ impl Model for Made {
 }
 
 impl Made {
-    /// Gives it to the pool, and answers whether it is in its leaf's place: then there are more nodes than before. Where there
-    /// is no memory for it, its leaf is free again.
+    /// Gives it to the pool, and answers whether it is in its leaf's place: then there are more nodes than before, and the pool
+    /// has seen no more than the threshold at which it was made. Where there is no memory for it, its leaf is free again, if
+    /// it was out to the task's worker.
     pub(crate) fn give<M: Incumbent>(
         self,
         low: &Low<M>,
@@ -116,6 +117,8 @@ impl Made {
         requires search { IsSearch M.network (pool held.old) }
         ensures goes { GoesOn M.network (pool held.old) (pool held.new) }
         ensures more { IsTrue result → (pool held.old).nodes < (pool held.new).nodes }
+        ensures seen { IsTrue result → (pool held.new).view.seen ≤ self.threshold }
+        ensures left { IsFalse result → IsLeft held.old self.task held.new }
         ensures part { part.new ≡ part.old }
     {
         let Made { piece } = self;

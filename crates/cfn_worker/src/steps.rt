@@ -39,7 +39,8 @@ pub fn take<M: Incumbent>(network: &Network, held: &mut Pool<M>, worker: u32, wa
     }
 }
 
-/// Gives a dive's piece to the pool, notes the bounds, and closes what need not be searched any more.
+/// Gives a dive's piece to the pool, notes the bounds, and closes what need not be searched any more. Where the piece is in its
+/// leaf's place, the pool has seen no more than the threshold at which it was made.
 pub fn hand_in<M: Incumbent>(
     network: &Network,
     low: &Low<M>,
@@ -57,6 +58,7 @@ pub fn hand_in<M: Incumbent>(
     ensures part { part.new ≡ part.old }
     ensures next { IfSome result IsLimit }
     ensures more { IfSome result (λ next. HasMore (pool held.old) (pool held.new)) }
+    ensures seen { IfSome result (λ next. (pool held.new).view.seen ≤ made.threshold) }
 {
     let before = held.seen();
     let leaves = held.open_leaves();
