@@ -1,5 +1,9 @@
 //! What waits, and what events put.
 
+ghost use Rattle.std.specs.Prelude.{◌≡◌, [], ◌∷◌};
+ghost use Rattle.cfn_store.specs.Exact.{InPlace};
+ghost use Rattle.cfn_store.specs.Standing.{at_root};
+
 use cfn_due::{Due, Next};
 use cfn_incidence::Incidence;
 use cfn_model::{Decision, Event, Step};
@@ -11,6 +15,16 @@ use std::test::*;
 /// Three variables with two values, and functions over the first two, the last two, and the last alone.
 fn chain(alloc: Global) -> Result<Network, AllocError> {
     let mut builder = Builder::make(alloc, b"chain", &[2, 2, 2], 10)?;
+    let chain = linked(&mut builder);
+    drop(builder);
+    chain
+}
+
+/// The network of these functions, where the builder has none yet.
+fn linked(builder: &mut Builder) -> Result<Network, AllocError>
+    requires sizes { builder.old.sizes ≡ 2 ∷ 2 ∷ 2 ∷ [] }
+    requires functions { builder.old.functions ≡ [] }
+{
     builder.function(&[0, 1], 1, &[])?;
     builder.function(&[1, 2], 1, &[])?;
     builder.function(&[2], 1, &[])?;
@@ -28,53 +42,116 @@ fn take(due: &mut Due) -> Option<Next> {
     Some(next)
 }
 
+/// Takes away the next ones.
+fn take_all<const N: usize>(due: &mut Due) -> [Option<Next>; N] {
+    let mut taken = [None; N];
+    for next in &mut taken {
+        *next = take(due);
+    }
+    taken
+}
+
+/// The first that are due of a network.
+fn due_at_first<const N: usize>(
+    alloc: Global,
+    network: &Network,
+) -> Result<[Option<Next>; N], AllocError> {
+    let mut due = Due::make(alloc, network)?;
+    let taken = take_all(&mut due);
+    drop(due);
+    Ok(taken)
+}
+
 #[test]
 fn all_waits_in_its_order(rt: HostRuntime) -> Result<(), Fail> {
     let network = chain(rt.alloc())?;
-    let mut due = Due::make(rt.alloc(), &network)?;
-    for f in 0..3 {
-        assert_eq!(rt; take(&mut due), Some(Next::Arc(f)));
-    }
-    for x in 0..3 {
-        assert_eq!(rt; take(&mut due), Some(Next::Existing(x)));
-    }
-    for f in 0..3 {
-        assert_eq!(rt; take(&mut due), Some(Next::Directed(2 - f)));
-    }
-    assert_eq!(rt; due.next(), None);
+    let taken = due_at_first::<10>(rt.alloc(), &network)?;
+    let all = [
+        Some(Next::Arc(0)),
+        Some(Next::Arc(1)),
+        Some(Next::Arc(2)),
+        Some(Next::Existing(0)),
+        Some(Next::Existing(1)),
+        Some(Next::Existing(2)),
+        Some(Next::Directed(2)),
+        Some(Next::Directed(1)),
+        Some(Next::Directed(0)),
+        None,
+    ];
+    assert_eq!(rt; taken, all);
     Ok(())
+}
+
+/// What is due next once all was taken away, and once all was put again.
+fn next_of_none_and_all(alloc: Global, network: &Network) -> Result<[Option<Next>; 2], AllocError> {
+    let mut due = Due::make(alloc, network)?;
+    due.clear();
+    let of_none = due.next();
+    due.put_all(network);
+    let of_all = due.next();
+    drop(due);
+    Ok([of_none, of_all])
 }
 
 #[test]
 fn all_waits_again_that_was_taken_away(rt: HostRuntime) -> Result<(), Fail> {
     let network = chain(rt.alloc())?;
-    let mut due = Due::make(rt.alloc(), &network)?;
-    due.clear();
-    assert_eq!(rt; due.next(), None);
-    due.put_all(&network);
-    assert_eq!(rt; due.next(), Some(Next::Arc(0)));
+    let next = next_of_none_and_all(rt.alloc(), &network)?;
+    assert_eq!(rt; next, [None, Some(Next::Arc(0))]);
     Ok(())
+}
+
+/// The first that are due behind an event, where nothing was due before it.
+fn due_behind<const N: usize>(
+    alloc: Global,
+    network: &Network,
+    event: &Event,
+) -> Result<[Option<Next>; N], AllocError>
+    requires { InPlace network.now event.now }
+{
+    let incidence = Incidence::build(alloc, network)?;
+    let taken = due_over(alloc, network, &incidence, event);
+    drop(incidence);
+    taken
+}
+
+/// The same, over the network's incidence.
+fn due_over<const N: usize>(
+    alloc: Global,
+    network: &Network,
+    incidence: &Incidence,
+    event: &Event,
+) -> Result<[Option<Next>; N], AllocError>
+    requires incidence { incidence.now ≡ network.now }
+    requires place { InPlace network.now event.now }
+{
+    let mut due = Due::make(alloc, network)?;
+    due.clear();
+    due.note(network, incidence, event);
+    let taken = take_all(&mut due);
+    drop(due);
+    Ok(taken)
 }
 
 #[test]
 fn decision_ends_what_is_known_of_its_functions(rt: HostRuntime) -> Result<(), Fail> {
     let network = chain(rt.alloc())?;
-    let incidence = Incidence::build(rt.alloc(), &network)?;
-    let mut due = Due::make(rt.alloc(), &network)?;
-    due.clear();
     if network.variables() == 3 && network.size(2) == 2 {
-        let decision = Decision::Most {
+        let refused = Event::Refused(Decision::Most {
             variable: 2,
             value: 0,
-        };
-        due.note(&network, &incidence, &Event::Refused(decision));
-        assert_eq!(rt; take(&mut due), Some(Next::Arc(1)));
-        assert_eq!(rt; take(&mut due), Some(Next::Arc(2)));
-        assert_eq!(rt; take(&mut due), Some(Next::Existing(2)));
-        assert_eq!(rt; take(&mut due), Some(Next::Existing(1)));
-        assert_eq!(rt; take(&mut due), Some(Next::Directed(1)));
-        assert_eq!(rt; take(&mut due), Some(Next::Directed(2)));
-        assert_eq!(rt; due.next(), None);
+        });
+        let taken = due_behind::<7>(rt.alloc(), &network, &refused)?;
+        let known = [
+            Some(Next::Arc(1)),
+            Some(Next::Arc(2)),
+            Some(Next::Existing(2)),
+            Some(Next::Existing(1)),
+            Some(Next::Directed(1)),
+            Some(Next::Directed(2)),
+            None,
+        ];
+        assert_eq!(rt; taken, known);
     }
     Ok(())
 }
@@ -84,45 +161,75 @@ fn lift_ends_nothing_and_an_extend_what_is_known_of_its_function(
     rt: HostRuntime,
 ) -> Result<(), Fail> {
     let network = chain(rt.alloc())?;
-    let incidence = Incidence::build(rt.alloc(), &network)?;
-    let mut due = Due::make(rt.alloc(), &network)?;
-    due.clear();
     if network.functions() == 3 && network.variables() == 3 {
-        let lift = Step::Lift {
+        let lift = Event::Did(Step::Lift {
             variable: 0,
             amount: 1,
-        };
-        due.note(&network, &incidence, &Event::Did(lift));
-        assert_eq!(rt; due.next(), None);
+        });
+        let taken = due_behind::<1>(rt.alloc(), &network, &lift)?;
+        assert_eq!(rt; taken, [None]);
     }
     if network.functions() == 3 && network.cells(1) == 4 {
-        let cut = Step::CutTuple {
+        let cut = Event::Did(Step::CutTuple {
             function: 1,
             cell: 3,
-        };
-        due.note(&network, &incidence, &Event::Did(cut));
-        assert_eq!(rt; take(&mut due), Some(Next::Arc(1)));
-        assert_eq!(rt; take(&mut due), Some(Next::Existing(1)));
-        assert_eq!(rt; take(&mut due), Some(Next::Existing(2)));
-        assert_eq!(rt; take(&mut due), Some(Next::Directed(1)));
-        assert_eq!(rt; due.next(), None);
+        });
+        let taken = due_behind::<5>(rt.alloc(), &network, &cut)?;
+        let known = [
+            Some(Next::Arc(1)),
+            Some(Next::Existing(1)),
+            Some(Next::Existing(2)),
+            Some(Next::Directed(1)),
+            None,
+        ];
+        assert_eq!(rt; taken, known);
     }
     Ok(())
 }
 
 /// What is due next behind a store's one step, a cut of a value of the first variable.
 fn next_behind_a_cut(alloc: Global, network: &Network) -> Result<Option<Next>, AllocError> {
-    let incidence = Incidence::build(alloc, network)?;
     let mut store = Store::build(alloc, network)?;
+    let next = next_in(alloc, network, &mut store);
+    drop(store);
+    next
+}
+
+/// The same, of a store at the root.
+fn next_in(
+    alloc: Global,
+    network: &Network,
+    store: &mut Store<'_>,
+) -> Result<Option<Next>, AllocError>
+    requires { store.old ≡ at_root network.now }
+{
     store.reserve(1)?;
-    let mut due = Due::make(alloc, network)?;
-    due.clear();
     if network.variables() != 3 || network.size(0) != 2 {
         return Ok(None);
     }
     store.cut_value(0, 1);
-    due.note_steps(&incidence, &store, 0);
-    Ok(due.next())
+    let incidence = Incidence::build(alloc, network)?;
+    let next = next_noted(alloc, network, &incidence, store);
+    drop(incidence);
+    next
+}
+
+/// What is due next where the steps of a store are noted, and nothing was due before them.
+fn next_noted(
+    alloc: Global,
+    network: &Network,
+    incidence: &Incidence,
+    store: &Store<'_>,
+) -> Result<Option<Next>, AllocError>
+    requires store { store.now.network ≡ network.now }
+    requires incidence { incidence.now ≡ network.now }
+{
+    let mut due = Due::make(alloc, network)?;
+    due.clear();
+    due.note_steps(incidence, store, 0);
+    let next = due.next();
+    drop(due);
+    Ok(next)
 }
 
 #[test]

@@ -1,5 +1,8 @@
 //! A store's room, blocks and steps.
 
+ghost use Rattle.std.specs.Prelude.{◌≡◌};
+ghost use Rattle.cfn_store.specs.Standing.{at_root};
+
 use cfn_model::Step;
 use cfn_net::{Builder, Network};
 use cfn_store::Store;
@@ -9,31 +12,47 @@ use std::test::*;
 /// Two variables with two values, and a function that costs 2 where they agree, 7 where the first is 0 and the second 1,
 /// and is forbidden else.
 fn pair(alloc: Global) -> Result<Network, AllocError> {
-    let mut builder = Builder::make(alloc, b"pair", &[2, 2], 9)?;
     let listed = [
         ([0, 0].as_slice(), 2),
         ([0, 1].as_slice(), 7),
         ([1, 1].as_slice(), 2),
     ];
-    builder.function(&[0, 1], 9, &listed)?;
-    builder.finish()
+    let mut builder = Builder::make(alloc, b"pair", &[2, 2], 9)?;
+    let added = builder.function(&[0, 1], 9, &listed);
+    let pair = added.and_then(|()| builder.finish());
+    drop(builder);
+    pair
 }
 
 /// The floor of a new store, how long its block is, and whether the block has a step.
 fn beginning(alloc: Global, network: &Network) -> Result<(u128, usize, bool), AllocError> {
     let mut store = Store::build(alloc, network)?;
+    let told = told_by(alloc, &mut store);
+    drop(store);
+    told
+}
+
+/// The same, of a store that has no room yet.
+fn told_by(alloc: Global, store: &mut Store<'_>) -> Result<(u128, usize, bool), AllocError> {
     store.reserve(2)?;
     let block = store.block(alloc)?;
-    Ok((
-        store.floor(),
-        store.block_len(),
-        block.cursor().next().is_some(),
-    ))
+    let has_step = block.cursor().next().is_some();
+    drop(block);
+    Ok((store.floor(), store.block_len(), has_step))
 }
 
 /// How long a store's block is behind two cuts, and the second of them.
 fn newest(alloc: Global, network: &Network) -> Result<Option<(usize, Step)>, AllocError> {
     let mut store = Store::build(alloc, network)?;
+    let newest = newest_in(&mut store, network);
+    drop(store);
+    newest
+}
+
+/// The same, of a store at the root.
+fn newest_in(store: &mut Store<'_>, network: &Network) -> Result<Option<(usize, Step)>, AllocError>
+    requires { store.old ≡ at_root network.now }
+{
     store.reserve(2)?;
     if network.variables() != 2 || network.size(0) != 2 || network.size(1) != 2 {
         return Ok(None);

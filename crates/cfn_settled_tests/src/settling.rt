@@ -120,20 +120,46 @@ fn fault_in(
     dice: &mut Dice,
 ) -> Result<Option<Fault>, AllocError> {
     let incidence = Incidence::build(alloc, network)?;
+    let fault = fault_over(alloc, &incidence, network, steps, dice);
+    drop(incidence);
+    fault
+}
+
+/// The same, over the network's incidence.
+fn fault_over(
+    alloc: Global,
+    incidence: &Incidence,
+    network: &Network,
+    steps: usize,
+    dice: &mut Dice,
+) -> Result<Option<Fault>, AllocError>
+    requires { incidence.now ≡ network.now }
+{
     let mut store = Store::build(alloc, network)?;
-    let mut enforcer = Enforcer::make(alloc, network)?;
-    fault_along(
-        alloc,
-        &mut enforcer,
-        &mut store,
-        &incidence,
-        network,
-        steps,
-        dice,
-    )
+    let fault = fault_from(alloc, &mut store, incidence, network, steps, dice);
+    drop(store);
+    fault
 }
 
 /// The same, with a store that stands at the root.
+fn fault_from(
+    alloc: Global,
+    store: &mut Store<'_>,
+    incidence: &Incidence,
+    network: &Network,
+    steps: usize,
+    dice: &mut Dice,
+) -> Result<Option<Fault>, AllocError>
+    requires store { store.old.network ≡ network.now }
+    requires incidence { incidence.now ≡ network.now }
+{
+    let mut enforcer = Enforcer::make(alloc, network)?;
+    let fault = fault_along(alloc, &mut enforcer, store, incidence, network, steps, dice);
+    drop(enforcer);
+    fault
+}
+
+/// The same, by an enforcer.
 fn fault_along(
     alloc: Global,
     enforcer: &mut Enforcer<'_>,
@@ -235,13 +261,37 @@ fn choice(store: &Store<'_>, network: &Network, dice: &mut Dice) -> Option<(u32,
 fn judge_drawn<R: Abort>(rt: &R, alloc: Global, upper: u64) -> Result<(), Fail> {
     let mut dice = Dice { state: upper };
     for _ in 0..DRAWN {
-        let words = draw_shaped(alloc, &mut dice, SHAPE, upper)?;
-        let file = file_of(alloc, words.as_slice())?;
-        let network = cfn_wcsp::read(alloc, file.as_bytes())?;
-        for steps in STEPS {
-            let fault = fault_in(alloc, &network, steps, &mut dice)?;
-            assert_eq!(rt; fault, None, "of {file} with {steps} steps");
-        }
+        let file = draw_file(alloc, &mut dice, upper)?;
+        judge_file(rt, alloc, file.as_str(), &mut dice)?;
+    }
+    Ok(())
+}
+
+/// Draws a network with this upper bound, as a file.
+fn draw_file(alloc: Global, dice: &mut Dice, upper: u64) -> Result<String, AllocError> {
+    let words = draw_shaped(alloc, dice, SHAPE, upper)?;
+    file_of(alloc, words.as_slice())
+}
+
+/// Judges calls on the network of a file.
+fn judge_file<R: Abort>(rt: &R, alloc: Global, file: &str, dice: &mut Dice) -> Result<(), Fail> {
+    let network = cfn_wcsp::read(alloc, file.as_bytes())?;
+    let judged = judge_calls(rt, alloc, &network, file, dice);
+    drop(network);
+    judged
+}
+
+/// Judges calls on a network that was read from a file.
+fn judge_calls<R: Abort>(
+    rt: &R,
+    alloc: Global,
+    network: &Network,
+    file: &str,
+    dice: &mut Dice,
+) -> Result<(), Fail> {
+    for steps in STEPS {
+        let fault = fault_in(alloc, network, steps, dice)?;
+        assert_eq!(rt; fault, None, "of {file} with {steps} steps");
     }
     Ok(())
 }
