@@ -1,8 +1,8 @@
 //! Leaves are taken from the pool, pieces are handed in, bounds are noted, and what need not be searched is closed.
 
-ghost use Rattle.std.specs.Prelude.{◌≡◌, ◌≤◌, IfSome};
+ghost use Rattle.std.specs.Prelude.{◌≡◌, ◌≤◌, IfSome, IsNone};
 ghost use Rattle.cfn_pool.specs.Views.{pool};
-ghost use Rattle.cfn_worker.specs.Searching.{IsSearch, GoesOn, HasMore, IsTaskFor};
+ghost use Rattle.cfn_worker.specs.Searching.{IsSearch, GoesOn, HasMore, IsTaskFor, IsLeft};
 ghost use Rattle.cfn_worker.specs.Granting.{IsLimit};
 
 use crate::grants::limit_after;
@@ -59,6 +59,7 @@ pub fn hand_in<M: Incumbent>(
     ensures next { IfSome result IsLimit }
     ensures more { IfSome result (λ next. HasMore (pool held.old) (pool held.new)) }
     ensures seen { IfSome result (λ next. (pool held.new).view.seen ≤ made.threshold) }
+    ensures left { IsNone result → IsLeft held.old made.task held.new }
 {
     let before = held.seen();
     let leaves = held.open_leaves();
