@@ -1,8 +1,9 @@
 //! What is to go to each value: as much as all live tuples with it have, each with the unary cost of its other value, but no
 //! more than leaves the value's own unary cost at a bound.
 
-ghost use Rattle.std.specs.Prelude.{◌≡◌, ◌<◌, ◌≤◌, length, true, false, slice_index};
+ghost use Rattle.std.specs.Prelude.{◌≡◌, ◌<◌, ◌≤◌, length, true, false, slice_index, IsTrue};
 ghost use Rattle.cfn_model.specs.Steps.{IsPlace};
+ghost use Rattle.cfn_model.specs.Sums.{is_live};
 ghost use Rattle.cfn_store.specs.Standing.{history};
 ghost use Rattle.cfn_dac.specs.Full.{IsPair, AreFullBelow, first_of};
 ghost use Rattle.cfn_dac.specs.Shifts.{AreHeld, AreReached};
@@ -86,19 +87,14 @@ fn amount(store: &Store<'_>, pair: Pair, view: &View<'_>, alpha: u64, value: u32
     least(store, pair, &view.binary, value).min(alpha - has)
 }
 
-/// The least residual cost of the live tuples with a value of the first variable, each with the unary cost of its other
+/// The least residual cost of the live tuples with a live value of the first variable, each with the unary cost of its other
 /// value, but at most 2^64 - 1, as where there is none.
 #[inline(always)]
 pub fn least_total(store: &Store<'_>, pair: Pair, value: u32) -> u64
     requires pair { IsPair store.now.network pair }
     requires value { IsPlace store.now.network pair.function pair.place value }
+    requires live { IsTrue (is_live (history store.now) (first_of store.now.network pair) value) }
     ensures { IsLeastTotal store.now.network (history store.now) pair value result }
 {
-    store.network().limits();
-    let x = store.network().scope(pair.function)[pair.place as usize];
-    if store.is_live(x, value) {
-        least(store, pair, &Binary::of(store, pair), value)
-    } else {
-        u64::MAX
-    }
+    least(store, pair, &Binary::of(store, pair), value)
 }

@@ -55,6 +55,7 @@ pub(crate) fn push_step(bytes: &mut Vec<u8>, step: Step) -> Result<(), AllocErro
 }
 
 /// Adds the bytes of four numbers. An `Err`, want of memory, may leave some of them.
+#[inline(always)]
 fn push_four(
     bytes: &mut Vec<u8>,
     first: u64,
@@ -70,6 +71,7 @@ fn push_four(
 }
 
 /// Adds the bytes of two numbers. An `Err`, want of memory, may leave some of them.
+#[inline(always)]
 fn push_two(bytes: &mut Vec<u8>, first: u64, second: u64) -> Result<(), AllocError>
     ensures ok { OnOk result (Adds bytes.old.items bytes.new.items (first ∷ second ∷ [])) }
     ensures err { OnErr result (GoesOn bytes.old.items bytes.new.items) }
@@ -79,6 +81,7 @@ fn push_two(bytes: &mut Vec<u8>, first: u64, second: u64) -> Result<(), AllocErr
 }
 
 /// Adds the bytes of a number. An `Err`, want of memory, may leave some of them.
+#[inline(always)]
 fn push_number(bytes: &mut Vec<u8>, number: u64) -> Result<(), AllocError>
     ensures ok { OnOk result (Adds bytes.old.items bytes.new.items (number ∷ [])) }
     ensures err { OnErr result (GoesOn bytes.old.items bytes.new.items) }
@@ -93,6 +96,7 @@ fn push_number(bytes: &mut Vec<u8>, number: u64) -> Result<(), AllocError>
 }
 
 /// The first step of packed bytes, and the bytes behind it.
+#[inline(always)]
 pub(crate) fn first_step(bytes: &[u8]) -> (Step, &[u8])
     requires packed { IsPacked bytes.now }
     requires some { 0 < length (numbers_in bytes.now) }
@@ -158,6 +162,7 @@ fn step_of_four(first: u64, second: u64, third: u64, fourth: u64) -> Step
 }
 
 /// The number that bytes begin with, and the bytes behind it.
+#[inline(always)]
 fn first_number(bytes: &[u8]) -> (u64, &[u8])
     requires whole { IsWhole bytes.now }
     requires some { 0 < length (numbers_in bytes.now) }

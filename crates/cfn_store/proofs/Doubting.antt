@@ -1,5 +1,5 @@
 -- Values that are passed, and what a side sees of a value.
-use Rattle.std.proofs.Common.{◌≡◌, ◌≢◌, ℕ, ◌+◌, ◌-◌, ◌<◌, ◌≤◌, ◌⊎◌, inl, inr, List, sym, ap, subst, ◌∙◌, arith, IfSome, Option, Some}
+use Rattle.std.proofs.Common.{◌≡◌, ◌≢◌, ℕ, ◌+◌, ◌-◌, ◌<◌, ◌≤◌, ◌⊎◌, inl, inr, List, sym, ap, subst, ◌∙◌, arith, Option, Some}
 use Rattle.std.proofs.lemmas.Bool.{cases_lt, cases_eq}
 use Rattle.std.specs.Prelude.{slice_index, pos, IsTrue, MatchOption, length}
 use Rattle.cfn_model.specs.declared.step.Event.{Event}
@@ -31,9 +31,8 @@ pub all_passed : (P : Network) (h : List Event) (f i from end : ℕ) → AreFree
 all_passed P h f i from end passed all = λ a l place live. passed a l (let b = value_below P f i a place in omega (arith, b, all)) place live
 
 -- the other place of a function of two variables, and its side
-pub seen : (s : Standing) (f i : ℕ) (o : Option Side) (side : Side) → i < arity s.network f → o ≡ Some side → IfSome o (IsSeen s f i) → (1 - i < arity s.network f) × (i ≡ 1 - i → ⊥) × IsSide s.network (history s) f i (1 - i) side
-seen s f i o side place is facts =
-    let known = subst (λ o. IfSome o (IsSeen s f i)) is facts in
+pub seen : (s : Standing) (f i : ℕ) (side : Side) → i < arity s.network f → IsSeen s f i side → (1 - i < arity s.network f) × (i ≡ 1 - i → ⊥) × IsSide s.network (history s) f i (1 - i) side
+seen s f i side place known =
     let two = known.0 in
     let there : 1 - i < arity s.network f = omega (arith, two, place) in
     let apart : i ≡ 1 - i → ⊥ = λ same. omega (arith, two, place, same) in
@@ -76,3 +75,11 @@ passed_doubt P h f i from here doubt before is free = λ a l m place live. one a
     one a l m place live (inl b) same = before a l b place live
     one a l m place live (inr b) (inl same) = subst (IsFree P h f i) (sym same) free
     one a l m place live (inr b) (inr other) = is.passed a b (omega (arith, m, other)) place live
+
+-- one more value is passed, where it is dead or has a tuple that costs nothing
+pub passed_value : (P : Network) (h : List Event) (f i from here : ℕ) → AreFreeBetween P h f i from here → (IsPlace P f i here → IsTrue (is_live h (variable_at P f i) here) → IsFree P h f i here) → AreFreeBetween P h f i from (here + 1)
+passed_value P h f i from here before one = λ a l m place live. step a l (omega (arith, m)) place live (cases_eq a here)
+  where
+    step : (a : ℕ) → from ≤ a → a ≤ here → IsPlace P f i a → IsTrue (is_live h (variable_at P f i) a) → (a ≡ here) ⊎ (a ≢ here) → IsFree P h f i a
+    step a l m place live (inl same) = subst (IsFree P h f i) (sym same) (one (subst (IsPlace P f i) same place) (subst (λ b. IsTrue (is_live h (variable_at P f i) b)) same live))
+    step a l m place live (inr other) = before a l (omega (arith, m, other)) place live

@@ -16,3 +16,4 @@ pub mod Lines
 pub mod Doubts
 pub mod State
 pub mod Kept
+pub mod Nearest

@@ -4,7 +4,7 @@
 //! variable's, reads a table entry and a shift for each of them, and nothing else (the "delta costs" of binary cost
 //! functions in toulbar2).
 
-ghost use Rattle.std.specs.Prelude.{◌≡◌, ℕ, ◌+◌, ◌<◌, List, [], ◌∷◌, true, MatchOption, IsSomeAnd};
+ghost use Rattle.std.specs.Prelude.{◌≡◌, ℕ, ◌+◌, ◌<◌, List, [], ◌∷◌, true, MatchOption, IsSomeAnd, None};
 ghost use Rattle.cfn_model.specs.declared.step.Event.{Event};
 ghost use Rattle.cfn_model.specs.Network.{Network, variable_at};
 ghost use Rattle.cfn_store.specs.Extremes.{NoneBetween, IsLeastBetween};
@@ -13,6 +13,7 @@ ghost use Rattle.cfn_store.specs.declared.scan.Sense.TheVariants.{Least};
 ghost use Rattle.cfn_store.specs.Scanning.{IsSooner, IsSpot};
 ghost use Rattle.cfn_model.specs.Steps.{IsPlace};
 ghost use Rattle.cfn_store.specs.Lines.{IsAlong, IsSideOf, IsSide, line_of};
+ghost use Rattle.cfn_store.specs.Nearest.{tuple_of};
 
 use crate::scan::{Extreme, Scan};
 
@@ -129,23 +130,68 @@ impl Line<'_> {
     }
 }
 
-/// Of two that were found the one that costs less, the first where both cost the same.
-pub(crate) fn lesser(first: Option<Extreme>, other: Option<Extreme>) -> Option<Extreme>
-    ensures { IsSooner Least first other result }
-{
-    match (first, other) {
-        (Some(a), Some(b)) => { if b.cost < a.cost { other } else { first } }
-        (Some(_), None) => first,
-        (None, _) => other,
-    }
+/// The tuple that costs least of those along a line that were looked at, where one of them is live.
+#[derive(Clone, Copy)]
+pub(crate) struct Nearest {
+    cost: u64,
+    cell: u32,
+    /// Its value at the other place.
+    pub(crate) value: u32,
+    is_found: bool,
 }
 
-/// Whether what was found costs nothing.
-pub(crate) fn costs_nothing(found: Option<Extreme>) -> bool
-    ensures { result ≡ true → IsSomeAnd found (λ extreme. extreme.cost ≡ 0) }
-{
-    match found {
-        Some(extreme) => extreme.cost == 0,
-        None => false,
+impl Nearest {
+    /// None was looked at.
+    pub(crate) fn none() -> Nearest
+        ensures { tuple_of result ≡ None }
+    {
+        Nearest {
+            cost: 0,
+            cell: 0,
+            value: 0,
+            is_found: false,
+        }
+    }
+
+    /// Once the tuple with another value at the other place was looked at.
+    #[inline(always)]
+    pub(crate) fn or(self, found: Option<Extreme>, value: u32) -> Nearest
+        ensures { IsSooner Least (tuple_of self) found (tuple_of result) }
+    {
+        let Some(found) = found else {
+            return self;
+        };
+        if self.is_found && self.cost <= found.cost {
+            return self;
+        }
+        Nearest {
+            cost: found.cost,
+            cell: found.cell,
+            value,
+            is_found: true,
+        }
+    }
+
+    /// Whether it costs nothing.
+    #[inline(always)]
+    pub(crate) fn costs_nothing(self) -> bool
+        ensures { result ≡ true → IsSomeAnd (tuple_of self) (λ extreme. extreme.cost ≡ 0) }
+    {
+        self.is_found && self.cost == 0
+    }
+
+    /// Its cost and number.
+    #[inline(always)]
+    pub(crate) fn tuple(self) -> Option<Extreme>
+        ensures { result ≡ tuple_of self }
+    {
+        if self.is_found {
+            Some(Extreme {
+                cost: self.cost,
+                cell: self.cell,
+            })
+        } else {
+            None
+        }
     }
 }

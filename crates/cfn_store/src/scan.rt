@@ -206,6 +206,7 @@ impl<'a> Scan<'a> {
     }
 
     /// The tail behind the first place of a scope, where each later place has one choice.
+    #[inline(always)]
     fn tail(&self, scope: &[u32], spot: Spot) -> Option<Tail>
         requires some { 0 < length scope.now }
         requires spot { IsSpot self.now scope.now spot }
@@ -245,6 +246,7 @@ impl<'a> Scan<'a> {
 
     /// Passes the places that have one choice, up to the first that has none or more: how many, and where the scan stands
     /// then.
+    #[inline(always)]
     fn forced(&self, scope: &[u32], spot: Spot) -> (usize, Spot)
         requires { IsSpot self.now scope.now spot }
         ensures passed { result.0 ≤ length scope.now }
@@ -267,6 +269,7 @@ impl<'a> Scan<'a> {
     }
 
     /// The values that may stand at a place.
+    #[inline(always)]
     fn choices(&self, x: u32, place: usize) -> &[u32]
         requires variable { x < length self.now.live.now.sizes }
         requires sizes { self.now.live.now.sizes ≡ self.now.sizes.now }

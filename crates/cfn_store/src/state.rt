@@ -5,6 +5,7 @@ ghost use Rattle.cfn_model.specs.declared.step.Event.{Event as PathEvent};
 ghost use Rattle.cfn_model.specs.declared.step.Event.TheVariants.{Did};
 ghost use Rattle.cfn_model.specs.Sums.{is_live, lifted};
 ghost use Rattle.cfn_model.specs.Steps.{InRange, IsPlace};
+ghost use Rattle.cfn_store.specs.Shelf.{on_shelf};
 ghost use Rattle.cfn_store.specs.Extremes.{NoneBetween, IsExtremeBetween};
 ghost use Rattle.cfn_store.specs.Reading.{Reads, start};
 ghost use Rattle.cfn_store.specs.Lines.{IsSide};
@@ -16,10 +17,11 @@ ghost use Rattle.cfn_store.specs.State.{Keeps, IsState, HasRoom, history_of};
 use crate::cuts::Cuts;
 use crate::line::Side;
 use crate::scan::{Extreme, Pin, Scan, Sense, Spot};
+use crate::shelf::Shelf;
 use crate::sums::Sums;
 use cfn_live::LiveSets;
 use cfn_model::{Event, Step};
-use cfn_net::{Network, Tables};
+use cfn_net::Network;
 use std::alloc::{AllocError, Global};
 
 /// A path of more events has no room in any memory.
@@ -69,20 +71,20 @@ impl State {
     pub(crate) fn first(
         &self,
         network: &Network,
-        tables: &Tables,
+        shelf: &Shelf<'_>,
         f: u32,
         one: Pin,
         two: Pin,
         sense: Sense,
     ) -> Option<Extreme>
         requires state { IsState network.now self.now }
-        requires tables { tables.now ≡ network.now }
+        requires shelf { on_shelf shelf.now ≡ network.now }
         requires one { IsPlace network.now f one.place one.value }
         requires two { IsPlace network.now f two.place two.value }
         ensures { MatchOption result (NoneBetween network.now (history_of self.now) f one.place one.value two.place two.value)
             (IsExtremeBetween network.now (history_of self.now) f one.place one.value two.place two.value sense) }
     {
-        let scan = self.scan(network, tables, f, one, two, sense);
+        let scan = self.scan(network, shelf, f, one, two, sense);
         let start = Spot {
             cell: 0,
             shift: 0,
@@ -97,14 +99,14 @@ impl State {
     fn scan<'a>(
         &'a self,
         network: &'a Network,
-        tables: &'a Tables,
+        shelf: &'a Shelf<'_>,
         f: u32,
         one: Pin,
         two: Pin,
         sense: Sense,
     ) -> Scan<'a>
         requires state { IsState network.now self.now }
-        requires tables { tables.now ≡ network.now }
+        requires shelf { on_shelf shelf.now ≡ network.now }
         requires one { IsPlace network.now f one.place one.value }
         requires two { IsPlace network.now f two.place two.value }
         ensures reads { Reads network.now (history_of self.now) f result }
@@ -117,7 +119,7 @@ impl State {
         let _ = network.scope(f);
         Scan {
             sizes: network.sizes(),
-            table: tables.table(network, f),
+            table: shelf.table(network, f),
             shifts: self.sums.shifts.row(f as usize),
             flags: self.cuts.flags.row(f as usize),
             live: &self.live,
@@ -133,12 +135,12 @@ impl State {
     pub(crate) fn side<'a>(
         &'a self,
         network: &'a Network,
-        tables: &'a Tables,
+        shelf: &'a Shelf<'_>,
         f: u32,
         place: usize,
     ) -> Side<'a>
         requires state { IsState network.now self.now }
-        requires tables { tables.now ≡ network.now }
+        requires shelf { on_shelf shelf.now ≡ network.now }
         requires function { f < length network.now.functions }
         requires two { arity network.now f ≡ 2 }
         requires place { place < 2 }
@@ -147,11 +149,12 @@ impl State {
         network.limits();
         let scope = network.scope(f);
         let pin = Pin { place, value: 0 };
-        let scan = self.scan(network, tables, f, pin, pin, Sense::Least);
+        let scan = self.scan(network, shelf, f, pin, pin, Sense::Least);
         Side::of(&scan, scope[0], scope[1], place)
     }
 
     /// Goes on by an event.
+    #[inline(always)]
     pub(crate) fn enter(&mut self, network: &Network, event: Event)
         requires state { IsState network.now self.old }
         requires exact { IsExact network.now (event ∷ history_of self.old) }

@@ -23,12 +23,12 @@ ghost use Rattle.cfn_store.specs.Marking.{IsMark, IsBehind, back_at};
 ghost use Rattle.cfn_store.specs.Standing.{history, at_root, with_step, with_side, FitsProject, FitsExtend, FitsLift};
 
 use crate::block::{block_from, step_from};
-use crate::line::{Line, Side, costs_nothing, lesser};
+use crate::line::{Line, Nearest, Side};
 use crate::mark::Mark;
 use crate::scan::{Extreme, Pin, Sense};
 use crate::shelf::Shelf;
 use crate::state::{State, in_common};
-use crate::supports::{Doubt, Supports};
+use crate::supports::{Doubt, Supports, keep, row_of};
 use crate::unaries::Unaries;
 use cfn_model::{Decision, Event, GREATEST, Step};
 use cfn_net::{Network, Tables};
@@ -50,8 +50,8 @@ pub struct Store<'n> {
     base: usize,
     /// For how many events there is room in all.
     room: usize,
-    /// Where values cost nothing last.
-    supports: Supports,
+    /// Where values cost nothing last; there is none while a call has taken them out.
+    supports: Option<Box<Supports>>,
 }
 
 impl<'n> Model for Store<'n> {
@@ -109,7 +109,7 @@ impl<'n> Store<'n> {
             state: State::at_root(alloc, network)?,
             base: 0,
             room: 0,
-            supports: Supports::make(alloc, network)?,
+            supports: Some(Box::new(alloc, Supports::make(alloc, network)?)?),
         })
     }
 
@@ -300,13 +300,14 @@ impl<'n> Store<'n> {
         if self.network.scope(f).len() == 2 {
             let other = 1 - place;
             if let Some(line) = self.line(f, place, value, other) {
-                return self.least_along(f, place, value, other, &line);
+                return self.least_along(f, place, value, other, &line).0;
             }
         }
         self.least_of_all(f, place, value)
     }
 
-    /// The same, along a line.
+    /// The same, along a line, and the other value of that tuple.
+    #[inline]
     fn least_along(
         &self,
         f: u32,
@@ -314,22 +315,22 @@ impl<'n> Store<'n> {
         value: u32,
         other: u32,
         line: &Line<'_>,
-    ) -> Option<Extreme>
+    ) -> (Option<Extreme>, u32)
         requires other { other < arity self.now.network f }
         requires line { IsLine self.now.network (history self.now) f place value other line.now }
-        ensures { MatchOption result (NonePicked self.now.network (history self.now) f place value)
+        ensures { MatchOption result.0 (NonePicked self.now.network (history self.now) f place value)
             (IsExtreme self.now.network (history self.now) f place value Least) }
     {
         self.network().limits();
         let y = self.network().scope(f)[other as usize];
-        let mut best: Option<Extreme> = None;
+        let mut nearest = Nearest::none();
         for value in self.live(y) {
-            best = lesser(best, line.least(*value));
-            if costs_nothing(best) {
-                return best;
+            nearest = nearest.or(line.least(*value), *value);
+            if nearest.costs_nothing() {
+                return (nearest.tuple(), nearest.value);
             }
         }
-        best
+        (nearest.tuple(), nearest.value)
     }
 
     /// The same, by a scan.
@@ -342,14 +343,8 @@ impl<'n> Store<'n> {
             place: place as usize,
             value,
         };
-        self.state.first(
-            self.network,
-            self.tables.tables(),
-            f,
-            pin,
-            pin,
-            Sense::Least,
-        )
+        self.state
+            .first(self.network, &self.tables, f, pin, pin, Sense::Least)
     }
 
     /// The first live value at a place of `f`, from `from` on, with which no live tuple costs nothing, and the tuple that costs
@@ -361,13 +356,41 @@ impl<'n> Store<'n> {
         ensures lacking { MatchOption result (AreFreeFrom self.old.network (history self.old) f place from) (IsLacking self.old.network (history self.old) f place from) }
         ensures same { self.new ≡ self.old }
     {
+        let mut supports = self.supports.take();
+        let found = match self.side(f, place) {
+            Some(side) => self.lacking_along(&side, &mut supports, f, place, from),
+            None => self.lacking_apart(f, place, from),
+        };
+        self.supports = supports;
+        found
+    }
+
+    /// The same in a function of two variables, with supports that were taken out of the store meanwhile.
+    #[inline]
+    fn lacking_along(
+        &self,
+        side: &Side<'_>,
+        supports: &mut Option<Box<Supports>>,
+        f: u32,
+        place: u32,
+        from: u32,
+    ) -> Option<Doubt>
+        requires function { f < length self.now.network.functions }
+        requires place { place < arity self.now.network f }
+        requires side { IsSeen self.now f place side.now }
+        ensures { MatchOption result (AreFreeFrom self.now.network (history self.now) f place from) (IsLacking self.now.network (history self.now) f place from) }
+    {
         self.network().limits();
         let mut from = from;
-        while let Some(doubt) = self.next_in_doubt(f, place, from) {
+        while let Some(doubt) = self.next_in_doubt(
+            side,
+            row_of(supports, f, place),
+            f,
+            place,
+            from,
+        ) {
             match doubt.least {
-                Some(extreme) if extreme.cost == 0 => {
-                    self.keep_support(f, place, doubt.value, extreme.cell);
-                }
+                Some(extreme) if extreme.cost == 0 => keep(supports, f, place, doubt),
                 _ => return Some(doubt),
             }
             from = doubt.value + 1;
@@ -375,47 +398,81 @@ impl<'n> Store<'n> {
         None
     }
 
-    /// The first live value there of which it is not known that a tuple with it costs nothing, and the tuple that costs least.
-    #[inline]
-    fn next_in_doubt(&self, f: u32, place: u32, from: u32) -> Option<Doubt>
+    /// The same in any function, by a scan for each value.
+    fn lacking_apart(&self, f: u32, place: u32, from: u32) -> Option<Doubt>
         requires function { f < length self.now.network.functions }
         requires place { place < arity self.now.network f }
+        ensures { MatchOption result (AreFreeFrom self.now.network (history self.now) f place from) (IsLacking self.now.network (history self.now) f place from) }
+    {
+        let network = self.network();
+        network.limits();
+        let x = network.scope(f)[place as usize];
+        let mut value = from;
+        while value < network.size(x) {
+            if self.is_live(x, value) {
+                match self.least_of_all(f, place, value) {
+                    Some(extreme) if extreme.cost == 0 => {}
+                    least => {
+                        return Some(Doubt {
+                            value,
+                            least,
+                            other: 0,
+                        });
+                    }
+                }
+            }
+            value += 1;
+        }
+        None
+    }
+
+    /// The first live value there of which it is not known that a tuple with it costs nothing, and the tuple that costs least.
+    #[inline]
+    fn next_in_doubt(
+        &self,
+        side: &Side<'_>,
+        known: &[u32],
+        f: u32,
+        place: u32,
+        from: u32,
+    ) -> Option<Doubt>
+        requires function { f < length self.now.network.functions }
+        requires place { place < arity self.now.network f }
+        requires side { IsSeen self.now f place side.now }
         ensures { MatchOption result (AreFreeFrom self.now.network (history self.now) f place from) (IsDoubt self.now.network (history self.now) f place from) }
     {
         let network = self.network();
         network.limits();
-        let side = self.side(f, place);
-        let value = self.next_unknown(&side, f, place, from);
+        let value = self.next_unknown(side, known, f, place, from);
         if value >= network.size(network.scope(f)[place as usize]) {
             return None;
         }
+        let (least, other) = self.least_seen(side, f, place, value);
         Some(Doubt {
             value,
-            least: self.least_seen(&side, f, place, value),
+            least,
+            other,
         })
     }
 
-    /// The least residual cost of the live tuples with a live value.
+    /// The least residual cost of the live tuples with a live value, and the other value of a tuple that has it.
     #[inline]
-    fn least_seen(&self, side: &Option<Side<'_>>, f: u32, place: u32, value: u32) -> Option<Extreme>
+    fn least_seen(&self, side: &Side<'_>, f: u32, place: u32, value: u32) -> (Option<Extreme>, u32)
         requires place { IsPlace self.now.network f place value }
         requires live { IsTrue (is_live (history self.now) (variable_at self.now.network f place) value) }
-        requires side { IfSome side.now (IsSeen self.now f place) }
-        ensures { MatchOption result (NonePicked self.now.network (history self.now) f place value)
+        requires side { IsSeen self.now f place side.now }
+        ensures { MatchOption result.0 (NonePicked self.now.network (history self.now) f place value)
             (IsExtreme self.now.network (history self.now) f place value Least) }
     {
-        match side {
-            Some(side) => self.least_along(f, place, value, 1 - place, &side.line(value)),
-            None => self.least_of_all(f, place, value),
-        }
+        self.least_along(f, place, value, 1 - place, &side.line(value))
     }
 
     /// The first live value there, from `from` on, of which the tuple that cost nothing last does not do so now, or no value.
     #[inline]
-    fn next_unknown(&self, side: &Option<Side<'_>>, f: u32, place: u32, from: u32) -> u32
+    fn next_unknown(&self, side: &Side<'_>, known: &[u32], f: u32, place: u32, from: u32) -> u32
         requires function { f < length self.now.network.functions }
         requires place { place < arity self.now.network f }
-        requires side { IfSome side.now (IsSeen self.now f place) }
+        requires side { IsSeen self.now f place side.now }
         ensures from { from ≤ result }
         ensures live { IsPlace self.now.network f place result → IsTrue (is_live (history self.now) (variable_at self.now.network f place) result) }
         ensures passed { AreFreeBetween self.now.network (history self.now) f place from result }
@@ -423,7 +480,6 @@ impl<'n> Store<'n> {
         self.network.limits();
         let x = self.network.scope(f)[place as usize];
         let size = self.network.size(x);
-        let known = self.last_supports(f, place);
         let mut value = from;
         while value < size {
             if self.is_live(x, value) && !self.is_known(side, known, f, place, value) {
@@ -436,21 +492,14 @@ impl<'n> Store<'n> {
 
     /// Whether a live value costs nothing together with the other value with which it did so last.
     #[inline]
-    fn is_known(
-        &self,
-        side: &Option<Side<'_>>,
-        known: &[u32],
-        f: u32,
-        place: u32,
-        value: u32,
-    ) -> bool
+    fn is_known(&self, side: &Side<'_>, known: &[u32], f: u32, place: u32, value: u32) -> bool
         requires place { IsPlace self.now.network f place value }
         requires live { IsTrue (is_live (history self.now) (variable_at self.now.network f place) value) }
-        requires side { IfSome side.now (IsSeen self.now f place) }
+        requires side { IsSeen self.now f place side.now }
         ensures { IsTrue result → IsFree self.now.network (history self.now) f place value }
     {
         self.network().limits();
-        let (Some(side), Some(last)) = (side, known.get(value as usize)) else {
+        let Some(last) = known.get(value as usize) else {
             return false;
         };
         if !self.is_live_number(side.other(), *last) {
@@ -478,36 +527,7 @@ impl<'n> Store<'n> {
         requires function { f < length self.now.network.functions }
         requires place { place < arity self.now.network f }
     {
-        self.supports.from(f, self.support_start(f, place))
-    }
-
-    /// Where those of a place begin in a function's row.
-    fn support_start(&self, f: u32, place: u32) -> usize
-        requires function { f < length self.now.network.functions }
-        requires place { place < arity self.now.network f }
-        ensures { result < 2 ^ 32 }
-    {
-        self.network.limits();
-        if place == 0 {
-            0
-        } else {
-            self.network.size(self.network.scope(f)[0]) as usize
-        }
-    }
-
-    /// Keeps the tuple with which a value costs nothing.
-    fn keep_support(&mut self, f: u32, place: u32, value: u32, cell: u32)
-        requires place { IsPlace self.old.network f place value }
-        requires cell { cell < cells (dims_at self.old.network f) }
-        ensures { self.new ≡ self.old }
-    {
-        self.network.limits();
-        let network = self.network;
-        if network.scope(f).len() == 2 {
-            let last = network.value_at(f, cell, 1 - place);
-            let slot = self.support_start(f, place) + value as usize;
-            self.supports.keep(f, slot, last);
-        }
+        row_of(&self.supports, f, place)
     }
 
     /// The greatest residual cost of these tuples.
@@ -520,14 +540,8 @@ impl<'n> Store<'n> {
             place: place as usize,
             value,
         };
-        self.state.first(
-            self.network,
-            self.tables.tables(),
-            f,
-            pin,
-            pin,
-            Sense::Greatest,
-        )
+        self.state
+            .first(self.network, &self.tables, f, pin, pin, Sense::Greatest)
     }
 
     /// The least residual cost of the live tuples of `f` with `value` at `place` and `other_value` at `other`, and the
@@ -554,14 +568,8 @@ impl<'n> Store<'n> {
             place: other as usize,
             value: other_value,
         };
-        self.state.first(
-            self.network,
-            self.tables.tables(),
-            f,
-            one,
-            two,
-            Sense::Least,
-        )
+        self.state
+            .first(self.network, &self.tables, f, one, two, Sense::Least)
     }
 
     /// A function of two variables, seen from a place; `None` where `f` has another number of variables.
@@ -578,7 +586,7 @@ impl<'n> Store<'n> {
         }
         Some(
             self.state
-                .side(self.network, self.tables.tables(), f, place as usize),
+                .side(self.network, &self.tables, f, place as usize),
         )
     }
 

@@ -108,7 +108,7 @@ impl Sums {
 }
 
 /// How many words each function's row has. An `Err` is want of memory, or of numbers below 2^32.
-pub(crate) fn widths(alloc: Global, network: &Network) -> Result<Vec<u32>, AllocError>
+fn widths(alloc: Global, network: &Network) -> Result<Vec<u32>, AllocError>
     ensures { IfOk result (λ widths. widths.items ≡ map (width_of network.now) network.now.functions) }
 {
     let mut widths = Vec::with_capacity(alloc, network.functions() as usize)?;
