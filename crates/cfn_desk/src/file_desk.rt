@@ -88,6 +88,7 @@ impl<S: Storage, W: Write + Drop> Desk for FileDesk<S, W> {
         answer
     }
 
+    #[inline(always)]
     fn put(&mut self, bytes: &[u8]) -> Result<(), Failed>
         requires { IsWriting self.old.calls }
         ensures called { self.new.calls ≡ after_put bytes.now result self.old.calls }

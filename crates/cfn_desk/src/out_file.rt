@@ -133,7 +133,21 @@ impl<S: Storage> OutFile<S> {
     }
 
     /// Puts a piece behind what the file got.
+    #[inline(always)]
     pub(crate) fn put(&mut self, piece: &[u8]) -> Result<(), Failed>
+        ensures put { OnOk result ((file_of S.new_file self.new) ≡ grown piece.now (file_of S.new_file self.old)) }
+        ensures still { IsSome (file_of S.new_file self.old) → IsSome (file_of S.new_file self.new) }
+        ensures same_files { S.files self.new.storage ≡ S.files self.old.storage }
+    {
+        if self.buffer.add(piece).is_ok() {
+            return Ok(());
+        }
+        self.put_through(piece)
+    }
+
+    /// The same, where the buffer has to be written first.
+    #[inline(never)]
+    fn put_through(&mut self, piece: &[u8]) -> Result<(), Failed>
         ensures put { OnOk result ((file_of S.new_file self.new) ≡ grown piece.now (file_of S.new_file self.old)) }
         ensures still { IsSome (file_of S.new_file self.old) → IsSome (file_of S.new_file self.new) }
         ensures same_files { S.files self.new.storage ≡ S.files self.old.storage }
@@ -231,8 +245,8 @@ fn create_beside<S: Storage>(
     Err(io::Error::from(ErrorKind::AlreadyExists))
 }
 
-/// Puts a piece behind what waits in the buffer, or writes it where it is larger than the buffer. After an `Err` bytes may be
-/// lost.
+/// Writes what waits in the buffer, and puts a piece there, or writes it where it is larger than the buffer. After an `Err`
+/// bytes may be lost.
 fn write_piece<S: Storage>(storage: &mut S, buffer: &mut Room, piece: &[u8]) -> io::Result<()>
     // What the file holds and what waits got the piece at their end.
     ensures ok { OnOk result (grown buffer.new.bytes (S.new_file storage.new)
@@ -240,9 +254,6 @@ fn write_piece<S: Storage>(storage: &mut S, buffer: &mut Room, piece: &[u8]) -> 
     ensures same_name { name_of (S.new_file storage.new) ≡ name_of (S.new_file storage.old) }
     ensures same_files { S.files storage.new ≡ S.files storage.old }
 {
-    if buffer.add(piece).is_ok() {
-        return Ok(());
-    }
     empty_buffer(storage, buffer)?;
     if buffer.add(piece).is_ok() {
         return Ok(());

@@ -52,6 +52,7 @@ impl Room {
     }
 
     /// Adds a piece, all of it or nothing.
+    #[inline(always)]
     pub(crate) fn add(&mut self, piece: &[u8]) -> Result<(), Full>
         ensures full { IsErr result ↔ (self.old.limit < length self.old.bytes + length piece.now) }
         ensures ok { OnOk result

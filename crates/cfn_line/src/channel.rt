@@ -14,6 +14,7 @@ pub enum Channel {
 }
 
 /// Sends bytes, in one call. After an `Err` some front of them was sent.
+#[inline(always)]
 pub fn send<D: Desk>(channel: Channel, bytes: &[u8], desk: &mut D) -> Result<(), Failed>
     requires { IsOpen channel (D.outside desk.old).calls }
     ensures { Appends channel (D.outside desk.old) bytes.now result (D.outside desk.new) }

@@ -48,6 +48,7 @@ pub fn write_list<D: Desk>(
 }
 
 /// Writes a line of the words of `front` and then the last one.
+#[inline(always)]
 fn write_parted<D: Desk>(
     channel: Channel,
     front: &[Word],
@@ -124,6 +125,7 @@ fn say_named<D: Desk>(
 }
 
 /// Puts the words that end a line: those of `front` and then the last one.
+#[inline(always)]
 fn put_words<W: AsWord, D: Desk>(front: &[W], last: &W, desk: &mut D) -> Result<(), Failed>
     requires { IsOpen File (D.outside desk.old).calls }
     ensures { Appends File (D.outside desk.old)

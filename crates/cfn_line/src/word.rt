@@ -1,13 +1,12 @@
 //! The words of a line, and each with the byte behind it.
 
-ghost use Rattle.std.specs.Prelude.{◌≡◌, ◌≤◌, [], ◌∷◌, ◌++◌, decimal, IfSome};
+ghost use Rattle.std.specs.Prelude.{◌≡◌, ◌+◌, ◌<◌, ◌≤◌, [], ◌∷◌, ◌++◌, decimal, length, take};
 ghost use Rattle.cfn_line.specs.Appending.{Adds, Appends, IsOpen};
 ghost use Rattle.cfn_line.specs.Words.{word_text};
 ghost use Rattle.cfn_line.specs.declared.channel.Channel.TheVariants.{File};
 
 use crate::channel::{Channel, send};
 use crate::waiting::Line;
-use arrayvec::ArrayVec;
 use cfn_desk::{Desk, Failed};
 use itoa::write_digits;
 
@@ -60,6 +59,7 @@ impl AsWord for u32 {
 }
 
 /// Puts a word and the byte behind it into the file being written, in one call where a fixed word has at most 31 bytes.
+#[inline(always)]
 pub fn put_word<D: Desk>(word: Word, end: u8, desk: &mut D) -> Result<(), Failed>
     requires { IsOpen File (D.outside desk.old).calls }
     ensures { Appends File (D.outside desk.old) (word_text word ++ end ∷ []) result
@@ -72,18 +72,32 @@ pub fn put_word<D: Desk>(word: Word, end: u8, desk: &mut D) -> Result<(), Failed
 }
 
 /// Puts a fixed word and the byte behind it.
+#[inline(always)]
 fn put_name<D: Desk>(name: &[u8], end: u8, desk: &mut D) -> Result<(), Failed>
     requires { IsOpen File (D.outside desk.old).calls }
     ensures { Appends File (D.outside desk.old) (name.now ++ end ∷ []) result
         (D.outside desk.new) }
 {
-    match joined(name, end) {
-        Some(piece) => send(Channel::File, piece.as_slice(), desk),
-        None => put_both(name, end, desk),
+    if name.len() >= PIECE_ROOM {
+        return put_both(name, end, desk);
     }
+    let piece = joined(name, end);
+    send(Channel::File, &piece[..name.len() + 1], desk)
+}
+
+/// Bytes and the byte behind them, with more of that byte up to the room.
+#[inline(always)]
+fn joined(name: &[u8], end: u8) -> [u8; PIECE_ROOM]
+    requires { length name.now < 32 }
+    ensures { take (length name.now + 1) result ≡ name.now ++ end ∷ [] }
+{
+    let mut piece = [end; PIECE_ROOM];
+    piece[..name.len()].copy_from_slice(name);
+    piece
 }
 
 /// Puts bytes, and then the byte behind them.
+#[inline(never)]
 fn put_both<D: Desk>(name: &[u8], end: u8, desk: &mut D) -> Result<(), Failed>
     requires { IsOpen File (D.outside desk.old).calls }
     ensures { Appends File (D.outside desk.old) (name.now ++ end ∷ []) result
@@ -93,17 +107,8 @@ fn put_both<D: Desk>(name: &[u8], end: u8, desk: &mut D) -> Result<(), Failed>
     send(Channel::File, &[end], desk)
 }
 
-/// Bytes and the byte behind them, where there is room for them.
-fn joined(name: &[u8], end: u8) -> Option<ArrayVec<u8, PIECE_ROOM>>
-    ensures { IfSome result (λ piece. piece.items ≡ name.now ++ end ∷ []) }
-{
-    let mut piece = ArrayVec::new();
-    piece.try_extend_from_slice(name).ok()?;
-    piece.try_push(end).ok()?;
-    Some(piece)
-}
-
 /// Puts a number and the byte behind it, in one call.
+#[inline(always)]
 fn put_number<D: Desk>(number: u64, end: u8, desk: &mut D) -> Result<(), Failed>
     requires { IsOpen File (D.outside desk.old).calls }
     ensures { Appends File (D.outside desk.old) (decimal number ++ end ∷ []) result
