@@ -64,9 +64,9 @@ fn least_cost<R: Threads + Wait + Sync, G: Gate + Sync>(
     ensures { IfOk result (λ least. Least network.now least) }
 {
     network.limits();
-    let outcome = solve_together(rt, alloc, network, workers, GREATEST, gate)?;
-    match outcome.stop {
-        Stop::Done => Ok(outcome.certificate.lower),
+    let found = solve_together(rt, alloc, network, workers, GREATEST, gate)?;
+    match found.outcome.stop {
+        Stop::Done => Ok(found.outcome.certificate.lower),
         Stop::Budget | Stop::Memory => Err(AllocError),
     }
 }

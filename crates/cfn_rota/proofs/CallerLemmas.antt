@@ -2,7 +2,7 @@
 use Rattle.std.proofs.Common.{◌≡◌, ◌≤◌, List, [], ◌∷◌, length, refl, arith}
 use Rattle.cfn_rota.specs.Balances.{weigh, AreWithin}
 pub use Rattle.cfn_rota.proofs.Crossing.{ends_send}
-pub use Rattle.cfn_rota.proofs.Dealt.{rest as all_before}
+pub use Rattle.cfn_rota.proofs.Dealt.{rest as all_before, same_map}
 pub use Rattle.cfn_rota.proofs.Gathering.{last_others, last_parts, own_absorbed, mine_ends, theirs_ends, met_one, thieves_step, same_lanes, before_step, met_step, all_met, all_but_last, same_access, in_turn, all_in_turn}
 
 -- each task weighs 1

@@ -14,6 +14,6 @@ mod outcome;
 mod search;
 mod team;
 
-pub use cfn_worker::{Gate, OpenGate, Point};
+pub use cfn_worker::{Gate, OpenGate, Point, Threshold};
 pub use search::{solve, solve_by};
-pub use team::solve_together;
+pub use team::{Teamwork, solve_together};

@@ -1,10 +1,10 @@
 //! What a search that stopped hands out.
 
-ghost use Rattle.std.specs.Prelude.{◌≡◌, ◌≤◌, ◌+◌, IsTrue, is_some};
+ghost use Rattle.std.specs.Prelude.{◌≡◌, ◌≤◌, ◌+◌, min, IsTrue, is_some};
 ghost use Rattle.std.specs.Option.{ForSome};
-ghost use Rattle.cfn_model.specs.Certificate.{IsBest, threshold_of};
+ghost use Rattle.cfn_model.specs.Certificate.{IsBest, threshold, threshold_of};
 ghost use Rattle.cfn_net.specs.Scoring.{IsPriced};
-ghost use Rattle.cfn_proof.specs.Certificates.{solution_of};
+ghost use Rattle.cfn_proof.specs.Certificates.{certificate_of, solution_of};
 ghost use Rattle.cfn_proof.specs.Outcome.{IsOutcome};
 ghost use Rattle.cfn_machine.specs.Word.{all_shares};
 ghost use Rattle.cfn_pool.specs.Views.{pool};
@@ -16,13 +16,14 @@ use cfn_net::{Network, Scored};
 use cfn_pool::Pool;
 use cfn_proof::{Certificate, Outcome, Stop};
 
-/// Joins a worker's part of the word into the pool's. It takes no memory.
+/// Joins a worker's part of the word into the pool's, which has seen the lesser of both then. It takes no memory.
 pub(crate) fn meet<M: Incumbent>(low: &Low<M>, held: &mut Pool<M>, part: Holder<M>)
     requires search { IsSearch M.network (pool held.old) }
     requires shares { (pool held.old).view.shares + part.shares ≤ all_shares }
     ensures search { IsSearch M.network (pool held.new) }
     ensures budget { (pool held.new).budget ≡ (pool held.old).budget }
     ensures shares { (pool held.new).view.shares ≡ (pool held.old).view.shares + part.shares }
+    ensures seen { (pool held.new).view.seen ≡ min (pool held.old).view.seen part.seen }
 {
     held.meet(low, part);
 }
@@ -34,17 +35,19 @@ pub(crate) fn wind_up<M: Incumbent>(low: &Low<M>, held: &mut Pool<M>)
     ensures search { IsSearch M.network (pool held.new) }
     ensures budget { (pool held.new).budget ≡ (pool held.old).budget }
     ensures last { IsLast M.network (pool held.new) }
+    ensures falls { (pool held.new).view.seen ≤ (pool held.old).view.seen }
 {
     held.recall();
     held.sweep(low);
 }
 
-/// The outcome of a search that was wound up. It takes no memory.
+/// The outcome of a search that was wound up: the certificate's threshold is what the pool has seen. It takes no memory.
 pub(crate) fn conclude<M: Incumbent>(network: &Network, low: Low<M>, held: Pool<M>) -> Outcome
     requires own { network.now ≡ M.network }
     requires search { IsSearch M.network (pool held) }
     requires last { IsLast M.network (pool held) }
-    ensures { IsOutcome network.now (pool held).budget result }
+    ensures outcome { IsOutcome network.now (pool held).budget result }
+    ensures threshold { threshold (certificate_of result.certificate) ≡ (pool held).view.seen }
 {
     network.limits();
     held.kept();

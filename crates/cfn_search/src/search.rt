@@ -2,6 +2,8 @@
 
 ghost use Rattle.std.specs.Prelude.{◌≡◌, ◌+◌, ◌≤◌, None, IfOk, IfSome};
 ghost use Rattle.cfn_model.specs.declared.limits.TheConstants.{GREATEST};
+ghost use Rattle.cfn_model.specs.Certificate.{threshold};
+ghost use Rattle.cfn_proof.specs.Certificates.{certificate_of};
 ghost use Rattle.cfn_proof.specs.Outcome.{IsOutcome};
 ghost use Rattle.cfn_machine.specs.Word.{all_shares};
 ghost use Rattle.cfn_pool.specs.Views.{pool};
@@ -15,7 +17,7 @@ use cfn_low::{Holder, Incumbent, Low, Unnamed};
 use cfn_net::{Network, Scored, Tables};
 use cfn_pool::Pool;
 use cfn_proof::Outcome;
-use cfn_worker::{Asked, FEWEST_BACKTRACKS, hand_in, sweep, take, wanted};
+use cfn_worker::{Account, Asked, FEWEST_BACKTRACKS, Threshold, hand_in, sweep, take, wanted};
 use std::alloc::{AllocError, Global};
 use std::marker::Brand;
 
@@ -44,6 +46,22 @@ pub fn solve_by(
     requires { budget ≤ GREATEST }
     ensures { IfOk result (IsOutcome network.now budget) }
 {
+    let (outcome, _) = solve_alone(alloc, network, budget, rule)?;
+    Ok(outcome)
+}
+
+/// Searches so, and tells the least threshold at which a piece was made too.
+pub(crate) fn solve_alone(
+    alloc: Global,
+    network: &Network,
+    budget: u64,
+    rule: Rule,
+) -> Result<(Outcome, Threshold), AllocError>
+    requires { budget ≤ GREATEST }
+    ensures outcome { IfOk result (λ found. IsOutcome network.now budget found.0) }
+    ensures most { IfOk result (λ found. found.1 ≤ network.now.upper) }
+    ensures least { IfOk result (λ found. threshold (certificate_of found.0.certificate) ≤ found.1) }
+{
     let unnamed = Unnamed::make(alloc, network)?;
     let empty = Scored::empty(alloc, network)?;
     let tables = Tables::expand(alloc, network)?;
@@ -59,19 +77,21 @@ fn search<M: Incumbent>(
     unnamed: Unnamed,
     empty: Scored,
     budget: u64,
-) -> Result<Outcome, AllocError>
+) -> Result<(Outcome, Threshold), AllocError>
     requires table { M.table ≡ unnamed.table }
     requires network { M.network ≡ unnamed.network }
     requires own { network.now ≡ unnamed.network }
     requires tables { tables.now ≡ unnamed.network }
     requires empty { empty ≡ record { network = unnamed.network; held = None } }
-    ensures { IfOk result (IsOutcome network.now budget) }
+    ensures outcome { IfOk result (λ found. IsOutcome network.now budget found.0) }
+    ensures most { IfOk result (λ found. found.1 ≤ network.now.upper) }
+    ensures least { IfOk result (λ found. threshold (certificate_of found.0.certificate) ≤ found.1) }
 {
     let (low, mut holder) = unnamed.named::<M>();
-    let mut part = low.split(&mut holder, empty);
+    let mut account = Account::open(low.split(&mut holder, empty));
     let mut held = open(alloc, network, &low, holder, budget)?;
-    work(alloc, network, tables, rule, &low, &mut held, &mut part)?;
-    Ok(ended(network, low, held, part))
+    work(alloc, network, tables, rule, &low, &mut held, &mut account)?;
+    Ok(ended(network, low, held, account))
 }
 
 /// A pool at the beginning of a search, with a part of the word that keeps nothing. An `Err` is want of memory.
@@ -96,21 +116,25 @@ pub(crate) fn open<M: Incumbent>(
     Ok(held)
 }
 
-/// The outcome of a search once its one worker has ended.
+/// The outcome of a search once its one worker has ended, and the least threshold at which that made a piece.
 fn ended<M: Incumbent>(
     network: &Network,
     low: Low<M>,
     mut held: Pool<M>,
-    part: Holder<M>,
-) -> Outcome
+    account: Account<M>,
+) -> (Outcome, Threshold)
     requires own { network.now ≡ M.network }
     requires search { IsSearch M.network (pool held) }
-    requires shares { (pool held).view.shares + part.shares ≡ all_shares }
-    ensures { IsOutcome network.now (pool held).budget result }
+    requires shares { (pool held).view.shares + account.part.shares ≡ all_shares }
+    ensures outcome { IsOutcome network.now (pool held).budget result.0 }
+    ensures told { result.1 ≡ account.least }
+    ensures most { result.1 ≤ network.now.upper }
+    ensures least { threshold (certificate_of result.0.certificate) ≤ result.1 }
 {
+    let (part, threshold) = account.close();
     meet(&low, &mut held, part);
     wind_up(&low, &mut held);
-    conclude(network, low, held)
+    (conclude(network, low, held), threshold)
 }
 
 /// Makes what it dives with, and dives until there is no leaf to take, or memory is refused. An `Err` is want of memory before
@@ -122,16 +146,17 @@ fn work<M: Incumbent>(
     rule: Rule,
     low: &Low<M>,
     held: &mut Pool<M>,
-    part: &mut Holder<M>,
+    account: &mut Account<M>,
 ) -> Result<(), AllocError>
     requires own { network.now ≡ M.network }
     requires tables { tables.now ≡ M.network }
     requires search { IsSearch M.network (pool held.old) }
     ensures goes { GoesOn M.network (pool held.old) (pool held.new) }
-    ensures part { part.new.shares ≡ part.old.shares }
+    ensures shares { account.new.part.shares ≡ account.old.part.shares }
+    ensures falls { account.new.least ≤ account.old.least }
 {
     let mut diver = Diver::make(alloc, network, tables, rule)?;
-    dive_all(alloc, network, low, held, part, &mut diver);
+    dive_all(alloc, network, low, held, account, &mut diver);
     drop(diver);
     Ok(())
 }
@@ -142,18 +167,19 @@ fn dive_all<M: Incumbent>(
     network: &Network,
     low: &Low<M>,
     held: &mut Pool<M>,
-    part: &mut Holder<M>,
+    account: &mut Account<M>,
     diver: &mut Diver<'_>,
 )
     requires own { network.now ≡ M.network }
     requires diver { diver.old ≡ M.network }
     requires search { IsSearch M.network (pool held.old) }
     ensures goes { GoesOn M.network (pool held.old) (pool held.new) }
-    ensures part { part.new.shares ≡ part.old.shares }
+    ensures shares { account.new.part.shares ≡ account.old.part.shares }
+    ensures falls { account.new.least ≤ account.old.least }
 {
     held.kept();
     let mut limit = FEWEST_BACKTRACKS;
-    while let Some(next) = dive(alloc, network, low, held, part, diver, limit) {
+    while let Some(next) = dive(alloc, network, low, held, account, diver, limit) {
         limit = next;
     }
 }
@@ -164,7 +190,7 @@ fn dive<M: Incumbent>(
     network: &Network,
     low: &Low<M>,
     held: &mut Pool<M>,
-    part: &mut Holder<M>,
+    account: &mut Account<M>,
     diver: &mut Diver<'_>,
     limit: u64,
 ) -> Option<u64>
@@ -173,19 +199,20 @@ fn dive<M: Incumbent>(
     requires search { IsSearch M.network (pool held.old) }
     requires limit { IsLimit limit }
     ensures goes { GoesOn M.network (pool held.old) (pool held.new) }
-    ensures part { part.new.shares ≡ part.old.shares }
+    ensures shares { account.new.part.shares ≡ account.old.part.shares }
+    ensures falls { account.new.least ≤ account.old.least }
     ensures diver { diver.new ≡ diver.old }
     ensures next { IfSome result IsLimit }
     ensures more { IfSome result (λ next. HasMore (pool held.old) (pool held.new)) }
 {
-    let known = part.best().values().is_some();
+    let known = account.knows();
     let want = wanted(held.nodes() == 0, known, limit, network.variables());
     let task = match take(network, held, WORKER, want) {
         Asked::Task { task } => task,
         Asked::Later | Asked::Over => return None,
     };
-    match task.dive(alloc, network, diver, low, part, limit) {
-        Ok(made) => hand_in(network, low, held, part, made, limit),
+    match task.dive(alloc, network, diver, low, account, limit) {
+        Ok(made) => hand_in(network, low, held, account, made, limit),
         Err(task) => {
             task.back(held);
             None

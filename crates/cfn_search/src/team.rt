@@ -1,33 +1,47 @@
 //! Several workers, each in a thread of its own.
 
-ghost use Rattle.std.specs.Prelude.{◌≡◌, ◌+◌, ◌<◌, ◌≤◌, [], ◌∷◌, ◌++◌, All, map, reverse, length, IfOk, OnOk};
+ghost use Rattle.std.specs.Prelude.{◌≡◌, ◌+◌, ◌<◌, ◌≤◌, [], ◌∷◌, ◌++◌, All, map, reverse, length, vec_capacity, IfOk, OnOk};
 ghost use Rattle.cfn_model.specs.declared.limits.TheConstants.{GREATEST};
+ghost use Rattle.cfn_model.specs.Certificate.{threshold};
+ghost use Rattle.cfn_proof.specs.Certificates.{certificate_of};
 ghost use Rattle.cfn_proof.specs.Outcome.{IsOutcome};
 ghost use Rattle.cfn_machine.specs.Word.{all_shares};
 ghost use Rattle.cfn_pool.specs.Views.{pool};
 ghost use Rattle.cfn_rota.specs.Values.{AreAll, access};
+ghost use Rattle.cfn_worker.specs.Accounts.{least_of, reach};
 ghost use Rattle.cfn_worker.specs.Boards.{IsBoard};
 ghost use Rattle.cfn_worker.specs.Searching.{IsSearch};
 
 use crate::outcome::{conclude, meet, wind_up};
-use crate::search::{open, solve};
+use crate::search::{open, solve_alone};
+use cfn_branch::Rule;
 use cfn_low::{Holder, Incumbent, Low, Unnamed};
 use cfn_net::{Network, Scored, Tables};
 use cfn_pool::Pool;
 use cfn_proof::Outcome;
 use cfn_rota::{Ends, deal};
 use cfn_task::Task;
-use cfn_worker::{Board, Errand, Errands, Gate, ROOM, Shared, Squad, Worker};
+use cfn_worker::{Board, Errand, Errands, Gate, ROOM, Shared, Squad, Threshold, Worker};
 use std::alloc::{AllocError, Global};
 use std::marker::Brand;
 use std::sync::{Condvar, Mutex, Wait};
 use std::thread;
 use std::thread::Threads;
 
+/// What several workers answer.
+#[derive(Drop)]
+pub struct Teamwork {
+    pub outcome: Outcome,
+    /// Of each worker the least threshold at which it made a piece; where it made none, what it had seen at first.
+    pub thresholds: Vec<Threshold>,
+}
+
 /// Searches as `solve` does, by 1 to 64 workers, each in a thread of its own; a single one works on the caller's thread.
 ///
 /// Which nodes are made depends on how the threads run, so two calls may answer different nodes, rows and assignments; each
 /// answer keeps the whole contract. A worker that is refused memory for a dive ends, and the others go on with its leaf.
+///
+/// The certificate's threshold is at most each threshold at which a worker made a piece.
 pub fn solve_together<R: Threads + Wait + Sync, G: Gate + Sync>(
     rt: &R,
     alloc: Global,
@@ -35,18 +49,38 @@ pub fn solve_together<R: Threads + Wait + Sync, G: Gate + Sync>(
     workers: u32,
     budget: u64,
     gate: &G,
-) -> Result<Outcome, AllocError>
+) -> Result<Teamwork, AllocError>
     requires some { 1 ≤ workers }
     requires few { workers ≤ 64 }
     requires budget { budget ≤ GREATEST }
-    ensures { IfOk result (IsOutcome network.now budget) }
+    ensures outcome { IfOk result (λ found. IsOutcome network.now budget found.outcome) }
+    ensures count { IfOk result (λ found. length found.thresholds.items ≡ workers) }
+    ensures most { IfOk result (λ found. All (λ k. k ≤ network.now.upper) found.thresholds.items) }
+    ensures least { IfOk result (λ found. All (λ k. threshold (certificate_of found.outcome.certificate) ≤ k) found.thresholds.items) }
 {
     if workers == 1 {
-        return solve(alloc, network, budget);
+        return solve_single(alloc, network, budget);
     }
     let unnamed = Unnamed::make(alloc, network)?;
     let tables = Tables::expand(alloc, network)?;
     search::<Brand, R, G>(rt, alloc, network, &tables, unnamed, workers, budget, gate)
+}
+
+/// The search by a single worker.
+fn solve_single(alloc: Global, network: &Network, budget: u64) -> Result<Teamwork, AllocError>
+    requires { budget ≤ GREATEST }
+    ensures outcome { IfOk result (λ found. IsOutcome network.now budget found.outcome) }
+    ensures count { IfOk result (λ found. length found.thresholds.items ≡ 1) }
+    ensures most { IfOk result (λ found. All (λ k. k ≤ network.now.upper) found.thresholds.items) }
+    ensures least { IfOk result (λ found. All (λ k. threshold (certificate_of found.outcome.certificate) ≤ k) found.thresholds.items) }
+{
+    let mut thresholds = Vec::with_capacity(alloc, 1)?;
+    let (outcome, own) = solve_alone(alloc, network, budget, Rule::Degrees)?;
+    thresholds.push_reserved(own);
+    Ok(Teamwork {
+        outcome,
+        thresholds,
+    })
 }
 
 /// The search, over a word by its name.
@@ -59,7 +93,7 @@ fn search<M: Incumbent + Squad + Send + Sync, R: Threads + Wait + Sync, G: Gate 
     workers: u32,
     budget: u64,
     gate: &G,
-) -> Result<Outcome, AllocError>
+) -> Result<Teamwork, AllocError>
     requires table { M.table ≡ unnamed.table }
     requires network { M.network ≡ unnamed.network }
     requires own { network.now ≡ unnamed.network }
@@ -68,39 +102,69 @@ fn search<M: Incumbent + Squad + Send + Sync, R: Threads + Wait + Sync, G: Gate 
     requires crew { M.crew ≡ workers }
     requires some { 1 ≤ workers }
     requires few { workers ≤ 64 }
-    ensures { IfOk result (IsOutcome network.now budget) }
+    ensures outcome { IfOk result (λ found. IsOutcome network.now budget found.outcome) }
+    ensures count { IfOk result (λ found. length found.thresholds.items ≡ workers) }
+    ensures most { IfOk result (λ found. All (λ k. k ≤ network.now.upper) found.thresholds.items) }
+    ensures least { IfOk result (λ found. All (λ k. threshold (certificate_of found.outcome.certificate) ≤ k) found.thresholds.items) }
 {
+    let thresholds = Vec::with_capacity(alloc, workers as usize)?;
     let (low, mut holder) = unnamed.named::<M>();
     let (parts, ends) = supplies(alloc, network, &low, &mut holder, workers)?;
     let held = open(alloc, network, &low, holder, budget)?;
     let crew = recruit(alloc, parts, ends)?;
-    Ok(run(rt, alloc, network, tables, low, held, crew, gate))
+    let (held, crew) = run(rt, alloc, network, tables, &low, held, crew, gate);
+    Ok(end_all(network, low, held, crew, thresholds))
 }
 
-/// The search from its beginning to its end, by some workers.
+/// The pool and the workers once there is no leaf to take.
 fn run<M: Incumbent + Squad + Send + Sync, R: Threads + Wait + Sync, G: Gate + Sync>(
     rt: &R,
     alloc: Global,
     network: &Network,
     tables: &Tables,
-    low: Low<M>,
+    low: &Low<M>,
     held: Pool<M>,
     crew: Vec<Worker<M>>,
     gate: &G,
-) -> Outcome
+) -> (Pool<M>, Vec<Worker<M>>)
     requires own { network.now ≡ M.network }
     requires tables { tables.now ≡ M.network }
     requires board { IsBoard M.network M.budget M.crew held }
-    requires crew { length crew.items ≡ M.crew }
-    requires all { AreAll (map access crew.items) }
-    ensures { IsOutcome network.now M.budget result }
+    ensures board { IsBoard M.network M.budget M.crew result.0 }
+    ensures count { length result.1.items ≡ length crew.items }
+    ensures same { map reach result.1.items ≡ map reach crew.items }
 {
     let board = Mutex::new(Board::new(held));
-    let crew = work_all(rt, alloc, network, tables, &low, &board, crew, gate);
-    let mut held = board.into_inner().into_pool();
-    disband(&low, &mut held, crew);
+    let crew = work_all(rt, alloc, network, tables, low, &board, crew, gate);
+    (board.into_inner().into_pool(), crew)
+}
+
+/// Ends the workers and then the search. `thresholds` is empty, with room for one of each worker. It takes no memory.
+fn end_all<M: Incumbent>(
+    network: &Network,
+    low: Low<M>,
+    mut held: Pool<M>,
+    crew: Vec<Worker<M>>,
+    thresholds: Vec<Threshold>,
+) -> Teamwork
+    requires own { network.now ≡ M.network }
+    requires search { IsSearch M.network (pool held) }
+    requires shares { (pool held).view.shares + length crew.items ≡ all_shares }
+    requires all { AreAll (map reach crew.items) }
+    requires none { thresholds.items ≡ [] }
+    requires room { length crew.items ≤ vec_capacity thresholds }
+    ensures outcome { IsOutcome network.now (pool held).budget result.outcome }
+    ensures count { length result.thresholds.items ≡ length crew.items }
+    ensures most { All (λ k. k ≤ network.now.upper) result.thresholds.items }
+    ensures least { All (λ k. threshold (certificate_of result.outcome.certificate) ≤ k) result.thresholds.items }
+{
+    let thresholds = disband(&low, &mut held, crew, thresholds);
     wind_up(&low, &mut held);
-    conclude(network, low, held)
+    let outcome = conclude(network, low, held);
+    Teamwork {
+        outcome,
+        thresholds,
+    }
 }
 
 /// What each worker is made of: one share of the word, and its ends of the lanes. An `Err` is want of memory.
@@ -164,7 +228,7 @@ fn recruit<M: Incumbent>(
     requires ones { All (λ part. part.shares ≡ 1) parts.items }
     requires all { AreAll (reverse (map access ends.items)) }
     ensures crew { IfOk result (λ crew. length crew.items ≡ length parts.items) }
-    ensures all { IfOk result (λ crew. AreAll (map access crew.items)) }
+    ensures all { IfOk result (λ crew. AreAll (map reach crew.items)) }
 {
     let mut crew = Vec::with_capacity(alloc, parts.len())?;
     while let (Some(part), Some(own)) = (parts.pop(), ends.pop()) {
@@ -188,7 +252,7 @@ fn work_all<M: Incumbent + Squad + Send + Sync, R: Threads + Wait + Sync, G: Gat
     requires own { network.now ≡ M.network }
     requires tables { tables.now ≡ M.network }
     ensures count { length result.items ≡ length crew.items }
-    ensures same { map access result.items ≡ map access crew.items }
+    ensures same { map reach result.items ≡ map reach crew.items }
 {
     let changed = Condvar::new();
     let shared = Shared {
@@ -213,7 +277,7 @@ fn work_each<M: Incumbent + Squad + Send + Sync, R: Threads + Wait + Sync, G: Ga
     requires network { shared.now.network.now ≡ M.network }
     requires tables { shared.now.tables.now ≡ M.network }
     ensures count { length crew.new ≡ length crew.old }
-    ensures same { map access crew.new ≡ map access crew.old }
+    ensures same { map reach crew.new ≡ map reach crew.old }
 {
     let threads = crew.len();
     if threads > 0 {
@@ -224,45 +288,65 @@ fn work_each<M: Incumbent + Squad + Send + Sync, R: Threads + Wait + Sync, G: Ga
             &|_: usize, worker: &mut Worker<M>|
                 requires network { shared.now.network.now ≡ M.network }
                 requires tables { shared.now.tables.now ≡ M.network }
-                ensures { access worker.exit.now ≡ access worker.entry.now }
+                ensures { reach worker.exit.now ≡ reach worker.entry.now }
             { worker.work(rt, alloc, shared) },
         );
     }
 }
 
 /// Ends the workers once their threads have ended: gives back what is left in their lanes, and joins their parts of the word
-/// into the pool's.
-fn disband<M: Incumbent>(low: &Low<M>, held: &mut Pool<M>, mut crew: Vec<Worker<M>>)
+/// into the pool's, which has then seen at most the threshold of each. `thresholds` is empty, with room for these.
+fn disband<M: Incumbent>(
+    low: &Low<M>,
+    held: &mut Pool<M>,
+    mut crew: Vec<Worker<M>>,
+    mut thresholds: Vec<Threshold>,
+) -> Vec<Threshold>
     requires search { IsSearch M.network (pool held.old) }
     requires shares { (pool held.old).view.shares + length crew.items ≡ all_shares }
-    requires all { AreAll (map access crew.items) }
+    requires all { AreAll (map reach crew.items) }
+    requires none { thresholds.items ≡ [] }
+    requires room { length crew.items ≤ vec_capacity thresholds }
     ensures search { IsSearch M.network (pool held.new) }
     ensures budget { (pool held.new).budget ≡ (pool held.old).budget }
     ensures shares { (pool held.new).view.shares ≡ all_shares }
+    ensures told { result.items ≡ reverse (map least_of crew.items) }
+    ensures most { All (λ k. k ≤ M.network.upper) result.items }
+    ensures least { All (λ k. (pool held.new).view.seen ≤ k) result.items }
 {
     while let Some(worker) = crew.pop() {
-        end(low, held, worker, crew.as_mut_slice());
+        let threshold = end(low, held, worker, crew.as_mut_slice());
+        thresholds.push_reserved(threshold);
     }
     crew.destroy_empty();
+    thresholds
 }
 
-/// Ends the last of some workers, whose ends are all of their lanes: the others' ends are all of theirs then.
+/// Ends the last of some workers, whose ends are all of their lanes: the others' ends are all of theirs then. It answers the
+/// least threshold at which that worker made a piece.
 fn end<M: Incumbent>(
     low: &Low<M>,
     held: &mut Pool<M>,
     mut worker: Worker<M>,
     others: &mut [Worker<M>],
-)
+) -> Threshold
     requires search { IsSearch M.network (pool held.old) }
     requires share { (pool held.old).view.shares + 1 ≤ all_shares }
-    requires all { AreAll (map access others.old ++ access worker ∷ []) }
+    requires all { AreAll (map reach others.old ++ reach worker ∷ []) }
     ensures search { IsSearch M.network (pool held.new) }
     ensures budget { (pool held.new).budget ≡ (pool held.old).budget }
     ensures share { (pool held.new).view.shares ≡ (pool held.old).view.shares + 1 }
-    ensures others { AreAll (map access others.new) }
+    ensures others { AreAll (map reach others.new) }
     ensures count { length others.new ≡ length others.old }
+    ensures leasts { map least_of others.new ≡ map least_of others.old }
+    ensures told { result ≡ worker.least }
+    ensures most { result ≤ M.network.upper }
+    ensures met { (pool held.new).view.seen ≤ result }
+    ensures falls { (pool held.new).view.seen ≤ (pool held.old).view.seen }
 {
     worker.gather(others);
     worker.give_left(held);
-    meet(low, held, worker.retire());
+    let (part, threshold) = worker.retire();
+    meet(low, held, part);
+    threshold
 }

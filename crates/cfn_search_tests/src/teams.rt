@@ -4,7 +4,7 @@ ghost use Rattle.std.specs.Prelude.{◌≤◌};
 
 use crate::networks::tri;
 use cfn_proof::Stop;
-use cfn_search::{Gate, OpenGate, Point, solve_together};
+use cfn_search::{Gate, OpenGate, Point, Threshold, solve_together};
 use std::alloc::{AllocError, AllocGlobal};
 use std::sync::Wait;
 use std::sync::atomic::{AtomicU64, Ordering};
@@ -106,7 +106,17 @@ impl Gate for Holding {
     }
 }
 
-/// The bound that some workers prove of `tri`, and whether they end with an optimum of that cost.
+/// The least of some thresholds.
+fn least_of(thresholds: &[Threshold]) -> u64 {
+    let mut least = u64::MAX;
+    for threshold in thresholds {
+        least = least.min(threshold.number());
+    }
+    least
+}
+
+/// The bound that some workers prove of `tri`, and whether they end with an optimum of that cost, which is the least threshold
+/// at which one of them made a piece.
 fn together<R: AllocGlobal + Threads + Wait + Sync, G: Gate + Sync>(
     rt: &R,
     workers: u32,
@@ -116,10 +126,15 @@ fn together<R: AllocGlobal + Threads + Wait + Sync, G: Gate + Sync>(
     requires few { workers ≤ 64 }
 {
     let network = tri(rt.alloc())?;
-    let outcome = solve_together(rt, rt.alloc(), &network, workers, 1_000_000, gate)?;
+    let found = solve_together(rt, rt.alloc(), &network, workers, 1_000_000, gate)?;
+    let outcome = &found.outcome;
     let lower = outcome.certificate.lower;
     let best = outcome.certificate.best.as_ref().map(|best| best.price());
-    Ok((lower, outcome.stop == Stop::Done && best == Some(lower)))
+    let least = least_of(&found.thresholds);
+    Ok((
+        lower,
+        outcome.stop == Stop::Done && best == Some(lower) && least == lower,
+    ))
 }
 
 /// Whether four workers prove the bound 1 of `tri` with an optimum of that cost, under a gate.
@@ -151,6 +166,12 @@ fn under_moving<R: AllocGlobal + Threads + Wait + Sync>(
     };
     let found = together(rt, 2, &gate)?;
     Ok((found, gate.missed.load(Ordering::SeqCst)))
+}
+
+#[test]
+fn single_worker_finds_the_optimum(rt: HostRuntime) -> Result<(), Fail> {
+    assert!(rt; together(&rt, 1, &OpenGate)? == (1, true));
+    Ok(())
 }
 
 #[test]

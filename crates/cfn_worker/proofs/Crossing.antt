@@ -16,6 +16,7 @@ use Rattle.cfn_task.specs.contracts.task.Task as Task
 use Rattle.cfn_rota.specs.contracts.ends.Ends as Ends
 use Rattle.cfn_rota.proofs.CallerLemmas.{ends_send}
 use Rattle.cfn_worker.specs.declared.board.Squad as squad
+use Rattle.cfn_worker.specs.contracts.account.Account as Account
 use Rattle.cfn_worker.specs.contracts.errands.Errand as Errand
 use Rattle.cfn_worker.specs.contracts.errands.Errands as Errands
 use Rattle.cfn_worker.specs.contracts.errands.ErrandKindTask.TheImpl as errand
@@ -49,8 +50,11 @@ module _ (M : RattleType) (g : word.Ghosts M.Denot) where
   errands_send : IsSend (Errands.the_row M g)
   errands_send = search (sendable, lanes_send) depth 40
 
+  account_send : IsSend (Account.the_row M g)
+  account_send = search (sendable, of_holder) depth 40
+
   inside_send : IsSend (Worker.TheInside.the_row M g)
-  inside_send = declared_send (Worker.TheInside.the_type M g) (as_row_send u32-field (search sendable), (as_row_send u64-field (search sendable), (as_row_send (Holder.the_field M g) of_holder, (as_row_send (Errands.the_field M g) errands_send, tt))))
+  inside_send = declared_send (Worker.TheInside.the_type M g) (as_row_send u32-field (search sendable), (as_row_send u64-field (search sendable), (as_row_send (Account.the_field M g) account_send, (as_row_send (Errands.the_field M g) errands_send, tt))))
 
   pub worker_send : IsSend (Worker.the_row M g)
   worker_send = view_send (Worker.TheInside.the_row M g) _ _ _ _ inside_send

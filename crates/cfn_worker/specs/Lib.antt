@@ -1,3 +1,4 @@
 pub mod Searching
 pub mod Granting
 pub mod Boards
+pub mod Accounts

@@ -8,11 +8,12 @@ ghost use Rattle.cfn_worker.specs.Searching.{IsSearch};
 ghost use Rattle.cfn_worker.specs.Granting.{IsLimit};
 ghost use Rattle.cfn_worker.specs.Boards.{IsBoard, IsOffered};
 
+use crate::account::Account;
 use crate::errands::Errands;
 use crate::grants::wanted;
 use crate::hand::{InHand, Made};
 use crate::steps::{Asked, hand_in, take};
-use cfn_low::{Holder, Incumbent, Low};
+use cfn_low::{Incumbent, Low};
 use cfn_net::Network;
 use cfn_pool::Pool;
 use std::marker::{Brand, Model};
@@ -157,19 +158,19 @@ impl<M: Incumbent + Squad> Board<M> {
         &mut self,
         network: &Network,
         low: &Low<M>,
-        part: &mut Holder<M>,
+        account: &mut Account<M>,
         made: Made,
         limit: u64,
     ) -> Option<u64>
         requires network { network.now ≡ M.network }
         requires own { made.network ≡ M.network }
-        requires seen { part.old.seen ≤ made.threshold }
+        requires least { account.old.least ≤ made.threshold }
         requires limit { IsLimit limit }
-        ensures part { part.new ≡ part.old }
+        ensures account { account.new ≡ account.old }
         ensures next { IfSome result IsLimit }
     {
         self.tell();
-        let next = hand_in(network, low, &mut self.held, part, made, limit);
+        let next = hand_in(network, low, &mut self.held, account, made, limit);
         self.stopped = self.stopped || next.is_none();
         if self.stopped { None } else { next }
     }

@@ -4,15 +4,16 @@
 //! its field. The ways out are those of this module: a task is laid in the worker's own lane, dived with or given back, and a
 //! piece is given to the pool.
 
-ghost use Rattle.std.specs.Prelude.{◌≡◌, [], ◌∷◌, ◌++◌, ◌<◌, ◌≤◌, length, IfOk, IfErr, IsTrue, IsFalse};
+ghost use Rattle.std.specs.Prelude.{◌≡◌, [], ◌∷◌, ◌++◌, ◌<◌, ◌≤◌, min, length, IfOk, IfErr, IsTrue, IsFalse};
 ghost use Rattle.cfn_dive.specs.Diving.{HasFallen};
 ghost use Rattle.cfn_pool.specs.Views.{pool};
 ghost use Rattle.cfn_task.specs.Values.{IsTaskOf};
 ghost use Rattle.cfn_worker.specs.Searching.{IsSearch, GoesOn, IsMadeOf, IsReturned, IsLeft};
 
+use crate::account::Account;
 use crate::errands::Errands;
-use cfn_dive::{Dived, Diver};
-use cfn_low::{Holder, Incumbent, Low};
+use cfn_dive::Diver;
+use cfn_low::{Incumbent, Low};
 use cfn_net::Network;
 use cfn_pool::{Handed, Pool};
 use cfn_task::{Piece, Task};
@@ -52,29 +53,32 @@ impl InHand {
         errands.push(task).map_err(InHand::of)
     }
 
-    /// Dives below its leaf, with at most `backtracks`, at least 1. An `Err`, want of memory, gives it back.
+    /// Dives below its leaf, with at most `backtracks`, at least 1, and lowers the account's least threshold to the piece's. An
+    /// `Err`, want of memory, gives it back.
     pub fn dive<M: Incumbent>(
         self,
         alloc: Global,
         network: &Network,
         diver: &mut Diver<'_>,
         low: &Low<M>,
-        part: &mut Holder<M>,
+        account: &mut Account<M>,
         backtracks: u64,
     ) -> Result<Made, InHand>
         requires network { network.now ≡ diver.old }
         requires task { self.network ≡ diver.old }
         requires word { M.network ≡ diver.old }
         requires some { 1 ≤ backtracks }
-        ensures falls { HasFallen M.network part.old part.new }
-        ensures made { IfOk result (IsMadeOf self backtracks part.new.seen) }
+        ensures falls { HasFallen M.network account.old.part account.new.part }
+        ensures made { IfOk result (IsMadeOf self backtracks account.new.part.seen) }
+        ensures least { IfOk result (λ made. account.new.least ≡ min account.old.least made.threshold) }
+        ensures same { IfErr result (λ given. account.new.least ≡ account.old.least) }
         ensures back { IfErr result (λ given. given ≡ self) }
         ensures diver { diver.new ≡ diver.old }
     {
         let InHand { task } = self;
-        match diver.dive(alloc, network, task, low, part, backtracks) {
-            Dived::Piece { piece, cut: _ } => Ok(Made { piece }),
-            Dived::Memory { task } => Err(InHand { task }),
+        match account.dive(alloc, network, diver, task, low, backtracks) {
+            Ok(piece) => Ok(Made { piece }),
+            Err(task) => Err(InHand { task }),
         }
     }
 
@@ -103,27 +107,27 @@ impl Model for Made {
 }
 
 impl Made {
-    /// Gives it to the pool, and answers whether it is in its leaf's place: then there are more nodes than before, and the pool
-    /// has seen no more than the threshold at which it was made. Where there is no memory for it, its leaf is free again, if
-    /// it was out to the task's worker.
+    /// Gives it to the pool with an account whose least threshold is at most its own, and answers whether it is in its leaf's
+    /// place: then there are more nodes than before, and the pool has seen no more than the threshold at which it was made.
+    /// Where there is no memory for it, its leaf is free again, if it was out to the task's worker.
     pub(crate) fn give<M: Incumbent>(
         self,
         low: &Low<M>,
         held: &mut Pool<M>,
-        part: &mut Holder<M>,
+        account: &mut Account<M>,
     ) -> bool
         requires own { self.network ≡ M.network }
-        requires seen { part.old.seen ≤ self.threshold }
+        requires least { account.old.least ≤ self.threshold }
         requires search { IsSearch M.network (pool held.old) }
         ensures goes { GoesOn M.network (pool held.old) (pool held.new) }
         ensures more { IsTrue result → (pool held.old).nodes < (pool held.new).nodes }
         ensures seen { IsTrue result → (pool held.new).view.seen ≤ self.threshold }
         ensures left { IsFalse result → IsLeft held.old self.task held.new }
-        ensures part { part.new ≡ part.old }
+        ensures account { account.new ≡ account.old }
     {
         let Made { piece } = self;
         piece.kept();
-        let note = low.note(part);
+        let note = account.note(low);
         match held.give(low, piece, note) {
             Handed::Done => true,
             Handed::Gone { .. } => false,

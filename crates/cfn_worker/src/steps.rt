@@ -5,9 +5,10 @@ ghost use Rattle.cfn_pool.specs.Views.{pool};
 ghost use Rattle.cfn_worker.specs.Searching.{IsSearch, GoesOn, HasMore, IsTaskFor, IsLeft};
 ghost use Rattle.cfn_worker.specs.Granting.{IsLimit};
 
+use crate::account::Account;
 use crate::grants::limit_after;
 use crate::hand::{InHand, Made};
-use cfn_low::{Holder, Incumbent, Low};
+use cfn_low::{Incumbent, Low};
 use cfn_net::Network;
 use cfn_pool::{Pool, Taken};
 
@@ -39,23 +40,24 @@ pub fn take<M: Incumbent>(network: &Network, held: &mut Pool<M>, worker: u32, wa
     }
 }
 
-/// Gives a dive's piece to the pool, notes the bounds, and closes what need not be searched any more. Where the piece is in its
-/// leaf's place, the pool has seen no more than the threshold at which it was made.
+/// Gives a dive's piece to the pool, with an account whose least threshold is at most the piece's, notes the bounds, and closes
+/// what need not be searched any more. Where the piece is in its leaf's place, the pool has seen no more than the threshold at
+/// which it was made.
 pub fn hand_in<M: Incumbent>(
     network: &Network,
     low: &Low<M>,
     held: &mut Pool<M>,
-    part: &mut Holder<M>,
+    account: &mut Account<M>,
     made: Made,
     limit: u64,
 ) -> Option<u64>
     requires network { network.now ≡ M.network }
     requires own { made.network ≡ M.network }
-    requires seen { part.old.seen ≤ made.threshold }
+    requires least { account.old.least ≤ made.threshold }
     requires search { IsSearch M.network (pool held.old) }
     requires limit { IsLimit limit }
     ensures goes { GoesOn M.network (pool held.old) (pool held.new) }
-    ensures part { part.new ≡ part.old }
+    ensures account { account.new ≡ account.old }
     ensures next { IfSome result IsLimit }
     ensures more { IfSome result (λ next. HasMore (pool held.old) (pool held.new)) }
     ensures seen { IfSome result (λ next. (pool held.new).view.seen ≤ made.threshold) }
@@ -63,7 +65,7 @@ pub fn hand_in<M: Incumbent>(
 {
     let before = held.seen();
     let leaves = held.open_leaves();
-    if !made.give(low, held, part) {
+    if !made.give(low, held, account) {
         return None;
     }
     note(network, held);

@@ -1,14 +1,16 @@
 //! One worker: it takes tasks from its lane, from those of others or from the pool, dives, and gives back what it made, until
 //! there is no leaf to take. Then it gives back what its lane holds.
 
-ghost use Rattle.std.specs.Prelude.{◌≡◌, [], ◌∷◌, ◌++◌, map, length, IfSome, MatchOption};
+ghost use Rattle.std.specs.Prelude.{◌≡◌, ◌≤◌, [], ◌∷◌, ◌++◌, map, length, IfSome, MatchOption};
 ghost use Rattle.cfn_rota.specs.Balances.{AreWhole, AreWithin};
-ghost use Rattle.cfn_rota.specs.Values.{AreAll, EndsWith, Meets, access, lanes_of};
+ghost use Rattle.cfn_rota.specs.Values.{AreAll, EndsWith, Meets, lanes_of};
 ghost use Rattle.cfn_pool.specs.Views.{pool};
 ghost use Rattle.cfn_task.specs.Values.{IsTaskOf};
+ghost use Rattle.cfn_worker.specs.Accounts.{least_of, reach};
 ghost use Rattle.cfn_worker.specs.Boards.{IsOffered};
 ghost use Rattle.cfn_worker.specs.Searching.{IsSearch, GoesOn};
 
+use crate::account::{Account, Threshold};
 use crate::board::{Board, Offer, Squad};
 use crate::errands::Errands;
 use crate::gate::{Gate, Point};
@@ -23,28 +25,27 @@ use std::alloc::Global;
 use std::marker::Model;
 use std::sync::{Condvar, Mutex, Wait};
 
-/// A worker: its number, how many backtracks its next dive may make, its part of the word, which has one share, and its ends
-/// of the lanes of tasks. Contracts see these ends.
+/// A worker: its number, how many backtracks its next dive may make, its account of the word, whose part has one share, and
+/// its ends of the lanes of tasks. Contracts see these ends, and the least threshold at which it made a piece.
 ///
 /// It is not `Drop`, so no worker can be let go but by `retire`, once nothing is left in its lane.
 pub struct Worker<M: Incumbent> {
     number: u32,
     limit: u64,
-    part: Holder<M>,
+    account: Account<M>,
     errands: Errands<M>,
 }
 
 impl<M: Incumbent> Model for Worker<M> {
     ghost use Rattle.std.specs.Prelude.{◌≡◌};
-    ghost use Rattle.cfn_rota.specs.Values.{EndsValue};
-    ghost use Rattle.cfn_task.specs.Values.{TaskValue};
+    ghost use Rattle.cfn_worker.specs.Accounts.{WorkerValue};
     ghost use Rattle.cfn_worker.specs.Granting.{IsLimit};
 
-    ghost Value = { EndsValue TaskValue };
+    ghost Value = { WorkerValue };
 
-    ghost view = { λ w. w.errands };
+    ghost view = { λ w. record { ends = w.errands; least = w.account.least } };
 
-    ghost invariant = { λ w. (w.part.shares ≡ 1) × IsLimit w.limit };
+    ghost invariant = { λ w. (w.account.part.shares ≡ 1) × IsLimit w.limit };
 }
 
 /// What all workers share.
@@ -64,22 +65,24 @@ impl<M: Incumbent> Worker<M> {
     /// A worker that has not dived.
     pub fn new(number: u32, part: Holder<M>, errands: Errands<M>) -> Worker<M>
         requires { part.shares ≡ 1 }
-        ensures { result ≡ errands }
+        ensures { result ≡ record { ends = errands; least = part.seen } }
     {
         Worker {
             number,
             limit: FEWEST_BACKTRACKS,
-            part,
+            account: Account::open(part),
             errands,
         }
     }
 
     /// Puts its own lane together with all thieves of it, and gives the workers before it back the thieves of theirs.
     pub fn gather(&mut self, others: &mut [Worker<M>])
-        requires all { AreAll (map access others.old ++ access self.old ∷ []) }
-        ensures whole { self.new.lane.parts ≡ 128 }
-        ensures others { AreAll (map access others.new) }
+        requires all { AreAll (map reach others.old ++ reach self.old ∷ []) }
+        ensures whole { self.new.ends.lane.parts ≡ 128 }
+        ensures others { AreAll (map reach others.new) }
         ensures count { length others.new ≡ length others.old }
+        ensures least { self.new.least ≡ self.old.least }
+        ensures leasts { map least_of others.new ≡ map least_of others.old }
     {
         self.errands.absorb_own();
         let mut left = others.len();
@@ -91,10 +94,12 @@ impl<M: Incumbent> Worker<M> {
 
     /// Two workers absorb each other's last thieves, which are of each other's lanes.
     fn exchange(&mut self, other: &mut Worker<M>)
-        requires mine { EndsWith (lanes_of self.old.thieves) other.old.lane.lane }
-        requires theirs { EndsWith (lanes_of other.old.thieves) self.old.lane.lane }
-        ensures meets { Meets (access self.old) (access self.new) other.old.lane.lane }
-        ensures other_meets { Meets (access other.old) (access other.new) self.old.lane.lane }
+        requires mine { EndsWith (lanes_of self.old.ends.thieves) other.old.ends.lane.lane }
+        requires theirs { EndsWith (lanes_of other.old.ends.thieves) self.old.ends.lane.lane }
+        ensures meets { Meets (reach self.old) (reach self.new) other.old.ends.lane.lane }
+        ensures other_meets { Meets (reach other.old) (reach other.new) self.old.ends.lane.lane }
+        ensures least { self.new.least ≡ self.old.least }
+        ensures other_least { other.new.least ≡ other.old.least }
     {
         self.errands.exchange(&mut other.errands);
     }
@@ -102,10 +107,11 @@ impl<M: Incumbent> Worker<M> {
     /// Gives back all that is left in its whole lane.
     pub fn give_left(&mut self, held: &mut Pool<M>)
         requires search { IsSearch M.network (pool held.old) }
-        requires whole { self.old.lane.parts ≡ 128 }
+        requires whole { self.old.ends.lane.parts ≡ 128 }
         ensures goes { GoesOn M.network (pool held.old) (pool held.new) }
-        ensures whole { self.new.lane.parts ≡ 128 }
-        ensures empty { AreWhole self.new.lane.pushed self.new.lane.taken [] }
+        ensures whole { self.new.ends.lane.parts ≡ 128 }
+        ensures empty { AreWhole self.new.ends.lane.pushed self.new.ends.lane.taken [] }
+        ensures least { self.new.least ≡ self.old.least }
     {
         while let Some(task) = self.take_left() {
             task.back(held);
@@ -115,25 +121,29 @@ impl<M: Incumbent> Worker<M> {
     /// Takes a task that is left in its lane.
     fn take_left(&mut self) -> Option<InHand>
         ensures { MatchOption result
-            ((self.new ≡ self.old) × (self.old.lane.parts ≡ 128 → AreWhole self.old.lane.pushed self.old.lane.taken []))
-            (λ task. (self.new ≡ record self.old { lane = record self.old.lane { taken = self.old.lane.taken ++ task ∷ [] } }) × (task.network ≡ M.network) × (self.old.lane.parts ≡ 128 → AreWithin self.new.lane.taken self.old.lane.pushed)) }
+            ((self.new ≡ self.old) × (self.old.ends.lane.parts ≡ 128 → AreWhole self.old.ends.lane.pushed self.old.ends.lane.taken []))
+            (λ task. (self.new ≡ record self.old { ends = record self.old.ends { lane = record self.old.ends.lane { taken = self.old.ends.lane.taken ++ task ∷ [] } } }) × (task.network ≡ M.network) × (self.old.ends.lane.parts ≡ 128 → AreWithin self.new.ends.lane.taken self.old.ends.lane.pushed)) }
     {
         self.errands.pop()
     }
 
-    /// Its part of the word, where its lane is whole and all that was pushed there was taken.
-    pub fn retire(self) -> Holder<M>
-        requires whole { self.lane.parts ≡ 128 }
-        requires empty { AreWhole self.lane.pushed self.lane.taken [] }
-        ensures { result.shares ≡ 1 }
+    /// Its part of the word, and the least threshold at which it made a piece, where its lane is whole and all that was pushed
+    /// there was taken.
+    pub fn retire(self) -> (Holder<M>, Threshold)
+        requires whole { self.ends.lane.parts ≡ 128 }
+        requires empty { AreWhole self.ends.lane.pushed self.ends.lane.taken [] }
+        ensures share { result.0.shares ≡ 1 }
+        ensures least { result.1 ≡ self.least }
+        ensures seen { result.0.seen ≤ result.1 }
+        ensures most { result.1 ≤ M.network.upper }
     {
         let Worker {
             number: _,
             limit: _,
-            part,
+            account,
             errands: _,
         } = self;
-        part
+        account.close()
     }
 }
 
@@ -143,7 +153,8 @@ impl<M: Incumbent + Squad> Worker<M> {
     pub fn work<R: Wait, G: Gate>(&mut self, rt: &R, alloc: Global, shared: &Shared<'_, M, G>)
         requires network { shared.now.network.now ≡ M.network }
         requires tables { shared.now.tables.now ≡ M.network }
-        ensures { access self.new ≡ access self.old }
+        ensures same { reach self.new ≡ reach self.old }
+        ensures falls { self.new.least ≤ self.old.least }
     {
         if let Ok(mut diver) = Diver::make(alloc, shared.network, shared.tables, Rule::Degrees) {
             self.dive_all(rt, alloc, shared, &mut diver);
@@ -165,7 +176,8 @@ impl<M: Incumbent + Squad> Worker<M> {
     )
         requires network { shared.now.network.now ≡ M.network }
         requires diver { diver.old ≡ M.network }
-        ensures { access self.new ≡ access self.old }
+        ensures same { reach self.new ≡ reach self.old }
+        ensures falls { self.new.least ≤ self.old.least }
     {
         for _ in rt.forever() {
             let Some(task) = self.ask(rt, shared) else {
@@ -182,7 +194,8 @@ impl<M: Incumbent + Squad> Worker<M> {
     fn ask<R: Wait, G: Gate>(&mut self, rt: &R, shared: &Shared<'_, M, G>) -> Option<InHand>
         requires { shared.now.network.now ≡ M.network }
         ensures task { IfSome result (IsTaskOf M.network) }
-        ensures same { access self.new ≡ access self.old }
+        ensures same { reach self.new ≡ reach self.old }
+        ensures least { self.new.least ≡ self.old.least }
     {
         for _ in rt.forever() {
             if let Some(task) = self.errands.find() {
@@ -211,9 +224,10 @@ impl<M: Incumbent + Squad> Worker<M> {
     fn ask_board<R: Wait, G: Gate>(&mut self, rt: &R, shared: &Shared<'_, M, G>) -> Offer
         requires { shared.now.network.now ≡ M.network }
         ensures offer { IsOffered M.network result }
-        ensures same { access self.new ≡ access self.old }
+        ensures same { reach self.new ≡ reach self.old }
+        ensures least { self.new.least ≡ self.old.least }
     {
-        let known = self.part.best().values().is_some();
+        let known = self.account.knows();
         shared.board.lock(rt).take(
             shared.network,
             self.number,
@@ -234,7 +248,8 @@ impl<M: Incumbent + Squad> Worker<M> {
 
     /// Gives back what its lane holds, for other workers.
     fn give_up<R: Wait, G: Gate>(&mut self, rt: &R, shared: &Shared<'_, M, G>)
-        ensures { access self.new ≡ access self.old }
+        ensures same { reach self.new ≡ reach self.old }
+        ensures least { self.new.least ≡ self.old.least }
     {
         for _ in rt.forever() {
             let Some(task) = self.errands.pop() else {
@@ -257,14 +272,15 @@ impl<M: Incumbent + Squad> Worker<M> {
         requires diver { diver.old ≡ M.network }
         requires task { IsTaskOf M.network task }
         ensures diver { diver.new ≡ diver.old }
-        ensures same { access self.new ≡ access self.old }
+        ensures same { reach self.new ≡ reach self.old }
+        ensures falls { self.new.least ≤ self.old.least }
     {
         let dived = task.dive(
             alloc,
             shared.network,
             diver,
             shared.low,
-            &mut self.part,
+            &mut self.account,
             self.limit,
         );
         shared.gate.pass(self.number, Point::BeforeGive);
@@ -272,7 +288,7 @@ impl<M: Incumbent + Squad> Worker<M> {
             Ok(made) => shared.board.lock(rt).give(
                 shared.network,
                 shared.low,
-                &mut self.part,
+                &mut self.account,
                 made,
                 self.limit,
             ),

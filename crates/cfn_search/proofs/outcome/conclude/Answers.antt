@@ -3,7 +3,7 @@ use Rattle.cfn_model.specs.Network.{Network, IsNetwork}
 use Rattle.cfn_model.specs.declared.report.Row.{Row}
 use Rattle.cfn_model.specs.Tree.{open_leaves}
 use Rattle.cfn_model.proofs.CallerLemmas.{bound_low}
-use Rattle.cfn_model.specs.Certificate.{Certificate}
+use Rattle.cfn_model.specs.Certificate.{Certificate, threshold_of}
 use Rattle.cfn_model.specs.declared.version.Version.TheVariants.{Second}
 use Rattle.cfn_proof.specs.Certificates.{solution_of}
 use Rattle.cfn_proof.specs.Nodes as nodes
@@ -29,8 +29,8 @@ invariant_of-result g c =
       best_is_held = c.below.ensures.held;
     }
 
-pub returns : goal.returns
-returns g c =
+pub returns-clause-outcome : goal.returns-clause-outcome
+returns-clause-outcome g c =
     let P = g.M.Incumbent.network in
     let held = pool c.args.held in
     let finished = c.finish-finished.result in
@@ -52,3 +52,11 @@ returns g c =
     (subst (λ (b : ℕ). IsStop c.stop_of-stop.result (open_leaves (tree_of held.tree)) held.nodes b) c.budget.ensures
     (subst (λ (n : ℕ). IsStop c.stop_of-stop.result (open_leaves (tree_of held.tree)) n c.budget.result) c.nodes.ensures
     (subst (λ (l : ℕ). IsStop c.stop_of-stop.result l c.nodes.result c.budget.result) c.open_leaves.ensures c.stop_of-stop.ensures))))))
+
+-- the threshold is what the pool has seen
+pub returns-clause-threshold : goal.returns-clause-threshold
+returns-clause-threshold g c =
+    let P = g.M.Incumbent.network in
+    let finished = c.finish-finished.result in
+    ap (λ (u : ℕ). threshold_of u (solution_of c.below.result)) (c.ub.ensures ∙ ap (λ (Q : Network). Q.upper) c.requires.own)
+    ∙ price_held P c.end-best.result.0 finished.holder (pool c.args.held).view c.below.result c.end-best.ensures.best c.finish-finished.ensures.view c.requires.last.seen c.below.ensures.priced c.below.ensures.price

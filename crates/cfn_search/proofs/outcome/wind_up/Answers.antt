@@ -1,4 +1,4 @@
-use Rattle.std.proofs.Common.{◌≡◌, ◌∙◌, sym, ap, subst, []}
+use Rattle.std.proofs.Common.{◌≡◌, ◌∙◌, sym, ap, subst, arith, []}
 use Rattle.cfn_machine.specs.Pool.{Pool, Out, IsLeaf}
 use Rattle.cfn_machine.proofs.CallerLemmas.{recalled_free, sweeps_all}
 use Rattle.cfn_pool.specs.Views.{pool}
@@ -19,3 +19,12 @@ returns-clause-last g c =
       below = sweeps_all P between new sweeps.word
           (λ n worker grant path at. recalled_free (pool c.args.held.now).tree n [] worker grant path (subst (λ (p : Pool). IsLeaf p.tree [] n (Out worker grant) path) c.recall.ensures at)) sweeps.sweeps;
     }
+
+pub returns-clause-falls : goal.returns-clause-falls
+returns-clause-falls g c =
+    let new = pool c.sweep.new.self in
+    let sweeps = c.sweep.ensures in
+    let seen : new.view.seen ≡ sweeps.word = ap (λ (p : Pool). p.view.seen) sweeps.sweeps in
+    let before = ap (λ (p : Pool). p.view.seen) c.recall.ensures in
+    let falls = sweeps.falls in
+    omega (arith, seen, falls, before)

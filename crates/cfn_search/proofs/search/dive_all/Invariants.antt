@@ -8,7 +8,8 @@ abbrev pub invariant-loop-next : goal.invariant-loop-next
 invariant-loop-next g l = record {
   goes : GoesOn g.M.Incumbent.network (pool l.fn.held) (pool l.held);
   within : (pool l.held).nodes ≤ (pool l.held).budget;
-  part : l.part.shares ≡ l.fn.part.shares;
+  shares : l.account.part.shares ≡ l.fn.account.part.shares;
+  falls : l.account.least ≤ l.fn.account.least;
   diver : l.diver ≡ l.fn.diver;
   limit : IsLimit l.limit;
 }

@@ -1,5 +1,6 @@
 use Rattle.std.proofs.Common.{◌≡◌, ◌+◌, ◌++◌, ◌≤◌, length, map, reverse, All, vec_capacity}
 use Rattle.cfn_rota.specs.Values.{access}
+use Rattle.cfn_worker.specs.Accounts.{reach}
 use Rattle.cfn_search.proofs.team.recruit.Given as goal
 
 -- the workers so far have the first ends, and each part that is left has one share
@@ -9,7 +10,7 @@ invariant-loop-part g l = record {
   ends : length l.ends.items ≡ length l.parts.items;
   room : length l.fn.parts.items ≤ vec_capacity l.crew;
   ones : All (λ part. part.shares ≡ 1) l.parts.items;
-  order : map access l.crew.items ++ reverse (map access l.ends.items) ≡ reverse (map access l.fn.ends.items);
+  order : map reach l.crew.items ++ reverse (map access l.ends.items) ≡ reverse (map access l.fn.ends.items);
 }
 
 abbrev pub decreases-loop-part : goal.decreases-loop-part

@@ -1,5 +1,5 @@
-use Rattle.std.proofs.Common.{◌≡◌}
-use Rattle.cfn_rota.specs.Values.{access}
+use Rattle.std.proofs.Common.{◌≡◌, ◌≤◌}
+use Rattle.cfn_worker.specs.Accounts.{reach}
 use Rattle.cfn_worker.proofs.worker.Worker.dive_all.Given as goal
 
 abbrev pub invariant-loop : goal.invariant-loop
@@ -7,5 +7,6 @@ invariant-loop g l = record {
   next : (goal.iterator-loop g).can_next l.iterator';
   finite : (goal.iterator-loop g).is_finite l.iterator';
   diver : l.diver ≡ l.fn.diver;
-  same : access l.self ≡ access l.fn.self;
+  same : reach l.self ≡ reach l.fn.self;
+  falls : l.self.least ≤ l.fn.self.least;
 }

@@ -6,9 +6,10 @@ use Rattle.cfn_worker.proofs.worker.Worker.give_left.Given as goal
 abbrev pub invariant-loop-task : goal.invariant-loop-task
 invariant-loop-task g l = record {
   goes : GoesOn g.M.Incumbent.network (pool l.fn.held) (pool l.held);
-  whole : l.self.lane.parts ≡ 128;
+  whole : l.self.ends.lane.parts ≡ 128;
+  least : l.self.least ≡ l.fn.self.least;
 }
 
 -- what was pushed and not yet taken
 abbrev pub decreases-loop-task : goal.decreases-loop-task
-decreases-loop-task g l = length l.self.lane.pushed - length l.self.lane.taken
+decreases-loop-task g l = length l.self.ends.lane.pushed - length l.self.ends.lane.taken

@@ -7,7 +7,8 @@ abbrev pub invariant-loop : goal.invariant-loop
 invariant-loop g l = record {
   next : (goal.iterator-loop g).can_next l.iterator';
   finite : (goal.iterator-loop g).is_finite l.iterator';
-  share : l.self-inside.part.shares ≡ 1;
+  share : l.self-inside.account.part.shares ≡ 1;
   limit : IsLimit l.self-inside.limit;
-  same : access l.self-inside.errands ≡ access l.fn.self;
+  same : access l.self-inside.errands ≡ access l.fn.self.ends;
+  least : l.self-inside.account.least ≡ l.fn.self.least;
 }
