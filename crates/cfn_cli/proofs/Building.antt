@@ -1,5 +1,6 @@
 -- What a chain of `Command::arg` and `Command::subcommand` builds.
 use Rattle.std.proofs.Common.{◌≡◌, ◌∙◌, ◌||◌, ap, ap₂, false, true}
+use Rattle.std.specs.Prelude.{Result, Ok, Err, IfOk, IsOkAnd}
 use Rattle.clap.specs.Words.{AddsArg, AddsSubcommand, App, Rule, app_of, rule_of, with_rule, with_subcommand}
 use Rattle.clap.specs.declared.builder.Arg.{Arg}
 use Rattle.clap.specs.declared.builder.Command.{Command}
@@ -31,3 +32,8 @@ command_added old sub new shape below adds built sub_built = record {
   app = adds.shape sub_built.local ∙ ap₂ with_subcommand built.app (ap (λ (a : App). a.top) sub_built.app);
   local = adds.globals ∙ ap₂ (λ x y. x || y) built.local sub_built.local;
 }
+
+pub under_added : {E : Type 0} (old new : Command) (below : Result Command E) (shape sub : App) → IsOkAnd below (λ s. AddsSubcommand old s new)
+    → Builds shape old → IfOk below (Builds sub) → Builds (with_subcommand shape sub.top) new
+under_added old new (Ok s) shape sub adds built is = command_added old s new shape sub adds built is
+under_added old new (Err e) shape sub adds built is = absurd adds

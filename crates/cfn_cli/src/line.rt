@@ -1,7 +1,7 @@
 //! The command line as clap sees it.
 
-ghost use Rattle.std.specs.Prelude.{◌≡◌, IfOk, false};
-ghost use Rattle.clap.specs.Words.{rule_of};
+ghost use Rattle.std.specs.Prelude.{◌≡◌, IfOk, IsOkAnd, false};
+ghost use Rattle.clap.specs.Words.{AddsSubcommand, rule_of};
 ghost use Rattle.cfn_cli.specs.Building.{Builds};
 ghost use Rattle.cfn_cli.specs.Line.{budget_rule, certificate_rule, check_app, command_line, cost_app, file_rule, migrate_app, normal_app, out_rule, seed_rule, size_rule, solve_app, trial_app, values_rule, wcnf_rule, workers_rule};
 
@@ -12,20 +12,23 @@ use std::alloc::{AllocError, Global};
 pub(crate) fn command_line<'a>(alloc: Global) -> Result<Command<'a>, AllocError>
     ensures { IfOk result (Builds command_line) }
 {
-    let solve = solve(alloc)?;
-    let check = check(alloc)?;
-    let cost = cost(alloc)?;
-    let normal = normal(alloc)?;
-    let trial = trial(alloc)?;
-    let migrate = migrate(alloc)?;
-    Command::new(alloc, "wcspsolve")
-        .subcommand_required(true)
-        .subcommand(solve)?
-        .subcommand(check)?
-        .subcommand(cost)?
-        .subcommand(normal)?
-        .subcommand(trial)?
-        .subcommand(migrate)
+    let line = Command::new(alloc, "wcspsolve").subcommand_required(true);
+    let line = under(line, solve(alloc))?;
+    let line = under(line, check(alloc))?;
+    let line = under(line, cost(alloc))?;
+    let line = under(line, normal(alloc))?;
+    let line = under(line, trial(alloc))?;
+    under(line, migrate(alloc))
+}
+
+/// A command with one more below it, where that was built.
+fn under<'a>(
+    line: Command<'a>,
+    below: Result<Command<'a>, AllocError>,
+) -> Result<Command<'a>, AllocError>
+    ensures { IfOk result (λ new. IsOkAnd below.entry (λ sub. AddsSubcommand line.entry sub new)) }
+{
+    line.subcommand(below?)
 }
 
 fn solve<'a>(alloc: Global) -> Result<Command<'a>, AllocError>

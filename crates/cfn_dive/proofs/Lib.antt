@@ -1,3 +1,4 @@
+mod Both
 pub mod Stacks
 pub mod Going
 pub mod Trees

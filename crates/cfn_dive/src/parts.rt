@@ -1,6 +1,6 @@
 //! What a diver is made of.
 
-ghost use Rattle.std.specs.Prelude.{◌≡◌, length, None, IfOk};
+ghost use Rattle.std.specs.Prelude.{◌≡◌, length, None, IfOk, IsOkAnd};
 ghost use Rattle.cfn_dive.specs.Diving.{IsOf};
 
 use cfn_branch::{Rule, Weights};
@@ -59,10 +59,13 @@ impl<'n> Parts<'n> {
         ensures of { IfOk result (IsOf network.now) }
         ensures rule { IfOk result (λ made. made.rule ≡ rule) }
     {
-        let store = Store::over(alloc, network, tables)?;
-        let (enforcer, trimmer) = helpers(alloc, network)?;
-        let (weights, incidence) = branching(alloc, network)?;
-        let (values, offer) = buffers(alloc, network)?;
+        let made = both(
+            Store::over(alloc, network, tables)?,
+            helpers(alloc, network),
+        )?;
+        let made = both(made, branching(alloc, network))?;
+        let made = both(made, buffers(alloc, network))?;
+        let (((store, (enforcer, trimmer)), (weights, incidence)), (values, offer)) = made;
         Ok(Parts {
             store,
             enforcer,
@@ -76,6 +79,14 @@ impl<'n> Parts<'n> {
             waiting: Vec::new(alloc),
         })
     }
+}
+
+/// Two values, where the second was made too. An `Err` is want of memory.
+fn both<A: Drop, B: Drop>(one: A, other: Result<B, AllocError>) -> Result<(A, B), AllocError>
+    ensures one { IfOk result (λ made. made.0 ≡ one) }
+    ensures other { IfOk result (λ made. IsOkAnd other (λ given. made.1 ≡ given)) }
+{
+    Ok((one, other?))
 }
 
 /// What enforces and what trims, for a network. An `Err` is want of memory.

@@ -134,16 +134,51 @@ fn has_open(tree: &Tree) -> bool {
     false
 }
 
+/// The dive from the root with so many backtracks, over a word of its own.
+fn dive_with(
+    alloc: Global,
+    network: &Network,
+    diver: &mut Diver<'_>,
+    backtracks: u64,
+) -> Result<Option<Made>, AllocError>
+    requires diver { diver.old ≡ network.now }
+    requires some { 1 ≤ backtracks }
+{
+    let unnamed = Unnamed::make(alloc, network)?;
+    let empty = Scored::empty(alloc, network)?;
+    dive::<Brand>(alloc, network, diver, unnamed, empty, backtracks)
+}
+
+/// The dive from the root over these tables.
+fn dive_over(
+    alloc: Global,
+    network: &Network,
+    tables: &Tables,
+    backtracks: u64,
+) -> Result<Option<Made>, AllocError>
+    requires tables { tables.now ≡ network.now }
+    requires some { 1 ≤ backtracks }
+{
+    let mut diver = Diver::make(alloc, network, tables, Rule::Degrees)?;
+    let made = dive_with(alloc, network, &mut diver, backtracks);
+    drop(diver);
+    made
+}
+
+/// The dive from the root of a network.
+fn dive_in(alloc: Global, network: &Network, backtracks: u64) -> Result<Option<Made>, AllocError>
+    requires { 1 ≤ backtracks }
+{
+    let tables = Tables::expand(alloc, network)?;
+    dive_over(alloc, network, &tables, backtracks)
+}
+
 /// A dive from the root of `tri` with so many backtracks.
 fn dive_in_tri(alloc: Global, backtracks: u64) -> Result<Option<Made>, AllocError>
     requires { 1 ≤ backtracks }
 {
     let network = tri(alloc)?;
-    let unnamed = Unnamed::make(alloc, &network)?;
-    let empty = Scored::empty(alloc, &network)?;
-    let tables = Tables::expand(alloc, &network)?;
-    let mut diver = Diver::make(alloc, &network, &tables, Rule::Degrees)?;
-    dive::<Brand>(alloc, &network, &mut diver, unnamed, empty, backtracks)
+    dive_in(alloc, &network, backtracks)
 }
 
 #[test]

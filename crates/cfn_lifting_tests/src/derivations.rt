@@ -59,8 +59,10 @@ fn derived_by(
     requires bans { bans.now.network ≡ network.now }
 {
     let mut deriver = Deriver::make(alloc, network)?;
-    let answer = derived_in(alloc, network, incidence, bans, &mut deriver)?;
-    Ok((answer, deriver.deletions().len()))
+    let answer = derived_in(alloc, network, incidence, bans, &mut deriver);
+    let deleted = deriver.deletions().len();
+    drop(deriver);
+    Ok((answer?, deleted))
 }
 
 /// The same with no bans.
@@ -72,7 +74,17 @@ fn derived_of(
     requires { incidence.now ≡ network.now }
 {
     let bans = Bans::make(alloc, network)?;
-    derived_by(alloc, network, incidence, &bans)
+    let answer = derived_by(alloc, network, incidence, &bans);
+    drop(bans);
+    answer
+}
+
+/// The same of a network alone.
+fn derived_alone(alloc: Global, network: &Network) -> Result<(Option<Derived>, usize), AllocError> {
+    let incidence = Incidence::build(alloc, network)?;
+    let answer = derived_of(alloc, network, &incidence);
+    drop(incidence);
+    answer
 }
 
 /// The value 1 of the first variable costs 2; its value 0 excludes the value 0 of the second and of the third by 1, and these two
@@ -80,9 +92,7 @@ fn derived_of(
 #[test]
 fn second_variable_is_emptied(rt: HostRuntime) -> Result<(), Fail> {
     let network = triangle(rt.alloc(), 2)?;
-    let incidence = Incidence::build(rt.alloc(), &network)?;
-    let (answer, deleted) = derived_of(rt.alloc(), &network, &incidence)?;
-    assert!(rt; answer == Some(Derived::Emptied(1)));
-    assert_eq!(rt; deleted, 4);
+    let answer = derived_alone(rt.alloc(), &network)?;
+    assert!(rt; answer == (Some(Derived::Emptied(1)), 4));
     Ok(())
 }

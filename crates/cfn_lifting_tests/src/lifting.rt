@@ -62,8 +62,10 @@ fn lifted_in(
     requires incidence { incidence.now ≡ network.now }
 {
     let mut store = Store::build(alloc, network)?;
-    let lifting = lift(root, &mut store, incidence)?;
-    Ok((lifting, store.floor()))
+    let lifting = lift(root, &mut store, incidence);
+    let floor = store.floor();
+    drop(store);
+    Ok((lifting?, floor))
 }
 
 /// The same by one that is made for it.
@@ -75,13 +77,17 @@ fn lifted_by(
     requires { incidence.now ≡ network.now }
 {
     let mut root = RootVac::make(alloc, network)?;
-    lifted_in(alloc, network, &mut root, incidence)
+    let answer = lifted_in(alloc, network, &mut root, incidence);
+    drop(root);
+    answer
 }
 
 /// The same of a network alone.
 fn lifted(alloc: Global, network: &Network) -> Result<(Option<Lifting>, u128), AllocError> {
     let incidence = Incidence::build(alloc, network)?;
-    lifted_by(alloc, network, &incidence)
+    let answer = lifted_by(alloc, network, &incidence);
+    drop(incidence);
+    answer
 }
 
 #[test]

@@ -1,4 +1,4 @@
-use Rattle.cfn_dive_tests.proofs.dives.dive_in_tri.Given as goal
+use Rattle.cfn_dive_tests.proofs.dives.dive_with.Given as goal
 
 abbrev pub ghosts-dive : goal.ghosts-dive
 ghosts-dive a = record { table = a.unnamed.table; network = a.unnamed.network }
