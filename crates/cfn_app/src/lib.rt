@@ -27,6 +27,3 @@ mod trying;
 pub use cfn_search::{Gate, OpenGate, Point};
 pub use program::run;
 pub use status::Status;
-
-#[cfg(test)]
-mod tests;

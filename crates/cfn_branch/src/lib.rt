@@ -19,6 +19,3 @@ pub use fewest::{HALVED_FROM, choose_fewest, middle, split_fewest};
 pub use naming::{Degrees, Fewest};
 pub use rule::Rule;
 pub use weights::{MOST_WEIGHT, Weights};
-
-#[cfg(test)]
-mod tests;

@@ -29,6 +29,3 @@ mod way;
 pub use giving::Handed;
 pub use leaves::Leaves;
 pub use taking::Taken;
-
-#[cfg(test)]
-mod tests;

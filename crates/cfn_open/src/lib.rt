@@ -7,6 +7,3 @@
 mod list;
 
 pub use list::{OpenLeaf, OpenList};
-
-#[cfg(test)]
-mod tests;

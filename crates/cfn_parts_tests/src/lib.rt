@@ -4,18 +4,28 @@
 //! - `trees` has blocks, paths and trees.
 //! - `waiting` has the queue, `table` rows of different lengths, and `values` the live values.
 //! - `nodes` has node consistency, and `leaves` the closing of a leaf.
+//! - `listing` has the open list, `handing` the leaves of a tree that are handed out, and `pooling` a pool over them; `halving`
+//!   splits a task's leaf for these.
 #![tactic(auto)]
 
 #[cfg(test)]
 mod draws;
 #[cfg(test)]
+mod halving;
+#[cfg(test)]
+mod handing;
+#[cfg(test)]
 mod leaves;
+#[cfg(test)]
+mod listing;
 #[cfg(test)]
 mod networks;
 #[cfg(test)]
 mod nodes;
 #[cfg(test)]
 mod places;
+#[cfg(test)]
+mod pooling;
 #[cfg(test)]
 mod table;
 #[cfg(test)]

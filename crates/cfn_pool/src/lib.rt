@@ -17,6 +17,3 @@ mod steps;
 pub use cfn_leaves::Taken;
 pub use pool::{Finished, Pool};
 pub use steps::Handed;
-
-#[cfg(test)]
-mod tests;

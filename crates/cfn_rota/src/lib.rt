@@ -19,6 +19,3 @@ pub use ends::{Ends, deal};
 pub use lane::Lane;
 pub use rule::{Kind, Tally};
 pub use thief::Thief;
-
-#[cfg(test)]
-mod tests;

@@ -174,3 +174,13 @@ fn disagreeing_values_are_split_for(rt: HostRuntime) -> Result<(), Fail> {
     assert!(rt; best_values(&rt)? == (1, 1, true));
     Ok(())
 }
+
+#[test]
+fn optimum_of_one_variable(rt: HostRuntime) -> Result<(), Fail> {
+    let said =
+        b"variables 1\nfunctions 1\nworkers 1\nrow 0 none\nrow 1 none\nrow 1 1\nlower 1\nupper 1\nvalues 1\nnodes 2\nresult optimum\n";
+    let certificate =
+        b"wcspcert 2\nnetwork 1 1 10\nlower 1\nbest 1\nvalues 1\ntree\np 0 0 0 3\np 0 0 1 1\nu 0 1\nsplit 0 1\nclosed\nclosed\nend\n";
+    assert!(rt; ends(&rt, &SOLVE, TINY, &[], (0, said, certificate))?);
+    Ok(())
+}

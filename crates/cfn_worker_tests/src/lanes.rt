@@ -4,6 +4,7 @@ ghost use Rattle.std.specs.Prelude.{◌≡◌, [], ◌∷◌, None, IfOk, IfSome
 ghost use Rattle.cfn_pool.specs.Views.{pool};
 ghost use Rattle.cfn_rota.specs.Values.{AreAll, access};
 ghost use Rattle.cfn_task.specs.Values.{IsTaskOf};
+ghost use Rattle.cfn_worker.specs.Accounts.{reach};
 ghost use Rattle.cfn_worker.specs.Boards.{IsBoard};
 ghost use Rattle.cfn_worker.specs.Searching.{IsSearch, GoesOn};
 
@@ -134,7 +135,7 @@ fn after_work<M: Incumbent + Squad, R: AllocGlobal + Wait>(
     requires tables { tables.now ≡ M.network }
     requires board { IsBoard M.network M.budget M.crew held }
     ensures board { IsBoard M.network M.budget M.crew result }
-    ensures same { access worker.new ≡ access worker.old }
+    ensures same { reach worker.new ≡ reach worker.old }
 {
     let board = Mutex::new(Board::new(held));
     let changed = Condvar::new();
@@ -153,14 +154,14 @@ fn after_work<M: Incumbent + Squad, R: AllocGlobal + Wait>(
 /// Lets a single worker go: what is left in its lane is given back.
 fn let_go<M: Incumbent>(alloc: Global, held: &mut Pool<M>, mut worker: Worker<M>)
     requires search { IsSearch M.network (pool held.old) }
-    requires all { AreAll (access worker ∷ []) }
+    requires all { AreAll (reach worker ∷ []) }
     ensures goes { GoesOn M.network (pool held.old) (pool held.new) }
 {
     let mut others = Vec::new(alloc);
     worker.gather(others.as_mut_slice());
     others.destroy_empty();
     worker.give_left(held);
-    let _part = worker.retire();
+    let _retired = worker.retire();
 }
 
 /// Whether the pool has a leaf after a worker has worked, before it is let go.
@@ -175,7 +176,7 @@ fn free_after_work<M: Incumbent + Squad, R: AllocGlobal + Wait>(
     requires network { network.now ≡ M.network }
     requires tables { tables.now ≡ M.network }
     requires board { IsBoard M.network M.budget M.crew held }
-    requires all { AreAll (access worker ∷ []) }
+    requires all { AreAll (reach worker ∷ []) }
 {
     let mut held = after_work(rt, network, tables, low, held, &mut worker);
     let free = is_free(network, &mut held);
@@ -192,7 +193,7 @@ fn free_without_work<M: Incumbent>(
 ) -> bool
     requires own { network.now ≡ M.network }
     requires search { IsSearch M.network (pool held) }
-    requires all { AreAll (access worker ∷ []) }
+    requires all { AreAll (reach worker ∷ []) }
 {
     let_go(alloc, &mut held, worker);
     is_free(network, &mut held)

@@ -1,6 +1,8 @@
+//! Tests of a lane of tasks that one worker pushes and another steals.
+
 ghost use Rattle.std.specs.Prelude.{◌≡◌, ◌<◌};
 
-use super::*;
+use cfn_rota::{Kind, Lane, Thief};
 use std::alloc::{AllocError, AllocGlobal, Global};
 use std::sync::Wait;
 use std::test::*;

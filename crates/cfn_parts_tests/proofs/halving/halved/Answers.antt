@@ -3,7 +3,7 @@ use Rattle.cfn_model.specs.declared.step.Decision.TheVariants.{Is}
 use Rattle.cfn_proof.specs.Nodes.{split_at, tree_of}
 use Rattle.cfn_model.specs.Paths.{Tame}
 use Rattle.cfn_leaves.proofs.CallerLemmas.{half_tame}
-use Rattle.cfn_pool.proofs.tests.halved.Goals as goal
+use Rattle.cfn_parts_tests.proofs.halving.halved.Goals as goal
 
 pub of-requires-clause-tame : goal.of-requires-clause-tame
 of-requires-clause-tame c =

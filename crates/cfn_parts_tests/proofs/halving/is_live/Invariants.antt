@@ -1,7 +1,7 @@
 use Rattle.std.proofs.Common.{take, reverse}
 use Rattle.std.specs.Prelude.{IsTrue}
 use Rattle.cfn_model.specs.Sums.{is_live}
-use Rattle.cfn_leaves.proofs.tests.is_live.Given as goal
+use Rattle.cfn_parts_tests.proofs.halving.is_live.Given as goal
 
 -- none of the events so far takes the value
 abbrev pub invariant-loop-event : goal.invariant-loop-event

@@ -1,0 +1,4 @@
+use Rattle.cfn_parts_tests.proofs.pooling.make_told.Given as goal
+
+abbrev pub ghosts-begin : goal.ghosts-begin
+ghosts-begin a = record { table = a.unnamed.table; network = a.unnamed.network }
