@@ -1,16 +1,18 @@
 //! What is done to a store where a function or all variables are looked at.
 
-ghost use Rattle.std.specs.Prelude.{◌≡◌, ◌<◌, true, length};
+ghost use Rattle.std.specs.Prelude.{◌≡◌, ℕ, ◌+◌, ◌<◌, true, length};
 ghost use Rattle.cfn_model.specs.Network.{arity};
+ghost use Rattle.cfn_model.specs.Sums.{floor};
 ghost use Rattle.cfn_consistency.specs.Openness.{TakesPart};
 ghost use Rattle.cfn_consistency.specs.Consistency.{IsNodeConsistent, IsArcConsistent};
 ghost use Rattle.cfn_store.specs.Standing.{history};
 ghost use Rattle.cfn_gain.specs.Calls.{GoesOn, Does, Shows};
 ghost use Rattle.cfn_gain.specs.Gains.{Gains};
+ghost use Rattle.cfn_gain.specs.Levels.{IsLevel};
 ghost use Rattle.cfn_rest.specs.Siding.{HasSupports, AreSupported};
 
 use cfn_dac::takes_part;
-use cfn_gain::{Halt, Limits, level, support_all, support_at};
+use cfn_gain::{Halt, Limits, lacking, level, support_all, support_at};
 use cfn_rest::Sides;
 use cfn_store::Store;
 
@@ -24,9 +26,40 @@ pub(crate) fn levels(store: &mut Store<'_>, limits: Limits) -> Result<(), Halt>
     let network = store.network();
     network.limits();
     for x in 0..network.variables() {
-        level(store, limits, x)?;
+        level_at(store, limits, x)?;
     }
     Ok(())
+}
+
+/// Makes a variable level. Most are, which one walk over the live values shows.
+fn level_at(store: &mut Store<'_>, limits: Limits, x: u32) -> Result<(), Halt>
+    requires goes { GoesOn store.old limits }
+    requires variable { x < length store.old.network.sizes }
+    ensures does { Does store.old store.new limits result }
+    ensures gains { Gains store.old store.new limits result }
+    ensures level { Shows store.old store.new result (IsLevel store.old.network (history store.old) limits.threshold x) }
+{
+    if is_level(store, x, lacking(store, limits)) {
+        return Ok(());
+    }
+    level(store, limits, x)
+}
+
+/// Whether each live value of a variable costs less than the floor lacks, and one of them nothing.
+fn is_level(store: &Store<'_>, x: u32, lacks: u64) -> bool
+    requires { x < length store.now.network.sizes }
+    ensures { (k : ℕ) → floor store.now.network (history store.now) + lacks ≡ k → result ≡ true → IsLevel store.now.network (history store.now) k x }
+{
+    let costs = store.unaries(x);
+    let mut has_free = false;
+    for value in store.live(x) {
+        let cost = costs.of(*value);
+        if cost >= lacks {
+            return false;
+        }
+        has_free = has_free || cost == 0;
+    }
+    has_free
 }
 
 /// Makes a function arc consistent, where it takes part, and where that made steps its variables level. Of a function of two

@@ -5,14 +5,14 @@ use Rattle.cfn_gain.proofs.CallerLemmas.{halts_after, passing_start, gained_none
 use Rattle.cfn_edac.proofs.Passing.{LevelAt, none_yet, pass_more, all_level}
 use Rattle.cfn_edac.proofs.looks.levels.Goals as goal
 
-pub returns-in_err-level-clause-does : goal.returns-in_err-level-clause-does
-returns-in_err-level-clause-does c =
-    halts_after c.args.store.now c.loop-x.store c.level.new.store c.args.limits _ c.in_err-level.field-0.0 c.from_residual.result c.loop-x.invariant.passing c.in_err-level.ensures.does c.from_residual.ensures.1
+pub returns-in_err-level_at-clause-does : goal.returns-in_err-level_at-clause-does
+returns-in_err-level_at-clause-does c =
+    halts_after c.args.store.now c.loop-x.store c.level_at.new.store c.args.limits _ c.in_err-level_at.field-0.0 c.from_residual.result c.loop-x.invariant.passing c.in_err-level_at.ensures.does c.from_residual.ensures.1
 
 pub loop-x-preserved : goal.loop-x-preserved
 loop-x-preserved c = record {
-  passing = pass_more (LevelAt c.args.limits.threshold) c.args.store.now c.loop-x.store c.level.new.store c.args.limits c.loop-x.x c.loop-x.invariant.passing c.in_ok-level.ensures.does c.in_ok-level.ensures.level;
-  gained = leads_then c.args.store.now c.loop-x.store c.level.new.store IsBegun c.loop-x.invariant.gained c.in_ok-level.ensures.gains;
+  passing = pass_more (LevelAt c.args.limits.threshold) c.args.store.now c.loop-x.store c.level_at.new.store c.args.limits c.loop-x.x c.loop-x.invariant.passing c.in_ok-level_at.ensures.does c.in_ok-level_at.ensures.level;
+  gained = leads_then c.args.store.now c.loop-x.store c.level_at.new.store IsBegun c.loop-x.invariant.gained c.in_ok-level_at.ensures.gains;
 }
 
 pub returns-clause-nodes : goal.returns-clause-nodes
@@ -26,6 +26,6 @@ loop-x-init c = record {
   gained = gained_none c.args.store.now;
 }
 
-pub returns-in_err-level-clause-gains : goal.returns-in_err-level-clause-gains
-returns-in_err-level-clause-gains c =
-    gains_halts c.args.store.now c.loop-x.store c.level.new.store c.args.limits c.in_err-level.field-0.0 c.from_residual.result c.loop-x.invariant.gained c.in_err-level.ensures.gains c.from_residual.ensures.1
+pub returns-in_err-level_at-clause-gains : goal.returns-in_err-level_at-clause-gains
+returns-in_err-level_at-clause-gains c =
+    gains_halts c.args.store.now c.loop-x.store c.level_at.new.store c.args.limits c.in_err-level_at.field-0.0 c.from_residual.result c.loop-x.invariant.gained c.in_err-level_at.ensures.gains c.from_residual.ensures.1
