@@ -1,4 +1,4 @@
+pub mod Leveled
 pub mod Passing
 pub mod Settling
 pub mod Meeting
-pub mod Leveled

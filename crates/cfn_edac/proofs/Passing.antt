@@ -1,6 +1,6 @@
 -- What calls show, one variable after another.
 use Rattle.std.proofs.Common.{◌≡◌, ℕ, ◌+◌, ◌<◌, ◌≤◌, inl, inr, List, ◌++◌, take, drop, length, sym, ◌∙◌, subst, arith}
-use Rattle.std.proofs.lemmas.Bool.{cases_eq}
+use Rattle.std.proofs.lemmas.Bool.{cases_eq, cases_lt}
 use Rattle.std.proofs.lemmas.List.{length-append, length-drop, length-take-le}
 use Rattle.std.specs.Prelude.{Result, Ok, Err, OnOk, is_err, false}
 use Rattle.cfn_model.specs.declared.step.Event.{Event}
@@ -11,7 +11,10 @@ use Rattle.cfn_gain.specs.declared.limits.Limits.{Limits}
 use Rattle.cfn_gain.specs.declared.limits.Halt.{Halt}
 use Rattle.cfn_gain.specs.Calls.{Does, Passing, IsUnchanged}
 use Rattle.cfn_gain.specs.Levels.{IsLevel}
-use Rattle.cfn_gain.proofs.CallerLemmas.{passing_adds}
+use Rattle.cfn_model.specs.Sums.{floor}
+use Rattle.cfn_store.specs.Peaks.{AreLow}
+use Rattle.cfn_gain.proofs.CallerLemmas.{passing_adds, unchanged}
+use Rattle.cfn_edac.proofs.Leveled.{level_by}
 
 -- a fact of each number below n
 abbrev pub EachTo : (ℕ → Type 0) → ℕ → Type 0
@@ -41,12 +44,27 @@ pass_on before now next limits p does = passing_adds before now next limits _ _ 
 
 -- The facts of the passes.
 abbrev pub LevelAt : ℕ → Network → List Event → ℕ → Type 0
-LevelAt k P history x = IsLevel P history k x
+LevelAt k P history x = x < length P.sizes → IsLevel P history k x
 
 pub all_level : (P : Network) (history : List Event) (k n : ℕ) → length P.sizes ≤ n → EachTo (LevelAt k P history) n → IsNodeConsistent P history k
 all_level P history k n h each = record {
-  below = λ x a value live. (let there = value.variable in (each x (omega (arith, h, there))).below a value live);
-  free = λ x there. (each x (omega (arith, h, there))).free;
+  below = λ x a value live. (let there = value.variable in (each x (omega (arith, h, there)) there).below a value live);
+  free = λ x there. (each x (omega (arith, h, there)) there).free;
+}
+
+-- variables that are known to be level are passed
+low_level : (P : Network) (history : List Event) (k lacks from to : ℕ) → floor P history + lacks ≡ k → AreLow P history from to lacks → EachTo (LevelAt k P history) from → EachTo (LevelAt k P history) to
+low_level P history k lacks from to sum low each x l there = elim (cases_lt x from) [
+  | inl before ↦ each x before there
+  | inr behind ↦ (let p = low x behind l there in level_by P history x p.0 lacks k sum p.1 p.2)
+]
+
+pub pass_low : (before now : Standing) (limits : Limits) (from to lacks : ℕ) → floor now.network (history now) + lacks ≡ limits.threshold → AreLow now.network (history now) from to lacks → PassingTo (LevelAt limits.threshold) before now limits from → PassingTo (LevelAt limits.threshold) before now limits to
+pass_low before now limits from to lacks sum low p = record {
+  goes = p.goes;
+  adds = p.adds;
+  fact = λ same. (let is = unchanged before now limits p.adds same in
+      low_level before.network (history before) limits.threshold lacks from to (subst (λ (t : Standing). floor t.network (history t) + lacks ≡ limits.threshold) is sum) (subst (λ (t : Standing). AreLow t.network (history t) from to lacks) is low) (p.fact same));
 }
 
 -- a result that is no error

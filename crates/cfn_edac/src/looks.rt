@@ -1,10 +1,10 @@
 //! What is done to a store where a function or all variables are looked at.
 
-ghost use Rattle.std.specs.Prelude.{◌≡◌, ℕ, ◌+◌, ◌<◌, true, length};
+ghost use Rattle.std.specs.Prelude.{◌≡◌, ◌<◌, true, length, IfSome};
 ghost use Rattle.cfn_model.specs.Network.{arity};
-ghost use Rattle.cfn_model.specs.Sums.{floor};
 ghost use Rattle.cfn_consistency.specs.Openness.{TakesPart};
 ghost use Rattle.cfn_consistency.specs.Consistency.{IsNodeConsistent, IsArcConsistent};
+ghost use Rattle.cfn_store.specs.Peaks.{HasPeak};
 ghost use Rattle.cfn_store.specs.Standing.{history};
 ghost use Rattle.cfn_gain.specs.Calls.{GoesOn, Does, Shows};
 ghost use Rattle.cfn_gain.specs.Gains.{Gains};
@@ -16,7 +16,7 @@ use cfn_gain::{Halt, Limits, lacking, level, support_all, support_at};
 use cfn_rest::Sides;
 use cfn_store::Store;
 
-/// Makes each variable level.
+/// Makes each variable level: those that are not known to be.
 pub(crate) fn levels(store: &mut Store<'_>, limits: Limits) -> Result<(), Halt>
     requires goes { GoesOn store.old limits }
     ensures does { Does store.old store.new limits result }
@@ -25,13 +25,15 @@ pub(crate) fn levels(store: &mut Store<'_>, limits: Limits) -> Result<(), Halt>
 {
     let network = store.network();
     network.limits();
-    for x in 0..network.variables() {
+    let mut x = store.next_unknown_peak(0, lacking(store, limits));
+    while x < network.variables() {
         level_at(store, limits, x)?;
+        x = store.next_unknown_peak(x + 1, lacking(store, limits));
     }
     Ok(())
 }
 
-/// Makes a variable level. Most are, which one walk over the live values shows.
+/// Makes a variable level. Most are, which one walk over the live values shows; the store then remembers it.
 fn level_at(store: &mut Store<'_>, limits: Limits, x: u32) -> Result<(), Halt>
     requires goes { GoesOn store.old limits }
     requires variable { x < length store.old.network.sizes }
@@ -39,27 +41,29 @@ fn level_at(store: &mut Store<'_>, limits: Limits, x: u32) -> Result<(), Halt>
     ensures gains { Gains store.old store.new limits result }
     ensures level { Shows store.old store.new result (IsLevel store.old.network (history store.old) limits.threshold x) }
 {
-    if is_level(store, x, lacking(store, limits)) {
-        return Ok(());
+    if let Some(peak) = peak_of(store, x) {
+        store.note_peak(x, peak);
+        if peak < lacking(store, limits) {
+            return Ok(());
+        }
     }
     level(store, limits, x)
 }
 
-/// Whether each live value of a variable costs less than the floor lacks, and one of them nothing.
-fn is_level(store: &Store<'_>, x: u32, lacks: u64) -> bool
+/// What the dearest live value of a variable costs, where one of them costs nothing.
+fn peak_of(store: &Store<'_>, x: u32) -> Option<u64>
     requires { x < length store.now.network.sizes }
-    ensures { (k : ℕ) → floor store.now.network (history store.now) + lacks ≡ k → result ≡ true → IsLevel store.now.network (history store.now) k x }
+    ensures { IfSome result (HasPeak store.now.network (history store.now) x) }
 {
     let costs = store.unaries(x);
     let mut has_free = false;
+    let mut peak = 0;
     for value in store.live(x) {
         let cost = costs.of(*value);
-        if cost >= lacks {
-            return false;
-        }
         has_free = has_free || cost == 0;
+        peak = peak.max(cost);
     }
-    has_free
+    if has_free { Some(peak) } else { None }
 }
 
 /// Makes a function arc consistent, where it takes part, and where that made steps its variables level. Of a function of two

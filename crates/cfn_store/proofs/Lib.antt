@@ -8,6 +8,8 @@ pub mod Along
 pub mod Roots
 pub mod Scans
 pub mod Lanes
+pub mod Peaking
+pub mod Entering
 pub mod States
 pub mod Stores
 pub mod Readings

@@ -1,5 +1,5 @@
 -- What a store stands for, from the events that it keeps.
-use Rattle.std.proofs.Common.{◌≡◌, ◌⊎◌, inl, inr, ℕ, zero, suc, ◌+◌, ◌-◌, ◌<◌, ◌≤◌, List, [], ◌∷◌, ◌++◌, length, get_or, reverse, take, drop, refl, sym, ap, subst, ◌∙◌, arith, take_all, get_or-drop}
+use Rattle.std.proofs.Common.{◌≡◌, ◌⊎◌, inl, inr, ℕ, zero, suc, ◌+◌, ◌-◌, ◌<◌, ◌≤◌, List, [], ◌∷◌, ◌++◌, length, set, get_or, reverse, take, drop, refl, sym, ap, subst, ◌∙◌, arith, take_all, get_or-drop}
 use Rattle.std.proofs.lemmas.List.{reverse-append, take-append-drop, take-append-le, drop-append-le, length-append, length-drop, drop_all}
 use Rattle.std.specs.List.{AllByRecursion}
 use Rattle.std.specs.Prelude.{slice_index, if◌then◌else◌}
@@ -15,10 +15,13 @@ use Rattle.cfn_model.specs.Sums.{is_live}
 use Rattle.cfn_live.specs.Sets.{Sets, AreLive, live_below, live_count}
 use Rattle.cfn_store.specs.declared.state.State.{State}
 use Rattle.cfn_store.specs.Events.{steps_in, AllSteps}
-use Rattle.cfn_store.specs.Exact.{IsExact, IsExactAlong}
+use Rattle.cfn_store.specs.Exact.{IsExact, IsExactAlong, LiftsFit}
 use Rattle.cfn_store.specs.Standing.{Standing, history, with_step, with_side, FitsProject, FitsExtend, FitsLift}
-use Rattle.cfn_store.specs.State.{IsState, HasRoom, history_of}
+use Rattle.cfn_store.specs.Peaks.{HasPeak, ArePeaks}
+use Rattle.cfn_store.specs.State.{Keeps, IsState, HasRoom, history_of}
 use Rattle.cfn_store.specs.Kept.{IsStore}
+use Rattle.cfn_store.proofs.Entering.{same_kept}
+use Rattle.cfn_store.proofs.Peaking.{peaks_noted}
 use Rattle.cfn_store.proofs.Along.{live_by_removals, after_steps, steps_more, all_more, exact_here}
 use Rattle.cfn_store.proofs.Debts.{small_project, small_extend, small_lift, small_still, debts_project, debts_extend, debts_lift, debts_still}
 
@@ -240,3 +243,31 @@ at_end P most count s state room l e =
       steps = subst AllSteps (sym none) (tt {0});
       spelled = subst (λ events. AllByRecursion IsSpelledStep (steps_in events)) (sym none) (tt {0});
     }
+
+-- a peak that is noted changes nothing that contracts see
+pub peak_kept : (P : Network) (begin most x peak : ℕ) (old new : State) → IsStore P begin most old → new.sums ≡ old.sums → new.live ≡ old.live → new.cuts ≡ old.cuts → new.trail ≡ old.trail → new.peaks.items ≡ set old.peaks.items x peak
+    → HasPeak P (history_of old) x peak → HasRoom most new → IsStore P begin most new
+peak_kept P begin most x peak old new is sums live cuts trail peaks has room =
+    let h : history_of old ≡ history_of new = sym (ap (λ t. reverse t.items) trail) in
+    record {
+      state = record {
+        keeps = subst (λ l. Keeps P l new) h (same_kept P (history_of old) old new sums live cuts is.state.keeps);
+        exact = subst (IsExactAlong P) h is.state.exact;
+        lifts = subst LiftsFit h is.state.lifts;
+        peaks = subst (λ l. ArePeaks P l new.peaks.items) h (subst (ArePeaks P (history_of old)) (sym peaks) (peaks_noted P (history_of old) old.peaks.items x peak is.state.peaks has));
+      };
+      room = room;
+      within = subst (λ t. length t.items ≤ most) (sym trail) is.within;
+      base = subst (λ t. begin ≤ length t.items) (sym trail) is.base;
+      steps = subst (λ t. AllSteps (drop begin t.items)) (sym trail) is.steps;
+      spelled = subst (λ t. AllByRecursion IsSpelledStep (steps_in (drop begin t.items))) (sym trail) is.spelled;
+    }
+
+-- the peaks of a state are those of what the store stands for
+pub peaks_there : (P : Network) (begin most : ℕ) (s : State) (v : Standing) → IsStore P begin most s → view_of P begin most s ≡ v → ArePeaks v.network (history v) s.peaks.items
+peaks_there P begin most s v is view =
+    subst (λ (w : Standing). ArePeaks w.network (history w) s.peaks.items) view (subst (λ h. ArePeaks P h s.peaks.items) (sym (history_is P begin most s is.steps)) is.state.peaks)
+
+pub peak_in : (P : Network) (begin most x peak : ℕ) (s : State) (v : Standing) → IsStore P begin most s → view_of P begin most s ≡ v → HasPeak v.network (history v) x peak → HasPeak P (history_of s) x peak
+peak_in P begin most x peak s v is view has =
+    subst (λ h. HasPeak P h x peak) (history_is P begin most s is.steps) (subst (λ (w : Standing). HasPeak w.network (history w) x peak) (sym view) has)

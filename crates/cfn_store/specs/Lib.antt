@@ -17,3 +17,4 @@ pub mod Doubts
 pub mod State
 pub mod Kept
 pub mod Nearest
+pub mod Peaks

@@ -7,6 +7,7 @@ use Rattle.cfn_store.specs.Events.{removals}
 use Rattle.cfn_store.specs.Exact.{IsExactAlong, LiftsFit}
 use Rattle.cfn_store.specs.Sums.{IsSums}
 use Rattle.cfn_store.specs.Cutting.{IsCuts}
+use Rattle.cfn_store.specs.Peaks.{ArePeaks}
 
 -- Sums, live values and cuts are those of a history.
 pub record Keeps (P : Network) (history : List Event) (s : State) : Type 0 where
@@ -19,11 +20,12 @@ pub record Keeps (P : Network) (history : List Event) (s : State) : Type 0 where
 abbrev pub history_of : State → List Event
 history_of s = reverse s.trail.items
 
--- A state keeps what its events make of the network, and costs are exact along them.
+-- A state keeps what its events make of the network, and costs are exact along them. The peaks that it remembers are so there.
 pub record IsState (P : Network) (s : State) : Type 0 where
   pub keeps : Keeps P (history_of s) s
   pub exact : IsExactAlong P (history_of s)
   pub lifts : LiftsFit (history_of s)
+  pub peaks : ArePeaks P (history_of s) s.peaks.items
 
 -- There is room for so many events in all.
 pub record HasRoom (room : ℕ) (s : State) : Type 0 where

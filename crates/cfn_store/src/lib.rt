@@ -11,13 +11,14 @@
 //! store's own or shared with other stores (`shelf.rt`).
 //!
 //! Inside, `State` keeps the events and undoes each as it was made: `Sums` has the costs (`sums.rt`), `Cuts` which tuples
-//! are cut, and `cfn_live` which values are live. `scan.rt` is the only loop over tables; `block.rt` packs the newest steps.
+//! are cut, and `cfn_live` which values are live; `peaks.rt` has the greatest unary costs. `scan.rt` is the only loop over tables; `block.rt` packs the newest steps.
 #![tactic(auto)]
 
 mod block;
 mod cuts;
 mod line;
 mod mark;
+mod peaks;
 mod scan;
 mod shelf;
 mod state;

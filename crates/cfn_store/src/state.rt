@@ -16,6 +16,7 @@ ghost use Rattle.cfn_store.specs.State.{Keeps, IsState, HasRoom, history_of};
 
 use crate::cuts::Cuts;
 use crate::line::Side;
+use crate::peaks::{UNKNOWN, forget_changed};
 use crate::scan::{Extreme, Pin, Scan, Sense, Spot};
 use crate::shelf::Shelf;
 use crate::sums::Sums;
@@ -32,6 +33,8 @@ pub(crate) struct State {
     pub(crate) sums: Sums,
     pub(crate) live: LiveSets,
     pub(crate) cuts: Cuts,
+    /// The greatest unary cost of each variable's live values, or that it is not known.
+    pub(crate) peaks: Vec<u64>,
     /// The events, the oldest first.
     pub(crate) trail: Vec<Event>,
 }
@@ -47,6 +50,7 @@ impl State {
             sums: Sums::at_root(alloc, network)?,
             live: LiveSets::make(alloc, network.sizes())?,
             cuts: Cuts::at_root(alloc, network)?,
+            peaks: vec![in alloc; UNKNOWN; network.variables() as usize]?,
             trail: Vec::new(alloc),
         })
     }
@@ -165,6 +169,7 @@ impl State {
     {
         known(event);
         self.change(network, event);
+        forget_changed(&mut self.peaks, network, event);
         self.trail.push_reserved(event);
     }
 
@@ -178,6 +183,7 @@ impl State {
     {
         if let Some(event) = self.trail.pop() {
             self.change_back(network, event);
+            forget_changed(&mut self.peaks, network, event);
         }
     }
 
@@ -218,6 +224,7 @@ impl State {
         requires room { (room : ℕ) × HasRoom room self.old × (length self.old.trail.items < room) }
         ensures keeps { Keeps network.now (event ∷ history_of self.old) self.new }
         ensures trail { self.new.trail ≡ self.old.trail }
+        ensures peaks { self.new.peaks ≡ self.old.peaks }
         ensures room { (room : ℕ) → HasRoom room self.old → HasRoom room self.new }
     {
         match event {
@@ -233,6 +240,7 @@ impl State {
         requires keeps { (history : List PathEvent) × Keeps network.now (event ∷ history) self.old }
         ensures keeps { (history : List PathEvent) → Keeps network.now (event ∷ history) self.old → Keeps network.now history self.new }
         ensures trail { self.new.trail ≡ self.old.trail }
+        ensures peaks { self.new.peaks ≡ self.old.peaks }
         ensures room { (room : ℕ) → HasRoom room self.old → HasRoom room self.new }
     {
         match event {
@@ -248,6 +256,7 @@ impl State {
         requires room { (room : ℕ) × HasRoom room self.old × (length self.old.trail.items < room) }
         ensures keeps { Keeps network.now (Did step ∷ history_of self.old) self.new }
         ensures trail { self.new.trail ≡ self.old.trail }
+        ensures peaks { self.new.peaks ≡ self.old.peaks }
         ensures room { (room : ℕ) → HasRoom room self.old → HasRoom room self.new }
     {
         network.limits();
@@ -276,6 +285,7 @@ impl State {
         requires keeps { (history : List PathEvent) × Keeps network.now (Did step ∷ history) self.old }
         ensures keeps { (history : List PathEvent) → Keeps network.now (Did step ∷ history) self.old → Keeps network.now history self.new }
         ensures trail { self.new.trail ≡ self.old.trail }
+        ensures peaks { self.new.peaks ≡ self.old.peaks }
         ensures room { (room : ℕ) → HasRoom room self.old → HasRoom room self.new }
     {
         match step {

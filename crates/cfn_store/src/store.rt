@@ -17,6 +17,7 @@ ghost use Rattle.cfn_store.specs.Extremes.{NonePicked, IsExtreme, NoneBetween, I
 ghost use Rattle.cfn_store.specs.Lines.{IsLine, IsSide};
 ghost use Rattle.cfn_store.specs.Doubts.{AreFreeBetween, AreFreeFrom, IsDoubt, IsLacking, IsSeen};
 ghost use Rattle.cfn_store.specs.Unaries.{AreUnaries};
+ghost use Rattle.cfn_store.specs.Peaks.{HasPeak, AreLow};
 ghost use Rattle.cfn_store.specs.Shelf.{on_shelf};
 ghost use Rattle.cfn_store.specs.Rooms.{sets_of, IsProjectRoom, IsExtendRoom, IsLiftRoom, IsAbove, IsToExtend};
 ghost use Rattle.cfn_store.specs.Marking.{IsMark, IsBehind, back_at};
@@ -271,6 +272,31 @@ impl<'n> Store<'n> {
         ensures { result ≡ is_live (history self.now) x value }
     {
         self.state.live.is_live(x, value)
+    }
+
+    /// The first variable from `from` on of which it is not known that one of its live values costs nothing, and each less than
+    /// `bound`; where all others are known to be so, the number of variables, or `from` where that is greater.
+    pub fn next_unknown_peak(&self, from: u32, bound: u64) -> u32
+        ensures from { from ≤ result }
+        ensures known { AreLow self.now.network (history self.now) from result bound }
+    {
+        self.network.limits();
+        let peaks = &self.state.peaks;
+        let mut x = from;
+        while (x as usize) < peaks.len() && peaks[x as usize] < bound {
+            x += 1;
+        }
+        x
+    }
+
+    /// Remembers that one of the live values of a variable costs nothing, and none more than `peak`, until an event changes one of its
+    /// costs or values. No contract but that of `next_unknown_peak` tells of it.
+    pub fn note_peak(&mut self, x: u32, peak: u64)
+        requires variable { x < length self.old.network.sizes }
+        requires peak { HasPeak self.old.network (history self.old) x peak }
+        ensures { self.new ≡ self.old }
+    {
+        self.state.peaks[x as usize] = peak;
     }
 
     /// How many values of a variable are live.
