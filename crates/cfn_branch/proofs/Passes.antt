@@ -1,12 +1,12 @@
 -- The pass over the variables.
-use Rattle.std.proofs.Common.{◌≡◌, ℕ, ◌+◌, ◌≤◌, inl, inr, List, Option, Some, None, refl, sym, ap, ◌∙◌, subst, arith}
+use Rattle.std.proofs.Common.{◌≡◌, ℕ, ◌+◌, ◌*◌, ◌<◌, ◌≤◌, inl, inr, List, Option, Some, None, refl, sym, ap, ◌∙◌, subst, arith}
 use Rattle.std.proofs.lemmas.Bool.{cases_eq}
 use Rattle.std.specs.Prelude.{length, MatchOption}
 use Rattle.cfn_store.specs.Standing.{Standing}
 use Rattle.cfn_branch.specs.declared.choosing.Score.{Score}
 use Rattle.cfn_branch.specs.declared.choosing.Candidate.{Candidate}
-use Rattle.cfn_branch.specs.Choosing.{choices, IsOpen, HasScore, IsBetter, ComesBefore, IsChosen}
-use Rattle.cfn_branch.specs.Passing.{IsFirstOf, NoneYet, BestYet}
+use Rattle.cfn_branch.specs.Choosing.{choices, IsOpen, degree, HasScore, IsBetter, ComesBefore, IsChosen}
+use Rattle.cfn_branch.specs.Passing.{IsFirstOf, IsFirstOfOpen, NoneYet, BestYet}
 use Rattle.cfn_branch.proofs.Ordering.{before_better, not_before_itself}
 use Rattle.cfn_branch.proofs.Scores.{one_score, has_degree}
 
@@ -86,6 +86,32 @@ module _ (s : Standing) (weights : List ℕ) (n : ℕ) where
   pub pass_open : (best : Option Candidate) (p : Score) (result : Candidate) → IsOpen s n → HasScore s weights n p → IsFirstOf best (record { variable = n; score = p }) result → MatchOption best (NoneYet s n) (BestYet s weights n) → BestYet s weights (n + 1) result
   pass_open None p result undecided has first yet = subst (BestYet s weights (n + 1)) (sym first) (best_begins p yet undecided has)
   pass_open (Some best) p result undecided has first yet = best_next best (record { variable = n; score = p }) result refl undecided has first yet
+
+-- a ratio that is greater is not better
+greater_ratio : (s : Standing) (weights : List ℕ) (x : ℕ) (best p : Score) → HasScore s weights x p → best.count * degree s weights x < choices s x * best.degree → IsBetter p best → ⊥
+greater_ratio s weights x best p has greater (inl less) = omega (arith, greater, less, ap (λ n. n * best.degree) has.count, ap (λ n. best.count * n) has.degree)
+greater_ratio s weights x best p has greater (inr tie) = (let same = tie.0 in omega (arith, greater, same, ap (λ n. n * best.degree) has.count, ap (λ n. best.count * n) has.degree))
+
+module _ (s : Standing) (weights : List ℕ) (n : ℕ) where
+  passed_by : (best : Candidate) → best.score.count * degree s weights n < choices s n * best.score.degree → BestYet s weights n best → BestYet s weights (n + 1) best
+  passed_by best greater yet = record {
+    below = (let h = yet.below in omega (arith, h));
+    undecided = yet.undecided;
+    is = yet.is;
+    first = λ y other h is_open its before. elim (cases_eq y n) [
+      | inl same ↦
+          (elim before [
+            | inl is_better ↦ greater_ratio s weights n best.score other (subst (λ z. HasScore s weights z other) same its) greater is_better
+            | inr tie ↦ (let less = tie.2 in let below = yet.below in omega (arith, less, below, same))
+          ])
+      | inr differs ↦ yet.first y other (omega (arith, h, differs)) is_open its before
+    ];
+  }
+
+  pub pass_first : (best : Option Candidate) (result : Candidate) → IsOpen s n → IsFirstOfOpen s weights best n result → MatchOption best (NoneYet s n) (BestYet s weights n) → BestYet s weights (n + 1) result
+  pass_first best result undecided (inl asked) yet = pass_open s weights n best asked.0 result undecided asked.1 asked.2 yet
+  pass_first best result undecided (inr passed) yet =
+      subst (BestYet s weights (n + 1)) (sym passed.2) (passed_by passed.0 passed.3 (subst (λ b. MatchOption b (NoneYet s n) (BestYet s weights n)) passed.1 yet))
 
 pub chosen : (s : Standing) (weights : List ℕ) (n : ℕ) (best : Candidate) → length s.network.sizes ≤ n → BestYet s weights n best → IsChosen s weights best.variable
 chosen s weights n best all yet = record {

@@ -1,14 +1,20 @@
 -- What holds within a pass over the variables.
-use Rattle.std.specs.Prelude.{◌≡◌, ℕ, ◌<◌, ◌≤◌, ◌⊎◌, List, Option, Some, None}
+use Rattle.std.specs.Prelude.{◌≡◌, ℕ, ◌*◌, ◌<◌, ◌≤◌, ◌⊎◌, List, Option, Some, None}
 use Rattle.cfn_store.specs.Standing.{Standing}
 use Rattle.cfn_branch.specs.declared.choosing.Score.{Score}
 use Rattle.cfn_branch.specs.declared.choosing.Candidate.{Candidate}
-use Rattle.cfn_branch.specs.Choosing.{choices, IsOpen, HasScore, IsBetter, ComesBefore}
+use Rattle.cfn_branch.specs.Choosing.{choices, IsOpen, degree, HasScore, IsBetter, ComesBefore}
 
 -- The first of the best so far and a variable behind it.
 abbrev pub IsFirstOf : Option Candidate → Candidate → Candidate → Type 0
 IsFirstOf None next result = result ≡ next
 IsFirstOf (Some best) next result = (IsBetter next.score best.score × (result ≡ next)) ⊎ ((IsBetter next.score best.score → ⊥) × (result ≡ best))
+
+-- The same, where the variable is open: its score was asked for, or its ratio alone is greater than the best's.
+abbrev pub IsFirstOfOpen : Standing → List ℕ → Option Candidate → ℕ → Candidate → Type 0
+IsFirstOfOpen s weights best x result =
+    ((p : Score) × HasScore s weights x p × IsFirstOf best (record { variable = x; score = p }) result)
+    ⊎ ((old : Candidate) × (best ≡ Some old) × (result ≡ old) × (old.score.count * degree s weights x < choices s x * old.score.degree))
 
 -- None of the variables below n is open.
 pub record NoneYet (s : Standing) (n : ℕ) : Type 0 where

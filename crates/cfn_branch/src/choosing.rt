@@ -9,8 +9,8 @@ ghost use Rattle.std.specs.Prelude.{◌≡◌, ◌*◌, ◌<◌, ◌≤◌, true
 ghost use Rattle.cfn_consistency.specs.Openness.{open_count};
 ghost use Rattle.cfn_incidence.specs.Places.{StandsAt};
 ghost use Rattle.cfn_store.specs.Standing.{history};
-ghost use Rattle.cfn_branch.specs.Choosing.{choices, AllDecided, IsOpen, IsCheapest, IsSecondLeast, degree, HasScore, IsBetter, IsChosen};
-ghost use Rattle.cfn_branch.specs.Passing.{IsFirstOf};
+ghost use Rattle.cfn_branch.specs.Choosing.{choices, AllDecided, IsOpen, IsCheapest, IsSecondLeast, degree, IsBetter, IsChosen};
+ghost use Rattle.cfn_branch.specs.Passing.{IsFirstOf, IsFirstOfOpen};
 
 use crate::weights::Weights;
 use cfn_incidence::{Incidence, Place};
@@ -63,13 +63,41 @@ pub fn choose(weights: &Weights, incidence: &Incidence, store: &Store<'_>) -> Op
     let mut best: Option<Candidate> = None;
     for x in 0..store.network().variables() {
         if store.count(x) >= 2 {
-            let score = score_of(weights, incidence, store, x);
-            best = Some(first_of(best, Candidate { variable: x, score }));
+            best = Some(first_of_open(best, weights, incidence, store, x));
         }
     }
     match best {
         Some(candidate) => Some(candidate.variable),
         None => None,
+    }
+}
+
+/// The first of the best so far, where there is one, and an open variable behind it. Where that one's ratio is greater, its
+/// second-least unary cost is not asked for.
+fn first_of_open(
+    best: Option<Candidate>,
+    weights: &Weights,
+    incidence: &Incidence,
+    store: &Store<'_>,
+    x: u32,
+) -> Candidate
+    requires incidence { incidence.now ≡ store.now.network }
+    requires weights { length weights.now ≡ length store.now.network.functions }
+    requires variable { IsOpen store.now x }
+    ensures { IsFirstOfOpen store.now weights.now best x result }
+{
+    let count = store.count(x);
+    let degree = weighted_degree(weights, incidence, store, x);
+    match best {
+        Some(best) if product(best.score.count, degree) < product(count, best.score.degree) => best,
+        _ => {
+            let score = Score {
+                count,
+                degree,
+                second: second_least(store, x),
+            };
+            first_of(best, Candidate { variable: x, score })
+        }
     }
 }
 
@@ -80,20 +108,6 @@ fn first_of(best: Option<Candidate>, next: Candidate) -> Candidate
     match best {
         Some(best) if !next.score.is_better(&best.score) => best,
         _ => next,
-    }
-}
-
-/// The score of an open variable.
-fn score_of(weights: &Weights, incidence: &Incidence, store: &Store<'_>, x: u32) -> Score
-    requires incidence { incidence.now ≡ store.now.network }
-    requires weights { length weights.now ≡ length store.now.network.functions }
-    requires variable { IsOpen store.now x }
-    ensures { HasScore store.now weights.now x result }
-{
-    Score {
-        count: store.count(x),
-        degree: weighted_degree(weights, incidence, store, x),
-        second: second_least(store, x),
     }
 }
 

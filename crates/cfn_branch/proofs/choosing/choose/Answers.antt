@@ -2,7 +2,7 @@ use Rattle.std.proofs.Common.{◌+◌, length, ap, sym, subst, arith}
 use Rattle.std.specs.Prelude.{MatchOption}
 use Rattle.cfn_model.specs.Network.{Network}
 use Rattle.cfn_branch.specs.Passing.{NoneYet, BestYet}
-use Rattle.cfn_branch.proofs.Passes.{pass_on, pass_open, chosen}
+use Rattle.cfn_branch.proofs.Passes.{pass_on, pass_first, chosen}
 use Rattle.cfn_branch.proofs.choosing.choose.Goals.{then-count-ge2, else-count-ge2}
 use Rattle.cfn_branch.proofs.choosing.choose.Goals as goal
 
@@ -12,7 +12,7 @@ loop-x-preserved c =
     let all = ap (λ (Q : Network). length Q.sizes) c.network-2.ensures in
     elim c.if-count-ge2.branch [
       | then-count-ge2 w ↦ subst (λ best. MatchOption best (NoneYet s (x + 1)) (BestYet s weights (x + 1))) (sym w.best-is)
-          (pass_open s weights x c.loop-x.best w.score_of-score.result w.first_of.result (record { there = omega (arith, c.loop-x-test.true, c.variables-x-end.ensures, all); undecided = omega (arith, c.count.ensures, w.if-count-ge2.true) }) w.score_of-score.ensures w.first_of.ensures c.loop-x.invariant)
+          (pass_first s weights x c.loop-x.best w.first_of_open.result (record { there = omega (arith, c.loop-x-test.true, c.variables-x-end.ensures, all); undecided = omega (arith, c.count.ensures, w.if-count-ge2.true) }) w.first_of_open.ensures c.loop-x.invariant)
       | else-count-ge2 w ↦ subst (λ best. MatchOption best (NoneYet s (x + 1)) (BestYet s weights (x + 1))) (sym w.best-is)
           (pass_on s weights x c.loop-x.best (omega (arith, c.count.ensures, w.if-count-ge2.false)) c.loop-x.invariant)
     ]
