@@ -32,8 +32,10 @@ use cfn_store::Store;
 use std::alloc::{AllocError, Global};
 use std::marker::Model;
 
-/// How many plans one after another may be blocked at one amount.
-const MOST_BLOCKS: u32 = 32;
+/// How many plans one after another may be blocked at one amount, in any network and at most.
+const FEWEST_BLOCKS: u32 = 32;
+
+const MOST_BLOCKS: u32 = 1_024;
 
 /// After how many deletions at one amount no further lift is tried, so that a large root ends in seconds.
 const MOST_DELETIONS: u64 = 2_097_152;
@@ -198,9 +200,10 @@ impl<'n> RootVac<'n> {
         ensures ready { IsReady self.old.network store.new limits }
         ensures watch { IsWatched self.old.network (history store.new) self.new.watch q }
     {
+        let most = most_blocks(self.network);
         let mut blocks = 0;
         let mut work: u64 = 0;
-        while blocks < MOST_BLOCKS
+        while blocks < most
             && work < MOST_DELETIONS
             && store.floor() < u128::from(limits.threshold)
         {
@@ -314,4 +317,12 @@ fn derive(
     let derived = deriver.derive(store, incidence, q, bans);
     store.undo(&mark);
     derived
+}
+
+/// How many plans one after another may be blocked at one amount: one for each eight variables, since where more of them are
+/// blocked more may be left that is not.
+fn most_blocks(network: &Network) -> u32
+    ensures { result ≤ 1024 }
+{
+    MOST_BLOCKS.min(FEWEST_BLOCKS.max(network.variables() / 8))
 }

@@ -15,4 +15,4 @@ invariant-loop-blocks l = record {
 }
 
 abbrev pub decreases-loop-blocks : goal.decreases-loop-blocks
-decreases-loop-blocks l = (l.limits.threshold - floor l.fn.self.network (history l.store)) * 33 + (32 - l.blocks)
+decreases-loop-blocks l = (l.limits.threshold - floor l.fn.self.network (history l.store)) * 1025 + (1024 - l.blocks)
