@@ -61,7 +61,7 @@ impl<'n> Parts<'n> {
         holder.kept();
         Ok(Grown {
             cut: growth.left == 0,
-            tree: growth.tree,
+            tree: shared(alloc, growth.tree)?,
         })
     }
 
@@ -90,7 +90,7 @@ impl<'n> Parts<'n> {
         };
         Ok(Growth {
             base: Snapshot::of(task.path()),
-            at_root: task.path().events().is_empty(),
+            at_root: task.path().is_empty(),
             tree,
             current: Some(root),
             threshold,
@@ -99,6 +99,15 @@ impl<'n> Parts<'n> {
             left: backtracks,
         })
     }
+}
+
+/// A tree with its blocks in one buffer. An `Err` is want of memory.
+fn shared(alloc: Global, tree: Tree) -> Result<Tree, AllocError>
+    ensures { IfOk result (λ shared. shared ≡ tree) }
+{
+    let mut tree = tree;
+    tree.share(alloc)?;
+    Ok(tree)
 }
 
 /// A tree that is one closed leaf with an empty block. An `Err` is want of memory.

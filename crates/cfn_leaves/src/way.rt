@@ -1,12 +1,11 @@
 //! Ways between the root and a node, by the parents that nodes know.
 
-ghost use Rattle.std.specs.Prelude.{◌≡◌, ◌<◌, [], ◌∷◌, length, reverse, IfOk, if◌then◌else◌};
+ghost use Rattle.std.specs.Prelude.{◌≡◌, ◌<◌, [], length, reverse, IfOk, if◌then◌else◌};
 ghost use Rattle.cfn_proof.specs.Nodes.{node_at, IsLinked};
-ghost use Rattle.cfn_model.specs.declared.step.Event.TheVariants.{Took, Refused};
-ghost use Rattle.cfn_model.specs.Steps.{after};
+ghost use Rattle.cfn_proof.specs.declared.path.Side.TheVariants.{Holds, Fails};
 ghost use Rattle.cfn_leaves.specs.Ways.{EndsAbove, Goes, IsPathOf, IsSide};
 
-use cfn_proof::{Block, Decision, End, Event, NodeId, Path, Tree};
+use cfn_proof::{Decision, End, NodeId, Path, Side, Tree};
 use std::alloc::{AllocError, Global};
 
 /// The path of a node: the steps and decisions from the root to its end. An `Err` is want of memory.
@@ -17,7 +16,7 @@ pub(crate) fn path_to(alloc: Global, tree: &Tree, node: NodeId) -> Result<Path, 
     let mut way = way_to(alloc, tree, node)?;
     let mut path = Path::new(alloc);
     while let Some(id) = way.pop() {
-        path = enter(tree, path, id)?;
+        path = enter(alloc, tree, path, id)?;
     }
     Ok(path)
 }
@@ -38,32 +37,25 @@ fn way_to(alloc: Global, tree: &Tree, node: NodeId) -> Result<Vec<NodeId>, Alloc
     Ok(way)
 }
 
-/// The path of a node, from that of its parent. An `Err` is want of memory.
-fn enter(tree: &Tree, path: Path, id: NodeId) -> Result<Path, AllocError>
+/// The path of a node, from that of its parent. No step is copied where the node shares its block. An `Err` is want of memory.
+fn enter(alloc: Global, tree: &Tree, path: Path, id: NodeId) -> Result<Path, AllocError>
     requires there { id.number < length tree.now }
     requires above { EndsAbove tree.now id.number path }
     ensures { IfOk result (IsPathOf tree.now id.number) }
 {
-    let mut path = path;
-    if let Some(event) = side(tree, id) {
-        path.push(event)?;
+    let block = &tree.node(id).block;
+    match side(tree, id) {
+        Some(side) => {
+            let mut longer = path;
+            longer.enter(side, block)?;
+            Ok(longer)
+        }
+        None => Path::at_root(alloc, block),
     }
-    go_on(path, &tree.node(id).block)
-}
-
-/// The path on by a block. An `Err` is want of memory.
-fn go_on(path: Path, block: &Block) -> Result<Path, AllocError>
-    ensures { IfOk result (λ longer. longer ≡ after block.now path) }
-{
-    let mut longer = path;
-    for step in block.cursor() {
-        longer.push(Event::Did(step))?;
-    }
-    Ok(longer)
 }
 
 /// The side of its parent's split that a node is. There is none at the root alone. It takes no memory.
-pub(crate) fn side(tree: &Tree, id: NodeId) -> Option<Event>
+pub(crate) fn side(tree: &Tree, id: NodeId) -> Option<Side>
     requires { id.number < length tree.now }
     ensures { IsSide tree.now id.number result }
 {
@@ -80,12 +72,12 @@ pub(crate) fn side(tree: &Tree, id: NodeId) -> Option<Event>
 }
 
 /// A side of a split.
-fn side_of(decision: Decision, is_first: bool) -> Event
-    ensures { result ≡ (if is_first then Took decision else Refused decision) }
+fn side_of(decision: Decision, is_first: bool) -> Side
+    ensures { result ≡ (if is_first then Holds decision else Fails decision) }
 {
     if is_first {
-        Event::Took(decision)
+        Side::Holds(decision)
     } else {
-        Event::Refused(decision)
+        Side::Fails(decision)
     }
 }

@@ -44,9 +44,8 @@ fn removes(event: Event, x: u32, a: u32) -> bool
 fn is_live(path: &Path, x: u32, a: u32) -> bool
     ensures { IsTrue result → IsTrue (is_live path.now x a) }
 {
-    let events = path.events();
-    for event in events {
-        if removes(*event, x, a) {
+    for event in path.events() {
+        if removes(event, x, a) {
             return false;
         }
     }

@@ -1,11 +1,18 @@
 //! Tests of blocks, paths and trees.
 
-use cfn_proof::{Block, Decision, End, Event, NodeId, Path, Step, Tree};
+ghost use Rattle.std.specs.Prelude.{◌<◌, length};
+
+use cfn_proof::{Block, Decision, End, Event, NodeId, Path, Side, Step, Tree};
 use std::test::*;
 
 const LIFT: Step = Step::Lift {
     variable: 0,
     amount: 1,
+};
+
+const CUT: Step = Step::CutValue {
+    variable: 1,
+    value: 0,
 };
 
 #[test]
@@ -34,11 +41,61 @@ fn blocks_and_paths(rt: HostRuntime) -> Result<(), Fail> {
     let mut steps = copy.cursor();
     assert_eq!(rt; steps.next(), Some(LIFT));
     assert_eq!(rt; steps.next(), None);
-    let mut path = Path::new(rt.alloc());
-    path.push(Event::Did(LIFT))?;
+    let path = Path::at_root(rt.alloc(), &block)?;
     let same = path.copy(rt.alloc())?;
-    assert_eq!(rt; same.events().len(), 1);
+    assert_eq!(rt; same.len(), Some(1));
     Ok(())
+}
+
+#[test]
+fn a_path_with_an_empty_block(rt: HostRuntime) -> Result<(), Fail> {
+    let decision = Decision::Is {
+        variable: 1,
+        value: 0,
+    };
+    let none = Block::new(rt.alloc());
+    let mut path = Path::new(rt.alloc());
+    assert!(rt; path.is_empty());
+    path.enter(Side::Holds(decision), &none)?;
+    path.enter(Side::Fails(decision), &Block::of(rt.alloc(), &[LIFT])?)?;
+    let mut events = path.events();
+    assert_eq!(rt; events.next(), Some(Event::Took(decision)));
+    assert_eq!(rt; events.next(), Some(Event::Refused(decision)));
+    assert_eq!(rt; events.next(), Some(Event::Did(LIFT)));
+    assert_eq!(rt; events.next(), None);
+    assert_eq!(rt; path.len(), Some(3));
+    assert!(rt; path.way_up().above(Side::Fails(decision), &none).is_none());
+    Ok(())
+}
+
+#[test]
+fn blocks_of_a_tree_are_shared(rt: HostRuntime) -> Result<(), Fail> {
+    let decision = Decision::Is {
+        variable: 1,
+        value: 0,
+    };
+    let mut tree = Tree::new(rt.alloc())?;
+    let children = tree.split_behind(Tree::ROOT, Block::of(rt.alloc(), &[LIFT, LIFT])?, decision)?;
+    tree.close(children.1, Block::of(rt.alloc(), &[CUT])?);
+    tree.share(rt.alloc())?;
+    let copy = tree.copy(rt.alloc())?;
+    drop(tree);
+    assert_eq!(rt; steps_at(&copy, Tree::ROOT), (Some(LIFT), Some(LIFT)));
+    assert_eq!(rt; steps_at(&copy, children.0), (None, None));
+    assert_eq!(rt; steps_at(&copy, children.1), (Some(CUT), None));
+    let mut own = copy.node(children.1).block.copy(rt.alloc())?;
+    own.push(LIFT)?;
+    assert!(rt; own.is_same(&Block::of(rt.alloc(), &[CUT, LIFT])?));
+    Ok(())
+}
+
+/// The first two steps of a node's block.
+fn steps_at(tree: &Tree, id: NodeId) -> (Option<Step>, Option<Step>)
+    requires { id.number < length tree.now }
+{
+    let mut steps = tree.node(id).block.cursor();
+    let first = steps.next();
+    (first, steps.next())
 }
 
 #[test]
@@ -95,16 +152,12 @@ fn a_piece_is_grafted(rt: HostRuntime) -> Result<(), Fail> {
 
 #[test]
 fn a_block_behind_another(rt: HostRuntime) -> Result<(), Fail> {
-    let cut = Step::CutValue {
-        variable: 1,
-        value: 0,
-    };
-    let mut block = Block::of(rt.alloc(), &[cut])?;
+    let mut block = Block::of(rt.alloc(), &[CUT])?;
     block.put_behind(&Block::new(rt.alloc()))?;
     block.put_behind(&Block::of(rt.alloc(), &[LIFT])?)?;
     let mut steps = block.cursor();
     assert_eq!(rt; steps.next(), Some(LIFT));
-    assert_eq!(rt; steps.next(), Some(cut));
+    assert_eq!(rt; steps.next(), Some(CUT));
     assert_eq!(rt; steps.next(), None);
     Ok(())
 }

@@ -7,3 +7,4 @@ pub use Rattle.cfn_proof.proofs.Grafted.{before_graft, count_graft, graft_law, k
 pub use Rattle.cfn_proof.proofs.Histories.{before_close, before_some, before_split, before_split_behind, count_close, count_split, count_split_behind, named, side_of, splits_close, splits_split, splits_split_behind}
 pub use Rattle.cfn_proof.proofs.Kept.{strict_behind_split, strict_split_behind, valid_behind_split, valid_split_behind}
 pub use Rattle.cfn_proof.proofs.WholeTree.{bound_at_behind_law, bound_at_law, bound_from_behind_law, bound_from_law, lines_law, none_open_law, open_below_behind_law, open_below_law, some_open_law, spelled_law, strict_behind_law, strict_law, valid_behind_law, valid_law}
+pub use Rattle.cfn_proof.proofs.Parting.{same_above}

@@ -9,4 +9,5 @@ pub mod Kept
 pub mod Packed
 pub mod Written
 pub mod Rows
+pub mod Parting
 pub mod CallerLemmas

@@ -317,6 +317,12 @@ module _ (first behind : List ℕ) (packed : IsPacked first) (packed_behind : Is
     };
   }
 
+-- steps that are none have no byte
+pub none_bytes : (bytes : List ℕ) → IsPacked bytes → unpacked bytes ≡ [] → length bytes ≡ 0
+none_bytes [] packed none = refl
+none_bytes (byte ∷ bytes) packed none =
+    absurd (let some = some_number (byte ∷ bytes) packed.whole (omega arith) in let same = ap length (packed.steps.all ∙ ap numbers_of_all none) in omega (arith, some, same))
+
 pub none_packed : IsPacked []
 none_packed = record { whole = tt; steps = record { all = refl; small = tt } }
 

@@ -3,3 +3,5 @@ pub mod Local
 pub mod Packing
 pub mod Certificates
 pub mod Outcome
+pub mod Bytes
+pub mod Legs

@@ -20,6 +20,11 @@ open_node parent = record { parent = parent; block = []; end = Free }
 abbrev pub node_at : List Node → ℕ → Node
 node_at nodes i = slice_index_or nodes i (open_node None)
 
+-- The steps of all blocks, one behind the other.
+abbrev pub all_steps : List Node → List Step
+all_steps [] = []
+all_steps (node ∷ nodes) = node.block ++ all_steps nodes
+
 -- A node as a tree, over the trees of what its children's numbers name.
 abbrev pub with_children : List Step → End → (ℕ → trees.Tree) → trees.Tree
 with_children block Free child = trees.Open block

@@ -5,17 +5,22 @@
 //! says what every search owes of its `Outcome`.
 #![tactic(auto)]
 
+mod ascent;
 mod block;
 mod certificate;
+mod events;
 pub mod laws;
 mod outcome;
 mod packing;
 mod path;
+mod stretch;
 mod tree;
 
+pub use ascent::Ascent;
 pub use block::{Block, Steps};
 pub use certificate::Certificate;
 pub use cfn_model::{Decision, Event, Row, Step};
+pub use events::Events;
 pub use outcome::{Outcome, Stop};
-pub use path::Path;
+pub use path::{Path, Side};
 pub use tree::{End, Node, NodeId, Tree};

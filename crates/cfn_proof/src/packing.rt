@@ -13,6 +13,7 @@ use cfn_model::Step;
 use std::alloc::AllocError;
 
 /// Adds the bytes of a step. An `Err`, want of memory, may leave some of them.
+#[inline(always)]
 pub(crate) fn push_step(bytes: &mut Vec<u8>, step: Step) -> Result<(), AllocError>
     requires { IsSpelledStep step }
     ensures small { IsSmallStep step }

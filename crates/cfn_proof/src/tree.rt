@@ -3,16 +3,18 @@
 //! So a tree is walked without recursion and without memory, and no drop is deep. Nodes are only added, and an
 //! open leaf may become a split or a closed leaf, or give its place to the root of another tree.
 
-ghost use Rattle.std.specs.Prelude.{◌≡◌, ◌+◌, ◌<◌, ◌≤◌, ◌^◌, [], ◌∷◌, ◌++◌, length, map, drop, slice_set, vec_len, vec_capacity, Some, None, IfOk, IfErr, OnOk, OnErr};
+ghost use Rattle.std.specs.Prelude.{◌≡◌, ◌+◌, ◌<◌, ◌≤◌, ◌^◌, [], ◌∷◌, ◌++◌, length, map, drop, slice_set, vec_len, vec_capacity, Some, None, IfSome, IfOk, IfErr, OnOk, OnErr};
 ghost use Rattle.std.specs.List.{AllByRecursion};
 ghost use Rattle.cfn_model.specs.Text.{IsSpelledDecision};
-ghost use Rattle.cfn_proof.specs.Nodes.{FitsBehind, FitsEnd, FitsParent, IsFree, IsTree, node_at, open_node, split_at, split_behind_at, close_at, graft_at, moved, moved_end, moved_node, moved_parent};
+ghost use Rattle.cfn_proof.specs.Nodes.{all_steps, FitsBehind, FitsEnd, FitsParent, IsFree, IsTree, node_at, open_node, split_at, split_behind_at, close_at, graft_at, moved, moved_end, moved_node, moved_parent};
+ghost use Rattle.cfn_proof.specs.Packing.{unpacked};
 ghost use Rattle.cfn_proof.specs.declared.tree.End.TheVariants.{Split};
 
 use crate::block::Block;
 use cfn_model::Decision;
 use std::alloc::{AllocError, Global};
 use std::marker::Model;
+use std::sync::Arc;
 
 /// The number of a node in its tree. The root has number 0.
 #[derive(Clone, Copy, Debug, PartialEq, Eq)]
@@ -196,6 +198,41 @@ impl Place {
     }
 }
 
+/// The bytes of the blocks of all nodes, one behind the other, where they are fewer than 2^32.
+fn joined(alloc: Global, nodes: &[Node]) -> Result<Option<Vec<u8>>, AllocError>
+    ensures { IfOk result (λ joined. IfSome joined (λ bytes. unpacked bytes.items ≡ all_steps nodes.now)) }
+{
+    let mut len: usize = 0;
+    for node in nodes {
+        len = len.saturating_add(node.block.bytes().len());
+    }
+    if u32::try_from(len).is_err() {
+        return Ok(None);
+    }
+    let mut bytes = Vec::with_capacity(alloc, len)?;
+    for node in nodes {
+        bytes.extend_from_slice(node.block.bytes())?;
+    }
+    Ok(Some(bytes))
+}
+
+/// Makes the block of each node a stretch of the buffer in which they stand one behind the other. An `Err`, want of memory,
+/// leaves some as they were.
+fn share_each(nodes: &mut Vec<Node>, buffer: &Arc<Vec<u8>>) -> Result<(), AllocError>
+    ensures { nodes.new.items ≡ nodes.old.items }
+{
+    let mut start: usize = 0;
+    for i in 0..nodes.len() {
+        let block = &mut nodes[i].block;
+        let len = block.bytes().len();
+        if len > 0 {
+            block.share(buffer, start)?;
+        }
+        start = start.saturating_add(len);
+    }
+    Ok(())
+}
+
 /// A search tree of at most 4,294,967,296 nodes. Contracts see the list of its nodes.
 #[derive(Drop)]
 pub struct Tree {
@@ -344,7 +381,23 @@ impl Tree {
         Ok(())
     }
 
-    /// The same tree, or want of memory.
+    /// Moves all blocks into one buffer, of which each is a stretch from then on, so that copies of them copy no step. A
+    /// tree of one node stays as it was, and one whose blocks take 2^32 bytes or more. An `Err`, want of memory, may leave
+    /// some blocks where they were.
+    pub fn share(&mut self, alloc: Global) -> Result<(), AllocError>
+        ensures { self.new ≡ self.old }
+    {
+        if self.nodes.len() < 2 {
+            return Ok(());
+        }
+        let Some(bytes) = joined(alloc, &self.nodes)? else {
+            return Ok(());
+        };
+        let buffer = Arc::new(alloc, bytes)?;
+        share_each(&mut self.nodes, &buffer)
+    }
+
+    /// The same tree, or want of memory. No step is copied where the blocks are shared.
     pub fn copy(&self, alloc: Global) -> Result<Tree, AllocError>
         ensures { IfOk result (λ tree. tree ≡ self.now) }
     {

@@ -16,6 +16,7 @@ pub mod Readings
 pub mod Extremes
 pub mod Rooms
 pub mod Going
+pub mod Onward
 pub mod Paths
 pub mod Amounts
 pub mod Lines

@@ -1,6 +1,7 @@
 -- Costs are exact along a path that runs at some threshold and keeps costs small.
-use Rattle.std.proofs.Common.{◌≡◌, ℕ, ◌+◌, ◌<◌, List, [], ◌∷◌, ◌++◌, length, get_or, reverse, take, drop, refl, sym, ap, subst, ◌∙◌}
-use Rattle.std.proofs.lemmas.List.{take_more, take-append-drop, reverse-append}
+use Rattle.std.proofs.Common.{◌≡◌, ℕ, List, [], ◌∷◌, ◌++◌, reverse, refl, sym, ap, subst, ◌∙◌, append_assoc}
+use Rattle.std.proofs.lemmas.List.{reverse-append}
+use mathlib.Core.List.{reverse-cons}
 use Rattle.cfn_model.specs.declared.step.Step.{Step}
 use Rattle.cfn_model.specs.declared.step.Step.TheVariants.{Project, Extend, Lift, CutValue, CutTuple}
 use Rattle.cfn_model.specs.declared.step.Event.{Event}
@@ -42,8 +43,8 @@ exact_path P (Refused d ∷ path) k net runs tame =
     (record { small = tame.0; no_debts = debts_still P path (Refused d) (λ y b. refl) (λ f tuple. refl) old.no_debts; range = (runs.0, old.range) }, before)
 
 -- the next event of events that are exact along
-pub exact_next : (P : Network) (events : List Event) (i : ℕ) (d : Event) → i < length events → IsExactAlong P (reverse events) → IsExact P (get_or events i d ∷ reverse (take i events))
-exact_next P events i d l along =
-    let whole : reverse events ≡ reverse (drop (i + 1) events) ++ reverse (take (i + 1) events) = ap reverse (sym (take-append-drop (i + 1) events)) ∙ reverse-append (take (i + 1) events) (drop (i + 1) events) in
-    let early : reverse (take (i + 1) events) ≡ get_or events i d ∷ reverse (take i events) = ap reverse (take_more events i d l) ∙ reverse-append (take i events) (get_or events i d ∷ []) in
-    exact_here P (get_or events i d ∷ reverse (take i events)) (subst (IsExactAlong P) early (exact_behind P (reverse (drop (i + 1) events)) (reverse (take (i + 1) events)) (subst (IsExactAlong P) whole along)))
+pub exact_next : (P : Network) (made left : List Event) (event : Event) → IsExactAlong P (reverse (made ++ event ∷ left)) → IsExact P (event ∷ reverse made)
+exact_next P made left event along =
+    let whole : reverse (made ++ event ∷ left) ≡ reverse left ++ event ∷ reverse made =
+    reverse-append made (event ∷ left) ∙ ap (λ l. l ++ reverse made) (reverse-cons event left) ∙ append_assoc (reverse left) (event ∷ []) (reverse made) in
+    exact_here P (event ∷ reverse made) (exact_behind P (reverse left) (event ∷ reverse made) (subst (IsExactAlong P) whole along))

@@ -1,5 +1,5 @@
 -- Events by kind: those that take values, and the steps among them.
-use Rattle.std.specs.Prelude.{List, [], ◌∷◌}
+use Rattle.std.specs.Prelude.{List, [], ◌∷◌, Option, Some, None}
 use Rattle.cfn_model.specs.declared.step.Step.{Step}
 use Rattle.cfn_model.specs.declared.step.Step.TheVariants.{Project, Extend, Lift, CutValue, CutTuple}
 use Rattle.cfn_model.specs.declared.step.Event.{Event}
@@ -28,3 +28,8 @@ AllSteps [] = Unit {0}
 AllSteps (Did step ∷ events) = AllSteps events
 AllSteps (Took d ∷ events) = ⊥
 AllSteps (Refused d ∷ events) = ⊥
+
+-- Events of which the first was taken out. Where there is none, there are no others.
+abbrev pub with_first : Option Event → List Event → List Event
+with_first None others = []
+with_first (Some event) others = event ∷ others

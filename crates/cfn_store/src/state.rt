@@ -12,6 +12,7 @@ ghost use Rattle.cfn_store.specs.Lines.{IsSide};
 ghost use Rattle.cfn_store.specs.Scanning.{IsSpot};
 ghost use Rattle.cfn_model.specs.Network.{arity, scope_at, variable_at};
 ghost use Rattle.cfn_store.specs.Exact.{InPlace, IsExact, IsExactAlong};
+ghost use Rattle.cfn_store.specs.Events.{with_first};
 ghost use Rattle.cfn_store.specs.State.{Keeps, IsState, HasRoom, history_of};
 
 use crate::cuts::Cuts;
@@ -23,6 +24,7 @@ use crate::sums::Sums;
 use cfn_live::LiveSets;
 use cfn_model::{Event, Step};
 use cfn_net::Network;
+use cfn_proof::Events;
 use std::alloc::{AllocError, Global};
 
 /// A path of more events has no room in any memory.
@@ -200,20 +202,20 @@ impl State {
         }
     }
 
-    /// Goes on by events, from the first that it has not made.
-    pub(crate) fn go_on(&mut self, network: &Network, events: &[Event])
+    /// Goes on by events, of which the first stands before the others.
+    pub(crate) fn go_on(&mut self, network: &Network, first: Option<Event>, others: Events<'_>)
         requires state { IsState network.now self.old }
-        requires made { self.old.trail.items ≡ take (length self.old.trail.items) events.now }
-        requires within { length self.old.trail.items ≤ length events.now }
-        requires exact { IsExactAlong network.now (reverse events.now) }
-        requires room { (room : ℕ) × HasRoom room self.old × (length events.now ≤ room) }
+        requires exact { IsExactAlong network.now (reverse (self.old.trail.items ++ with_first first others)) }
+        requires room { (room : ℕ) × HasRoom room self.old × (length (self.old.trail.items ++ with_first first others) ≤ room) }
         ensures state { IsState network.now self.new }
-        ensures trail { self.new.trail.items ≡ events.now }
+        ensures trail { self.new.trail.items ≡ self.old.trail.items ++ with_first first others.entry }
         ensures room { (room : ℕ) → HasRoom room self.old → HasRoom room self.new }
     {
-        let made = self.trail.len();
-        for i in made..events.len() {
-            self.enter(network, events[i]);
+        let mut next = first;
+        let mut left = others;
+        while let Some(event) = next {
+            self.enter(network, event);
+            next = left.next();
         }
     }
 
@@ -321,14 +323,20 @@ fn known(event: Event)
     }
 }
 
-/// How many events two paths have in common from the root on.
-pub(crate) fn in_common(events: &[Event], others: &[Event]) -> usize
-    ensures within { (result ≤ length events.now) × (result ≤ length others.now) }
-    ensures same { take result events.now ≡ take result others.now }
+/// How many events a trail has in common with those of a path, and the path's first event behind them. The path's events
+/// are read up to that one.
+pub(crate) fn in_common(trail: &[Event], path: &mut Events<'_>) -> (usize, Option<Event>)
+    ensures within { result.0 ≤ length trail.now }
+    ensures same { path.old ≡ take result.0 trail.now ++ with_first result.1 path.new }
 {
     let mut common = 0;
-    while common < events.len() && common < others.len() && events[common] == others[common] {
+    let mut next = path.next();
+    while let Some(event) = next {
+        if common == trail.len() || trail[common] != event {
+            break;
+        }
         common += 1;
+        next = path.next();
     }
-    common
+    (common, next)
 }

@@ -33,7 +33,7 @@ use crate::supports::{Doubt, Supports, keep, row_of};
 use crate::unaries::Unaries;
 use cfn_model::{Decision, Event, GREATEST, Step};
 use cfn_net::{Network, Tables};
-use cfn_proof::{Block, Path};
+use cfn_proof::{Block, Events, Path};
 use std::alloc::{AllocError, Global};
 use std::marker::Model;
 
@@ -707,22 +707,26 @@ impl<'n> Store<'n> {
         ensures err { OnErr result ((self.new.base ≡ self.old.base) × (self.new.block ≡ self.old.block)) }
     {
         self.network().limits();
-        self.reserve(path.events().len())?;
+        let Some(len) = path.len() else {
+            return Err(AllocError);
+        };
+        self.reserve(len)?;
         self.go_along(path.events());
         Ok(())
     }
 
     /// Goes to the end of events, where there is room for all of them.
-    fn go_along(&mut self, events: &[Event])
-        requires exact { IsExactAlong self.old.network (reverse events.now) }
-        requires room { length events.now ≤ self.old.spare }
+    fn go_along(&mut self, events: Events<'_>)
+        requires exact { IsExactAlong self.old.network (reverse events) }
+        requires room { length events ≤ self.old.spare }
         ensures network { self.new.network ≡ self.old.network }
-        ensures base { self.new.base ≡ reverse events.now }
+        ensures base { self.new.base ≡ reverse events.entry }
         ensures block { self.new.block ≡ [] }
     {
-        let common = in_common(&self.state.trail, events);
+        let mut left = events;
+        let (common, next) = in_common(&self.state.trail, &mut left);
         self.state.go_back(self.network, common);
-        self.state.go_on(self.network, events);
+        self.state.go_on(self.network, next, left);
         self.base = self.state.trail.len();
     }
 

@@ -11,6 +11,8 @@ use Rattle.cfn_low.specs.declared.rule.Incumbent as word
 use Rattle.cfn_low.specs.contracts.holder.Holder as Holder
 use Rattle.cfn_low.specs.contracts.low.Low as Low
 use Rattle.cfn_low.proofs.CallerLemmas.{holder_send, low_sync}
+use Rattle.cfn_proof.specs.contracts.block.Block as Block
+use Rattle.cfn_proof.specs.contracts.path.Path as Path
 use Rattle.cfn_pool.specs.contracts.pool.Pool as Pool
 use Rattle.cfn_task.specs.contracts.task.Task as Task
 use Rattle.cfn_rota.specs.contracts.ends.Ends as Ends
@@ -30,8 +32,14 @@ network_sync = search (sendable, crosses) depth 40
 tables_sync : IsSync Tables.the_row
 tables_sync = search (sendable, crosses) depth 40
 
+block_send : IsSend Block.the_row
+block_send = search (sendable, crosses) depth 40 fits 20000
+
+path_send : IsSend Path.the_row
+path_send = search (sendable, crosses, block_send) depth 40
+
 task_send : IsSend Task.the_row
-task_send = search (sendable, crosses) depth 40
+task_send = search (sendable, crosses, path_send) depth 40
 
 module _ (M : RattleType) (g : word.Ghosts M.Denot) where
   -- names for the search
@@ -42,7 +50,7 @@ module _ (M : RattleType) (g : word.Ghosts M.Denot) where
   of_low = low_sync M g
 
   pool_send : IsSend (Pool.the_row M g)
-  pool_send = search (sendable, crosses, of_holder) depth 40
+  pool_send = search (sendable, crosses, of_holder, block_send) depth 40
 
   lanes_send : IsSend (Ends.the_row Task.the_row (Errand.the_row M) (errand.ghosts M g errand.no_dict))
   lanes_send = ends_send Task.the_row (Errand.the_row M) (errand.ghosts M g errand.no_dict) task_send

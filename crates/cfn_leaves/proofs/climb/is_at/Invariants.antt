@@ -1,4 +1,4 @@
-use Rattle.std.proofs.Common.{◌↔◌, ◌<◌, length, reverse}
+use Rattle.std.proofs.Common.{◌↔◌, ◌<◌, length}
 use Rattle.cfn_leaves.specs.Ways.{IsPathOf}
 use Rattle.cfn_leaves.proofs.climb.is_at.Given as goal
 
@@ -6,7 +6,7 @@ use Rattle.cfn_leaves.proofs.climb.is_at.Given as goal
 abbrev pub invariant-loop-parent : goal.invariant-loop-parent
 invariant-loop-parent l = record {
   there : l.at.number < length l.tree;
-  same : IsPathOf l.tree l.fn.node.number l.path ↔ IsPathOf l.tree l.at.number (reverse l.events);
+  same : IsPathOf l.tree l.fn.node.number l.path ↔ IsPathOf l.tree l.at.number l.left;
 }
 
 abbrev pub decreases-loop-parent : goal.decreases-loop-parent

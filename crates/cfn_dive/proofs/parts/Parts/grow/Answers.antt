@@ -1,6 +1,8 @@
-use Rattle.std.proofs.Common.{refl, sym, ap, ◌∙◌, subst, arith}
+use Rattle.std.proofs.Common.{List, refl, sym, ap, ◌∙◌, subst, arith}
+use Rattle.std.specs.Prelude.{◌==◌}
 use Rattle.cfn_model.specs.Network.{Network}
 use Rattle.cfn_machine.specs.Pool.{IsTask}
+use Rattle.cfn_proof.specs.declared.tree.Node.{Node}
 use Rattle.cfn_dive.specs.Diving.{GoesOn}
 use Rattle.cfn_dive.specs.Making.{IsMade}
 use Rattle.cfn_dive.proofs.Falling.{look_falls}
@@ -56,6 +58,7 @@ returns-clause-made g c =
     let few = inv.few in
     let upper = c.kept-3.ensures.seen in
     let great = c.limits.ensures.upper in
-    made P c.loop-next.self c.loop-next.growth c.args.task.now.task c.args.backtracks c.loop-next.holder.seen _ inv.diving inv.base inv.threshold
+    subst (λ (tree : List Node). IsMade P c.args.task.now.task c.args.backtracks c.loop-next.holder.seen tree (c.loop-next.growth.left == 0)) (sym c.in_ok-shared.ensures)
+    (made P c.loop-next.self c.loop-next.growth c.args.task.now.task c.args.backtracks c.loop-next.holder.seen _ inv.diving inv.base inv.threshold
     (omega (arith, upper, great, ap (λ (Q : Network). Q.upper) (c.requires.word ∙ sym c.requires.network))) inv.granted (inv.some none) (omega (arith, few, grants))
-    (subst (λ o. GoesOn c.loop-next.growth c.args.task.now.task.grant o) none (subst (λ n. GoesOn c.loop-next.growth n c.loop-next.next) grants inv.next)) refl
+    (subst (λ o. GoesOn c.loop-next.growth c.args.task.now.task.grant o) none (subst (λ n. GoesOn c.loop-next.growth n c.loop-next.next) grants inv.next)) refl)

@@ -1,27 +1,25 @@
-use Rattle.std.proofs.Common.{◌∷◌, ◌++◌, [], length, get_or, reverse, subst, sym, ap, ◌∙◌, arith}
-use Rattle.std.proofs.lemmas.List.{take_more, length-take-le}
-use Rattle.cfn_model.specs.declared.step.Step.TheVariants.{Project}
-use Rattle.cfn_model.specs.declared.step.Event.{Event}
-use Rattle.cfn_model.specs.declared.step.Event.TheVariants.{Did}
-use Rattle.cfn_store.specs.Exact.{IsExact}
+use Rattle.std.proofs.Common.{◌∷◌, ◌++◌, length, reverse, subst, sym, ap, ◌∙◌, arith, length-append}
+use Rattle.cfn_store.specs.Events.{with_first}
+use Rattle.cfn_store.specs.Exact.{IsExactAlong}
+use Rattle.cfn_store.proofs.Onward.{taken_out, one_made}
 use Rattle.cfn_store.proofs.Paths.{exact_next}
 use Rattle.cfn_store.proofs.state.State.go_on.Goals as goal
 
 pub enter-requires-clause-exact : goal.enter-requires-clause-exact
 enter-requires-clause-exact c =
-    let event : Event = get_or c.args.events.now c.loop-i.i (Did (Project 0 0 0 0)) in
-    subst (λ items. IsExact c.args.network.now (event ∷ reverse items)) (sym c.loop-i.invariant.1) (exact_next c.args.network.now c.args.events.now c.loop-i.i (Did (Project 0 0 0 0)) c.loop-i-test.true c.requires.exact)
+    exact_next c.args.network.now c.loop-next.self.trail.items c.loop-next.left c.in-Some.event (subst (λ l. IsExactAlong c.args.network.now (reverse l)) (sym (ap (λ n. c.loop-next.self.trail.items ++ with_first n c.loop-next.left) (sym c.in-Some.is) ∙ c.loop-next.invariant.1)) c.requires.exact)
 
 pub enter-requires-clause-room : goal.enter-requires-clause-room
 enter-requires-clause-room c =
-    let n = ap length c.loop-i.invariant.1 in let t = c.loop-i-test.true in
-    let l = length-take-le c.loop-i.i c.args.events.now (omega (arith, t)) in let r = c.requires.room.2 in
-    (c.requires.room.0, c.loop-i.invariant.2 c.requires.room.0 c.requires.room.1, omega (arith, n, t, l, r))
+    let made = c.loop-next.self.trail.items in
+    let r = c.requires.room.2 in
+    let w = ap length (ap (λ n. c.loop-next.self.trail.items ++ with_first n c.loop-next.left) (sym c.in-Some.is) ∙ c.loop-next.invariant.1) in
+    let l = length-append made (c.in-Some.event ∷ c.loop-next.left) in
+    (c.requires.room.0, c.loop-next.invariant.2 c.requires.room.0 c.requires.room.1, omega (arith, r, w, l))
 
-pub loop-i-preserved : goal.loop-i-preserved
-loop-i-preserved c =
-    let event : Event = get_or c.args.events.now c.loop-i.i (Did (Project 0 0 0 0)) in (
-      c.enter.ensures.state,
-      c.enter.ensures.trail ∙ ap (λ l. l ++ event ∷ []) c.loop-i.invariant.1 ∙ sym (take_more c.args.events.now c.loop-i.i (Did (Project 0 0 0 0)) c.loop-i-test.true),
-      λ room has. c.enter.ensures.room room (c.loop-i.invariant.2 room has),
-    )
+pub loop-next-preserved : goal.loop-next-preserved
+loop-next-preserved c = (
+  c.enter.ensures.state,
+  one_made c.loop-next.self.trail.items c.enter.new.self.trail.items c.loop-next.left _ c.in-Some.event c.next-next.result c.next-next.new.self c.enter.ensures.trail (taken_out c.loop-next.left c.next-next.new.self c.next-next.result c.next-next.ensures.steps) (ap (λ n. c.loop-next.self.trail.items ++ with_first n c.loop-next.left) (sym c.in-Some.is) ∙ c.loop-next.invariant.1),
+  λ room has. c.enter.ensures.room room (c.loop-next.invariant.2 room has),
+)

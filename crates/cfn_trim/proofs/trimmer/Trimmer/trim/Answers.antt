@@ -1,4 +1,4 @@
-use Rattle.std.proofs.Common.{rules, length, sym, ◌∙◌, subst}
+use Rattle.std.proofs.Common.{length, sym, ◌∙◌, subst}
 use Rattle.std.specs.Prelude.{IfSome, ◌<◌}
 use Rattle.cfn_model.specs.Network.{Network}
 use Rattle.cfn_trim.specs.Making.{AreInRange}
@@ -46,7 +46,7 @@ pub returns-clause-closes : goal.returns-clause-closes
 returns-clause-closes c =
     closes_behind c.args.self.now c.args.store.now c.run.new.store c.args.threshold c.block-2.result c.requires.network
     (beside_then c.args.store.now c.undo.new.self c.run.new.store (undone_beside c.args.begin.now c.args.store.now c.undo.new.self c.requires.begins c.undo.ensures) c.run.ensures.beside)
-    (search rules) c.block-2.ensures
+    (c.closes.ensures c.if-not-closes.false) c.block-2.ensures
 
 pub returns-clause-beside : goal.returns-clause-beside
 returns-clause-beside c = beside_then c.args.store.now c.undo.new.self c.run.new.store (undone_beside c.args.begin.now c.args.store.now c.undo.new.self c.requires.begins c.undo.ensures) c.run.ensures.beside
