@@ -19,11 +19,10 @@ use crate::asked::{Judged, decision_in_range, in_range};
 use crate::entry::Entry;
 use cfn_certtext::{DecisionText, StepText};
 use cfn_model::{Event, Step};
-use cfn_net::Network;
+use cfn_net::{Network, NetworkSnapshot};
 use cfn_tables::{Costs, slots};
 use std::alloc::{AllocError, Global};
 use std::marker::Model;
-use std::snapshot::Snapshot;
 
 /// The costs and live values of a network after the events of a path (Cooper et al. 2010). Contracts see the network
 /// and the path's history, the newest event first.
@@ -33,7 +32,7 @@ use std::snapshot::Snapshot;
 /// which copies no table, then for the path's events, and at the first cut of a tuple of a function for its flags.
 #[derive(Drop)]
 pub struct Ledger {
-    network: Snapshot<Network>,
+    network: NetworkSnapshot,
     costs: Costs,
     trail: Vec<Entry>,
 }
@@ -65,7 +64,7 @@ impl Ledger {
         ensures { IfOk result (λ l. l ≡ record { network = network.now; history = [] }) }
     {
         Ok(Ledger {
-            network: Snapshot::of(network),
+            network: NetworkSnapshot::of(network),
             costs: Costs::of(alloc, network)?,
             trail: Vec::new(alloc),
         })

@@ -1,11 +1,10 @@
 //! The open leaves of the pool's tree, with the tree.
 
 use crate::entry::Entry;
-use cfn_net::Network;
+use cfn_net::NetworkSnapshot;
 use cfn_open::OpenList;
 use cfn_proof::{Row, Tree};
 use std::marker::Model;
-use std::snapshot::Snapshot;
 
 /// How many rows of bounds are kept at most.
 pub(crate) const ROWS: usize = 256;
@@ -15,7 +14,7 @@ pub(crate) const ROWS: usize = 256;
 /// Contracts see the pool's state but for its view, for the network that it is of.
 #[derive(Drop)]
 pub struct Leaves {
-    pub(crate) network: Snapshot<Network>,
+    pub(crate) network: NetworkSnapshot,
     pub(crate) tree: Tree,
     /// The open leaves by their numbers; nothing for one that is closed.
     pub(crate) table: Vec<Option<Entry>>,

@@ -10,12 +10,11 @@ ghost use Rattle.cfn_leaves.specs.Placed.{IsOpening};
 use crate::leaves::{Leaves, ROWS};
 use crate::placing::{place, reserve};
 use crate::walk::open_spots;
-use cfn_net::Network;
+use cfn_net::{Network, NetworkSnapshot};
 use cfn_open::OpenList;
 use cfn_proof::Tree;
 use cfn_proof::laws::same_before;
 use std::alloc::{AllocError, Global};
-use std::snapshot::Snapshot;
 
 impl Leaves {
     /// The leaves of a tree that a pool begins with, such as one open leaf: each open leaf is free, with numbers in the order
@@ -52,7 +51,7 @@ impl Leaves {
         reserve(&mut table, &mut list, 0, more)?;
         place(&mut table, &mut list, &walk.spots, Tree::ROOT, 1);
         Ok(Leaves {
-            network: Snapshot::of(network),
+            network: NetworkSnapshot::of(network),
             tree,
             table,
             list,

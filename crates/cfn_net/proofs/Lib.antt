@@ -7,4 +7,5 @@ pub mod Spreads
 pub mod Keeping
 pub mod Drafting
 pub mod Expanding
+pub mod Sent
 pub mod CallerLemmas

@@ -5,15 +5,15 @@ ghost use Rattle.cfn_model.specs.Certificate.{threshold_of};
 ghost use Rattle.cfn_net.specs.Scoring.{IsPriced};
 
 use crate::network::Network;
+use crate::snapshot::NetworkSnapshot;
 use std::alloc::{AllocError, Global};
 use std::marker::Model;
-use std::snapshot::Snapshot;
 
 /// A value for each variable of a network with its cost there, or nothing yet. It is bound to the network that it
 /// was made for, and borrows nothing of it. Only `empty` takes memory.
 #[derive(Drop)]
 pub struct Scored {
-    network: Snapshot<Network>,
+    network: NetworkSnapshot,
     filled: bool,
     price: u64,
     values: Vec<u32>,
@@ -35,7 +35,7 @@ impl Scored {
         ensures { IfOk result (λ scored. scored ≡ record { network = network.now; held = None }) }
     {
         Ok(Scored {
-            network: Snapshot::of(network),
+            network: NetworkSnapshot::of(network),
             filled: false,
             price: network.ub(),
             values: vec![in alloc; 0; network.variables() as usize]?,

@@ -4,16 +4,16 @@ ghost use Rattle.cfn_model.specs.Network.{function_at};
 ghost use Rattle.cfn_net.specs.Expanding.{AreSpread};
 
 use crate::network::Network;
+use crate::snapshot::NetworkSnapshot;
 use crate::table::Table;
 use std::alloc::{AllocError, Global};
 use std::marker::Model;
-use std::snapshot::Snapshot;
 
 /// The tables of the functions for which their network has none, for those who go over all entries of a function. It is
 /// bound to the network that it was made for, and borrows nothing of it. Functions that share a table share it here too.
 #[derive(Drop)]
 pub struct Tables {
-    network: Snapshot<Network>,
+    network: NetworkSnapshot,
     /// The place of each function's table in `spread`, where the network has none.
     places: Vec<u32>,
     spread: Vec<Vec<u64>>,
@@ -44,7 +44,7 @@ impl Tables {
             places.push(known[kept.table as usize])?;
         }
         Ok(Tables {
-            network: Snapshot::of(network),
+            network: NetworkSnapshot::of(network),
             places,
             spread,
         })

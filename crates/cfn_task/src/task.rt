@@ -3,10 +3,9 @@
 ghost use Rattle.std.specs.Prelude.{◌≡◌};
 ghost use Rattle.cfn_machine.specs.Pool.{IsTask};
 
-use cfn_net::Network;
+use cfn_net::{Network, NetworkSnapshot};
 use cfn_proof::Path;
 use std::marker::Model;
-use std::snapshot::Snapshot;
 
 /// A leaf of the pool's tree that was handed out: its number, the worker, how many nodes the worker may make below it,
 /// the floor, and what stands before it.
@@ -15,7 +14,7 @@ use std::snapshot::Snapshot;
 /// least 1.
 #[derive(Drop)]
 pub struct Task {
-    network: Snapshot<Network>,
+    network: NetworkSnapshot,
     leaf: u64,
     worker: u32,
     grant: u64,
@@ -52,7 +51,7 @@ impl Task {
         ensures task { result.task ≡ record { leaf = leaf; worker = worker; grant = grant; floor = floor; path = path } }
     {
         Task {
-            network: Snapshot::of(network),
+            network: NetworkSnapshot::of(network),
             leaf,
             worker,
             grant,

@@ -7,6 +7,7 @@ use denote.Param.SendFields.{as_row_send, declared_send}
 use Rattle.std.proofs.Crossing.{crosses}
 use Rattle.cfn_net.specs.contracts.network.Network as Network
 use Rattle.cfn_net.specs.contracts.tables.Tables as Tables
+use Rattle.cfn_net.proofs.CallerLemmas.{snapshot_send, snapshot_sync}
 use Rattle.cfn_low.specs.declared.rule.Incumbent as word
 use Rattle.cfn_low.specs.contracts.holder.Holder as Holder
 use Rattle.cfn_low.specs.contracts.low.Low as Low
@@ -30,7 +31,7 @@ network_sync : IsSync Network.the_row
 network_sync = search (sendable, crosses) depth 40
 
 tables_sync : IsSync Tables.the_row
-tables_sync = search (sendable, crosses) depth 40
+tables_sync = search (sendable, crosses, snapshot_sync) depth 40
 
 block_send : IsSend Block.the_row
 block_send = search (sendable, crosses) depth 40 fits 20000
@@ -39,7 +40,7 @@ path_send : IsSend Path.the_row
 path_send = search (sendable, crosses, block_send) depth 40
 
 task_send : IsSend Task.the_row
-task_send = search (sendable, crosses, path_send) depth 40
+task_send = search (sendable, crosses, path_send, snapshot_send) depth 40
 
 module _ (M : RattleType) (g : word.Ghosts M.Denot) where
   -- names for the search
@@ -50,7 +51,7 @@ module _ (M : RattleType) (g : word.Ghosts M.Denot) where
   of_low = low_sync M g
 
   pool_send : IsSend (Pool.the_row M g)
-  pool_send = search (sendable, crosses, of_holder, block_send) depth 40
+  pool_send = search (sendable, crosses, of_holder, block_send, snapshot_send) depth 40
 
   lanes_send : IsSend (Ends.the_row Task.the_row (Errand.the_row M) (errand.ghosts M g errand.no_dict))
   lanes_send = ends_send Task.the_row (Errand.the_row M) (errand.ghosts M g errand.no_dict) task_send
