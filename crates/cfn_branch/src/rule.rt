@@ -1,7 +1,7 @@
 //! The rules by which a search may name its splits.
 
 /// By which rule a search names the decision of a split.
-#[derive(Clone, Copy, Debug, PartialEq, Eq)]
+#[derive(Clone, Copy, PartialEq, Eq)]
 pub enum Rule {
     /// The variable of the least ratio of live values to weighted degree, as `choose` names it.
     Degrees,

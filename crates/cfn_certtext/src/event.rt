@@ -4,7 +4,7 @@ use cfn_model::Version;
 
 /// A step as a certificate's text has it: each number is at most 9,223,372,036,854,775,807, and an amount is at
 /// least 1. Whether it is in range is not looked at.
-#[derive(Clone, Copy, Debug, PartialEq, Eq)]
+#[derive(Clone, Copy, PartialEq, Eq)]
 pub enum StepText {
     /// `p f i a m`
     Project {
@@ -39,7 +39,7 @@ pub enum StepText {
 
 /// A decision as a certificate's text has it: each number is at most 9,223,372,036,854,775,807. Whether it is in range
 /// is not looked at.
-#[derive(Clone, Copy, Debug, PartialEq, Eq)]
+#[derive(Clone, Copy, PartialEq, Eq)]
 pub enum DecisionText {
     /// `split x a`
     Is { variable: u64, value: u64 },
@@ -48,7 +48,7 @@ pub enum DecisionText {
 }
 
 /// What a line of a certificate says, or one value of the line of values.
-#[derive(Clone, Copy, Debug, PartialEq, Eq)]
+#[derive(Clone, Copy, PartialEq, Eq)]
 pub enum Item {
     /// The version of the text.
     Version(Version),
@@ -83,7 +83,7 @@ pub enum Item {
 }
 
 /// What a line says, and its number, counted from 1. At `Over` it is the number of the last line.
-#[derive(Clone, Copy, Debug, PartialEq, Eq)]
+#[derive(Clone, Copy, PartialEq, Eq)]
 pub struct Event {
     pub line: u64,
     pub item: Item,

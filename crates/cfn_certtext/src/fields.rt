@@ -10,7 +10,7 @@ use cfn_words::number;
 use std::marker::Model;
 
 /// The words of a line that are left.
-#[derive(Drop, Debug)]
+#[derive(Drop)]
 pub struct Fields<'a> {
     bytes: &'a [u8],
     ended: bool,

@@ -21,7 +21,7 @@ use crate::stage::{Stage, after};
 use std::marker::Model;
 
 /// A certificate's text of which events are taken from its begin.
-#[derive(Drop, Debug)]
+#[derive(Drop)]
 pub struct Reader<'a> {
     text: &'a [u8],
     /// The first byte behind the lines that were read.
@@ -124,7 +124,7 @@ fn is_over(stage: Stage) -> bool
 }
 
 /// The next line, as it was read.
-#[derive(Drop, Debug)]
+#[derive(Drop)]
 struct NextLine<'a> {
     /// How many bytes it has.
     length: usize,

@@ -11,7 +11,7 @@ use crate::parsed::Parsed;
 use cfn_model::Version;
 
 /// The line that is due, and behind the first one the version.
-#[derive(Clone, Copy, Debug, PartialEq, Eq)]
+#[derive(Clone, Copy, PartialEq, Eq)]
 pub enum Stage {
     Version,
     Network(Version),

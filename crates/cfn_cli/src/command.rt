@@ -3,7 +3,7 @@
 use crate::format::Format;
 
 /// A command, with all that its words say.
-#[derive(Debug, Drop)]
+#[derive(Drop)]
 pub enum Command {
     /// `solve FILE CERT [--workers W] [--budget B] [--wcnf]`
     Solve(SolveArguments),
@@ -20,7 +20,7 @@ pub enum Command {
 }
 
 /// What to solve, and how far to go.
-#[derive(Debug, Drop)]
+#[derive(Drop)]
 pub struct SolveArguments {
     /// The name of the file to solve.
     pub file: String,
@@ -36,7 +36,7 @@ pub struct SolveArguments {
 }
 
 /// A certificate to judge, and the file that it is for.
-#[derive(Debug, Drop)]
+#[derive(Drop)]
 pub struct CheckArguments {
     /// The name of the file that the network is read from.
     pub file: String,
@@ -47,7 +47,7 @@ pub struct CheckArguments {
 }
 
 /// An assignment of which the cost is asked for.
-#[derive(Debug, Drop)]
+#[derive(Drop)]
 pub struct CostArguments {
     /// The name of the file that the costs are read from.
     pub file: String,
@@ -58,7 +58,7 @@ pub struct CostArguments {
 }
 
 /// A network to say in its canonical text.
-#[derive(Debug, Drop)]
+#[derive(Drop)]
 pub struct NormalArguments {
     /// The name of the file that the network is read from.
     pub file: String,
@@ -67,7 +67,7 @@ pub struct NormalArguments {
 }
 
 /// A drawn network to solve.
-#[derive(Debug, Drop)]
+#[derive(Drop)]
 pub struct TrialArguments {
     /// The seed that its costs are drawn from: 0 to 65,536.
     pub seed: u32,
@@ -78,7 +78,7 @@ pub struct TrialArguments {
 }
 
 /// A certificate to write in the second version, and the file that it is for.
-#[derive(Debug, Drop)]
+#[derive(Drop)]
 pub struct MigrateArguments {
     /// The name of the file that the network is read from.
     pub file: String,

@@ -1,7 +1,7 @@
 //! The formats in which a file may give a network.
 
 /// The format of a file.
-#[derive(Clone, Copy, Debug, PartialEq, Eq)]
+#[derive(Clone, Copy, PartialEq, Eq)]
 pub enum Format {
     /// toulbar2's wcsp format, functions in extension.
     Wcsp,

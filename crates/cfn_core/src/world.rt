@@ -40,7 +40,7 @@ pub struct World<'n> {
 }
 
 /// Want of memory in a list of actions: only the first `done` were done.
-#[derive(Clone, Copy, Debug, PartialEq, Eq)]
+#[derive(Clone, Copy)]
 pub struct RunMemory {
     pub done: u64,
 }

@@ -4,7 +4,7 @@ ghost use Rattle.std.specs.Prelude.{◌≡◌, ◌+◌, ◌<◌, ◌≤◌, ◌�
 use std::marker::Model;
 
 /// A cost in the units of a network: a value from 0 to a top, which is at most 9,223,372,036,854,775,807.
-#[derive(Clone, Copy, Debug, PartialEq, Eq)]
+#[derive(Clone, Copy, PartialEq, Eq)]
 pub struct Cost {
     value: u64,
     top: u64,

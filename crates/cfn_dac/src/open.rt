@@ -14,7 +14,7 @@ const MOST_TUPLES_OF_WIDE: u32 = 4_096;
 
 /// How many of a function's variables are open: at most one, two, which stand at these places, the lower one first, or
 /// more.
-#[derive(Clone, Copy, Debug, PartialEq, Eq)]
+#[derive(Clone, Copy)]
 pub enum Opens {
     Few,
     Two { place: u32, other: u32 },

@@ -21,7 +21,7 @@ use cfn_gain::{Halt, Limits};
 use cfn_store::Store;
 
 /// Two places of a function: of the variable whose values get full supports, and of the other one.
-#[derive(Clone, Copy, Debug, PartialEq, Eq)]
+#[derive(Clone, Copy)]
 pub struct Pair {
     pub function: u32,
     pub place: u32,

@@ -33,7 +33,7 @@ use std::alloc::{AllocError, Global};
 use std::marker::Model;
 
 /// How a derivation ended: what is left is a closed family, or a variable has no value left.
-#[derive(Clone, Copy, Debug, PartialEq, Eq)]
+#[derive(Clone, Copy, PartialEq, Eq)]
 pub enum Derived {
     Closed,
     Emptied(u32),

@@ -11,7 +11,7 @@ use std::marker::Model;
 pub const NAME_ROOM: usize = 4096;
 
 /// What the room for one written file has.
-#[derive(Clone, Copy, Debug, PartialEq, Eq)]
+#[derive(Clone, Copy, PartialEq, Eq)]
 enum Stage {
     /// No file, or one that was dropped.
     Empty,

@@ -6,7 +6,7 @@ ghost use Rattle.cfn_desk.specs.NamedFiles.{file_named, kept_files};
 use std::alloc::{AllocError, Global};
 
 /// A file that was given.
-#[derive(Debug, Drop)]
+#[derive(Drop)]
 pub(crate) struct NamedFile {
     pub(crate) name: Vec<u8>,
     pub(crate) bytes: Vec<u8>,

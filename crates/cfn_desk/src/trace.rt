@@ -7,7 +7,7 @@ use crate::interface::{Failed, LoadFault};
 use std::marker::{Model, PhantomData};
 
 /// What was called, and how it was answered.
-#[derive(Clone, Copy, Debug, PartialEq, Eq)]
+#[derive(Clone, Copy, PartialEq, Eq)]
 enum Kind {
     Loaded,
     Unreadable,

@@ -1,7 +1,7 @@
 //! What an enforcing call works under.
 
 /// The threshold that steps are allowed at, and how many steps a block may have.
-#[derive(Clone, Copy, Debug, PartialEq, Eq)]
+#[derive(Clone, Copy)]
 pub struct Limits {
     pub threshold: u64,
     pub steps: usize,
@@ -9,7 +9,7 @@ pub struct Limits {
 
 /// Why an enforcing call does not go on: the floor reached the threshold or a variable has no live value, or a step was due
 /// and the block was as long as it may be.
-#[derive(Clone, Copy, Debug, PartialEq, Eq)]
+#[derive(Clone, Copy)]
 pub enum Halt {
     Dead,
     Spent,

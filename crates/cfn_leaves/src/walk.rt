@@ -15,7 +15,7 @@ use cfn_proof::{Block, End, NodeId, Step, Tree};
 use std::alloc::{AllocError, Global};
 
 /// A node, with the floor before its block or after it.
-#[derive(Clone, Copy, Debug, PartialEq, Eq)]
+#[derive(Clone, Copy)]
 pub(crate) struct Spot {
     pub(crate) node: NodeId,
     pub(crate) floor: u128,

@@ -5,7 +5,7 @@ ghost use Rattle.cfn_line.specs.Appending.{Appends, IsOpen};
 use cfn_desk::{Desk, Failed};
 
 /// Where a text goes.
-#[derive(Clone, Copy, Debug, PartialEq, Eq)]
+#[derive(Clone, Copy)]
 pub enum Channel {
     /// Behind the bytes of the file that is being written.
     File,

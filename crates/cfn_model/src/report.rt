@@ -1,7 +1,7 @@
 //! What a report of `solve` says beside its certificate.
 
 /// Bounds that held at one moment of a search.
-#[derive(Clone, Copy, Debug, PartialEq, Eq)]
+#[derive(Clone, Copy, PartialEq, Eq)]
 pub struct Row {
     /// At most the cost of every assignment.
     pub lower: u64,
@@ -10,7 +10,7 @@ pub struct Row {
 }
 
 /// How a search ended.
-#[derive(Clone, Copy, Debug, PartialEq, Eq)]
+#[derive(Clone, Copy, PartialEq, Eq)]
 pub enum ResultWord {
     /// The best assignment is of least cost.
     Optimum,

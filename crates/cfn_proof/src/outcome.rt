@@ -4,7 +4,7 @@ use crate::certificate::Certificate;
 use cfn_model::Row;
 
 /// Why a search stopped.
-#[derive(Clone, Copy, Debug, PartialEq, Eq)]
+#[derive(Clone, Copy, PartialEq, Eq)]
 pub enum Stop {
     /// No leaf is open.
     Done,

@@ -17,13 +17,13 @@ use std::marker::Model;
 use std::sync::Arc;
 
 /// The number of a node in its tree. The root has number 0.
-#[derive(Clone, Copy, Debug, PartialEq, Eq)]
+#[derive(Clone, Copy, PartialEq, Eq)]
 pub struct NodeId {
     pub number: u32,
 }
 
 /// How a node ends.
-#[derive(Clone, Copy, Debug, PartialEq, Eq)]
+#[derive(Clone, Copy)]
 pub enum End {
     /// An open leaf.
     Free,

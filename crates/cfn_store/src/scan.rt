@@ -14,7 +14,7 @@ use cfn_live::LiveSets;
 use std::slice;
 
 /// Which residual cost is looked for.
-#[derive(Clone, Copy, Debug, PartialEq, Eq)]
+#[derive(Clone, Copy)]
 pub enum Sense {
     Least,
     Greatest,

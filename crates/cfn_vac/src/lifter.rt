@@ -24,7 +24,7 @@ use std::marker::Model;
 
 /// What trying to lift came to. Lifted: the floor rose. Closed: nothing can be gathered at the amount. Blocked: a step of the plan
 /// asks for more than its place has. Spent: the block has no room for the plan.
-#[derive(Clone, Copy, Debug, PartialEq, Eq)]
+#[derive(Clone, Copy, PartialEq, Eq)]
 pub enum Lifting {
     Lifted,
     Closed,

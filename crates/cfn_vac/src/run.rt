@@ -9,7 +9,7 @@ use cfn_model::Step;
 use cfn_store::Store;
 
 /// A step that cannot be made, and the greatest amount with which it could be.
-#[derive(Clone, Copy, Debug, PartialEq, Eq)]
+#[derive(Clone, Copy)]
 pub(crate) struct Refusal {
     pub step: Step,
     pub capacity: u64,

@@ -42,7 +42,7 @@ const MOST_DELETIONS: u64 = 2_097_152;
 
 /// What an attempt to lift came to: the floor rose; a ban was made, and another attempt may lift; none may at this amount; or
 /// none may at all.
-#[derive(Clone, Copy, Debug, PartialEq, Eq)]
+#[derive(Clone, Copy)]
 enum Attempt {
     Rose,
     Banned,

@@ -17,7 +17,7 @@ use std::marker::Model;
 pub(crate) const MOST_CLAUSE_VARIABLES: usize = 22;
 
 /// In which polarities a variable stands in a clause.
-#[derive(Clone, Copy, Debug, PartialEq, Eq)]
+#[derive(Clone, Copy)]
 pub(crate) enum Polarity {
     /// Not negated.
     Positive,
@@ -62,7 +62,7 @@ impl Polarity {
 }
 
 /// A variable of a clause, counted from 0, with its polarity.
-#[derive(Clone, Copy, Debug)]
+#[derive(Clone, Copy)]
 pub(crate) struct Occurrence {
     variable: u32,
     polarity: Polarity,

@@ -6,7 +6,7 @@ ghost use Rattle.cfn_wcsp.specs.Fields.{check_of};
 use cfn_model::{Kind, MOST_CELLS, MOST_FUNCTIONS, MOST_VALUES, MOST_VARIABLES};
 
 /// What a number of the file says.
-#[derive(Clone, Copy, Debug)]
+#[derive(Clone, Copy)]
 pub enum Field {
     /// The number of variables.
     Variables,

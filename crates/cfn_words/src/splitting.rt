@@ -7,7 +7,7 @@ ghost use Rattle.cfn_words.specs.Splitting.{left};
 use std::marker::Model;
 
 /// Where a word stands in its text.
-#[derive(Clone, Copy, Debug, PartialEq, Eq)]
+#[derive(Clone, Copy)]
 pub struct Word {
     /// The index of its first byte.
     pub start: usize,
@@ -18,7 +18,7 @@ pub struct Word {
 }
 
 /// A text of which words are taken from left to right.
-#[derive(Drop, Debug)]
+#[derive(Drop)]
 pub struct Words<'a> {
     text: &'a [u8],
     at: usize,

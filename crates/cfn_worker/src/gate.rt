@@ -1,7 +1,7 @@
 //! A gate that workers pass, by which a test can hold them.
 
 /// Where a worker passes the gate.
-#[derive(Clone, Copy, Debug, PartialEq, Eq)]
+#[derive(Clone, Copy, PartialEq, Eq)]
 pub enum Point {
     /// It has taken a task.
     Taken,
@@ -20,7 +20,7 @@ pub trait Gate {
 }
 
 /// The gate that returns at once.
-#[derive(Clone, Copy, Debug, PartialEq, Eq)]
+#[derive(Clone, Copy)]
 pub struct OpenGate;
 
 impl Gate for OpenGate {
