@@ -9,7 +9,7 @@ use cfn_wcsp::ReadFault as WordFault;
 use std::alloc::AllocError;
 
 /// The first word of a wcnf file that fails a check, counted from 1, and why.
-#[derive(Clone, Copy)]
+#[derive(Clone, Copy, Debug)]
 pub enum Unread {
     /// The word is not the header's: word 1 is not `p`, or word 2 is not `wcnf`.
     Header(u64),
