@@ -7,7 +7,7 @@ use Rattle.cfn_model.specs.declared.step.Decision.TheVariants.{Most}
 use Rattle.cfn_model.specs.Sums.{is_live}
 use Rattle.cfn_live.specs.Sets.{live_below}
 use Rattle.cfn_store.specs.Standing.{Standing, history}
-use Rattle.cfn_enforce.specs.Splits.{IsSplit}
+use Rattle.cfn_branch.specs.Splits.{IsSplit}
 use Rattle.cfn_branch.specs.Choosing.{choices, IsOpen}
 use Rattle.cfn_branch.specs.Fewest.{half_of, IsMiddle}
 use Rattle.cfn_branch.proofs.Ordering.{order}

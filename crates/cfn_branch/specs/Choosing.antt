@@ -9,7 +9,7 @@ use Rattle.cfn_live.specs.Sets.{live_count}
 use Rattle.cfn_store.specs.Standing.{Standing, history}
 use Rattle.cfn_store.specs.Rooms.{sets_of}
 use Rattle.cfn_branch.specs.declared.choosing.Score.{Score}
-pub use Rattle.cfn_enforce.specs.Splits.{AllDecided, IsChoice, IsSplit}
+pub use Rattle.cfn_branch.specs.Splits.{AllDecided, IsChoice, IsSplit}
 
 -- How many values of x are live.
 abbrev pub choices : Standing → ℕ → ℕ

@@ -1,5 +1,5 @@
+pub mod Splits
 pub mod Weighing
 pub mod Choosing
 pub mod Passing
 pub mod Fewest
-pub mod Naming

@@ -3,19 +3,17 @@
 //! - `choose` names the variable by weighted degree, `cheapest` the value by its unary cost (`choosing.rt`);
 //! - `Weights` has the weight of each function, which `blame` raises (`weights.rt`);
 //! - `split_fewest` names the variable of the fewest live values, and halves them where there are many (`fewest.rt`);
-//! - `Degrees` and `Fewest` are these, as branchers of a search (`naming.rt`), and `Rule` says which of them (`rule.rt`).
+//! - `Rule` says by which of them a search splits (`rule.rt`).
 //!
 //! A caller blames the function by which an enforcing call ended dead; a search keeps the weights for its whole run.
 #![tactic(auto)]
 
 mod choosing;
 mod fewest;
-mod naming;
 mod rule;
 mod weights;
 
 pub use choosing::{cheapest, choose};
 pub use fewest::{HALVED_FROM, choose_fewest, middle, split_fewest};
-pub use naming::{Degrees, Fewest};
 pub use rule::Rule;
 pub use weights::{MOST_WEIGHT, Weights};

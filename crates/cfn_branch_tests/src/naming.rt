@@ -1,9 +1,8 @@
-//! What a brancher names at the root of a small network.
+//! What the root of a small network is split by.
 
 ghost use Rattle.std.specs.Prelude.{◌≡◌, length};
 
-use cfn_branch::{Degrees, Fewest, Weights, choose};
-use cfn_enforce::Brancher;
+use cfn_branch::{Weights, choose, split_fewest};
 use cfn_incidence::Incidence;
 use cfn_model::Decision;
 use cfn_net::{Builder, Network};
@@ -86,57 +85,12 @@ fn variable_in_the_middle_is_chosen(rt: HostRuntime) -> Result<(), Fail> {
     Ok(())
 }
 
-/// The decision that a brancher names in a store.
-fn decision_in<'n, B: Brancher<'n>>(
-    alloc: Global,
-    network: &'n Network,
-    incidence: &Incidence,
-    store: &Store<'_>,
-) -> Result<Option<Decision>, AllocError>
-    requires store { store.now.network ≡ network.now }
-    requires incidence { incidence.now ≡ network.now }
-{
-    let brancher = B::make(alloc, network)?;
-    Ok(brancher.choose(store, incidence))
-}
-
-/// The decision that a brancher names in a store at a network's root.
-fn decision_over<'n, B: Brancher<'n>>(
-    alloc: Global,
-    network: &'n Network,
-    incidence: &Incidence,
-) -> Result<Option<Decision>, AllocError>
-    requires { incidence.now ≡ network.now }
-{
+/// What a network's root is split by, where fewest live values name it.
+fn split_at_root(alloc: Global, network: &Network) -> Result<Option<Decision>, AllocError> {
     let store = Store::build(alloc, network)?;
-    let decision = decision_in::<B>(alloc, network, incidence, &store);
+    let decision = split_fewest(&store);
     drop(store);
-    decision
-}
-
-/// The decision that a brancher names at a network's root.
-fn decision_at_root<'n, B: Brancher<'n>>(
-    alloc: Global,
-    network: &'n Network,
-) -> Result<Option<Decision>, AllocError> {
-    let incidence = Incidence::build(alloc, network)?;
-    let decision = decision_over::<B>(alloc, network, &incidence);
-    drop(incidence);
-    decision
-}
-
-#[test]
-fn search_names_a_decision(rt: HostRuntime) -> Result<(), Fail> {
-    let network = row(rt.alloc())?;
-    let middle = Decision::Is {
-        variable: 1,
-        value: 0,
-    };
-    assert_eq!(rt;
-        decision_at_root::<Degrees<'_>>(rt.alloc(), &network)?,
-        Some(middle)
-    );
-    Ok(())
+    Ok(decision)
 }
 
 #[test]
@@ -146,10 +100,7 @@ fn few_values_are_tried_one_by_one(rt: HostRuntime) -> Result<(), Fail> {
         variable: 0,
         value: 0,
     };
-    assert_eq!(rt;
-        decision_at_root::<Fewest<'_>>(rt.alloc(), &network)?,
-        Some(first)
-    );
+    assert!(rt; split_at_root(rt.alloc(), &network)? == Some(first));
     Ok(())
 }
 
@@ -160,9 +111,6 @@ fn many_values_are_halved(rt: HostRuntime) -> Result<(), Fail> {
         variable: 1,
         value: 3,
     };
-    assert_eq!(rt;
-        decision_at_root::<Fewest<'_>>(rt.alloc(), &network)?,
-        Some(half)
-    );
+    assert!(rt; split_at_root(rt.alloc(), &network)? == Some(half));
     Ok(())
 }

@@ -1,3 +1,2 @@
 pub mod Revising
 pub mod Settling
-pub mod Rising

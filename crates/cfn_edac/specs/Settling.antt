@@ -1,11 +1,10 @@
 -- What a call of the enforcer answers.
-use Rattle.std.specs.Prelude.{◌≤◌, length}
+use Rattle.std.specs.Prelude.{◌≡◌, ℕ, ◌≤◌, List, ◌∷◌, length}
 use Rattle.cfn_model.specs.declared.step.Event.{Event}
 use Rattle.cfn_consistency.specs.Consistency.{IsDead, AreFullyConsistent}
 use Rattle.cfn_nc.specs.declared.settling.Settling.{Settling}
 use Rattle.cfn_nc.specs.declared.settling.Settling.TheVariants.{Settled, Dead, Spent}
 use Rattle.cfn_store.specs.Standing.{Standing, history}
-use Rattle.cfn_enforce.specs.Settled.{IsBehind}
 use Rattle.cfn_gain.specs.declared.limits.Limits.{Limits}
 use Rattle.cfn_gain.specs.Gains.{Gained, IsOpen, IsDue}
 
@@ -16,8 +15,11 @@ Answers s limits Dead = IsDead s.network (history s) limits.threshold
 Answers s limits Spent = limits.steps ≤ length s.block
 
 -- A store stands one event behind a place where it was fully consistent at some threshold.
-abbrev pub IsBehindSettled : Standing → Event → Type 0
-IsBehindSettled s event = IsBehind AreFullyConsistent s event
+pub record IsBehindSettled (s : Standing) (event : Event) : Type 0 where
+  pub before : List Event
+  pub threshold : ℕ
+  pub path : history s ≡ event ∷ before
+  pub settled : AreFullyConsistent s.network before threshold
 
 -- What a call gains: the steps that it added are groups. Spent: the last of them may be unfinished, and a step is due, since
 -- the store is not fully consistent.

@@ -3,7 +3,7 @@
 //! - `networks` builds a network, `draws` draws some, and `places` has where a variable stands in scopes.
 //! - `trees` has blocks, paths and trees.
 //! - `waiting` has the queue, `table` rows of different lengths, and `values` the live values.
-//! - `nodes` has node consistency, and `leaves` the closing of a leaf.
+//! - `nodes` has node consistency.
 //! - `listing` has the open list, `handing` the leaves of a tree that are handed out, and `pooling` a pool over them; `halving`
 //!   splits a task's leaf for these.
 #![tactic(auto)]
@@ -14,8 +14,6 @@ mod draws;
 mod halving;
 #[cfg(test)]
 mod handing;
-#[cfg(test)]
-mod leaves;
 #[cfg(test)]
 mod listing;
 #[cfg(test)]
