@@ -8,6 +8,7 @@
 //!
 //! - `program` has `run`, and `solving`, `checking`, `costing`, `normalizing`, `trying` and `migrating` have a command each,
 //!   as specs/ has.
+//! - `searching` is the search of a network: `cfn_search` by the divers of `cfn_dive`.
 //! - `loading` goes from the names of files to bytes and a network in a format, and `output` writes a certificate and
 //!   says its report. `status` has the statuses.
 //! - A `Gate` is what the workers of a search pass (`cfn_search`).
@@ -20,6 +21,7 @@ mod migrating;
 mod normalizing;
 mod output;
 mod program;
+mod searching;
 mod solving;
 mod status;
 mod trying;

@@ -1,10 +1,12 @@
 //! A search by the rule of the fewest live values halves them where there are many.
 
 use cfn_branch::Rule;
+use cfn_dive::Divers;
+use cfn_explore::Problem;
 use cfn_model::Decision;
-use cfn_net::Network;
+use cfn_net::{Network, Tables};
 use cfn_proof::{End, NodeId, Outcome, Stop, Tree};
-use cfn_search::solve_by;
+use cfn_search::solve;
 use std::alloc::{AllocError, Global};
 use std::test::Fail;
 
@@ -27,10 +29,17 @@ struct Found {
     halved: bool,
 }
 
+/// A whole search by a rule.
+fn solve_by(alloc: Global, network: &Network, rule: Rule) -> Result<Outcome, AllocError> {
+    let tables = Tables::expand(alloc, network)?;
+    let divers = Divers::by(network, &tables, rule);
+    solve(alloc, &Problem::of(network, &divers), AMPLE)
+}
+
 /// What a whole search by a rule finds.
 fn searched(alloc: Global, rule: Rule) -> Result<Found, Fail> {
     let network = cfn_wcsp::read(alloc, EIGHT.as_bytes())?;
-    let outcome = solve_by(alloc, &network, AMPLE, rule)?;
+    let outcome = solve_by(alloc, &network, rule)?;
     Ok(Found {
         done: outcome.stop == Stop::Done,
         lower: outcome.certificate.lower,

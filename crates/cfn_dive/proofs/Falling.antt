@@ -3,7 +3,7 @@ use Rattle.std.proofs.Common.{◌≡◌, ℕ, ◌≤◌, Bool, true, false, nat_
 use Rattle.cfn_model.specs.Network.{Network}
 use Rattle.cfn_model.specs.Certificate.{Solution, threshold_of}
 use Rattle.cfn_low.specs.Holding.{Holding, kept, price_of}
-use Rattle.cfn_dive.specs.Diving.{HasFallen}
+use Rattle.cfn_explore.specs.Falling.{HasFallen}
 
 cheaper_by : (upper : ℕ) (b : Bool) (one other : Option Solution) → nat_lt (threshold_of upper other) (threshold_of upper one) ≡ b → threshold_of upper (if b then other else one) ≤ threshold_of upper one
 cheaper_by upper true one other is = let h = ltb-true (threshold_of upper other) (threshold_of upper one) is in omega (arith, h)

@@ -10,7 +10,7 @@ use Rattle.cfn_model.specs.Tree.{open_leaves}
 use Rattle.cfn_proof.specs.declared.tree.Node.{Node}
 use Rattle.cfn_proof.specs.Nodes.{node_at, tree_at, IsLinked, split_behind_at, split_end, close_at}
 use Rattle.cfn_proof.proofs.CallerLemmas.{length-split_behind_at, split_behind_at-same, split_behind_at-other, split_behind_at-first, split_behind_at-second, length-close_at, close_at-same, close_at-other}
-use Rattle.cfn_dive.specs.Backtracks.{one_if_none, backtracks}
+use Rattle.cfn_explore.specs.Backtracks.{one_if_none, backtracks}
 use Rattle.cfn_dive.specs.Stack.{Place, IsOpenLeaf, IsNone, Stack, at_leaf, in_first, in_second}
 use Rattle.cfn_dive.proofs.Stacks.{IsChanged, last_of, none_last, as_split, as_free, as_shut, some_open, other_open, split_apart, first_same, took_trees, refused_trees}
 

@@ -7,3 +7,5 @@ pub mod Falling
 pub mod Onwards
 pub mod Makings
 pub mod Splitting
+pub mod Crossing
+pub mod CallerLemmas

@@ -13,11 +13,12 @@ use Rattle.cfn_dive.specs.declared.parts.Parts.{Parts}
 use Rattle.cfn_dive.specs.declared.growing.Grown.{Grown}
 use Rattle.cfn_dive.specs.declared.growth.Growth.{Growth}
 use Rattle.cfn_dive.specs.declared.growth.Leaf.{Leaf}
-use Rattle.cfn_dive.specs.Backtracks.{backtracks}
+use Rattle.cfn_explore.specs.Backtracks.{backtracks}
 use Rattle.cfn_dive.specs.Stack.{Stack, at_leaf}
 use Rattle.cfn_dive.specs.Growing.{AreEnforced, IsGrown}
 use Rattle.cfn_dive.specs.Diving.{IsAt, IsDiving, GoesOn}
-use Rattle.cfn_dive.specs.Making.{HasEnded, IsMade}
+use Rattle.cfn_explore.specs.Exploring.{HasEnded}
+use Rattle.cfn_dive.specs.Making.{IsMade}
 
 pub small_here : (P : Network) (path : List Event) → TameAlong P path → HasSmallCosts P path
 small_here P [] tame = tame

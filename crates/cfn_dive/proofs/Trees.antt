@@ -12,7 +12,7 @@ use Rattle.cfn_model.specs.Tree.{CanClose, IsStrictSplit, Valid, Strict, count, 
 use Rattle.cfn_model.proofs.CallerLemmas.{valid_lower, small_took, small_refused}
 use Rattle.cfn_proof.specs.declared.tree.Node.{Node}
 use Rattle.cfn_proof.specs.Nodes.{node_at, tree_at, tree_of, IsLinked, split_behind_at, close_at}
-use Rattle.cfn_dive.specs.Backtracks.{one_if_none, backtracks}
+use Rattle.cfn_explore.specs.Backtracks.{one_if_none, backtracks}
 use Rattle.cfn_dive.specs.Stack.{Place, IsOpenLeaf, Stack}
 use Rattle.cfn_dive.specs.Growing.{IsEnforced, AreEnforced, IsGrown}
 use Rattle.cfn_dive.proofs.Stacks.{IsChanged, current_open, climbed}

@@ -13,7 +13,6 @@ use Rattle.cfn_proof.specs.declared.tree.NodeId.{NodeId}
 use Rattle.cfn_proof.specs.Nodes.{tree_of}
 use Rattle.cfn_store.specs.Standing.{Standing, history}
 use Rattle.cfn_edac.specs.Settling.{IsBehindSettled}
-use Rattle.cfn_low.specs.Holding.{Holding, price_of}
 use Rattle.cfn_node.specs.Enforcing.{IsSettledAt}
 use Rattle.cfn_node.specs.Limit.{step_limit}
 use Rattle.cfn_dive.specs.declared.parts.Parts.{Parts}
@@ -33,12 +32,6 @@ pub record IsOf (P : Network) (p : Parts) : Type 0 where
   pub steps : p.steps ≡ step_limit P
   pub values : length p.values.items ≡ length P.sizes
   pub offer : p.offer.network ≡ P
-
--- What a part of the word has seen, and the price of what it keeps, do not rise; its shares stay.
-pub record HasFallen (P : Network) (old new : Holding) : Type 0 where
-  pub shares : new.shares ≡ old.shares
-  pub seen : new.seen ≤ old.seen
-  pub price : price_of P new ≤ price_of P old
 
 -- A leaf that waits stands behind its mark, where its decision is refused.
 abbrev pub place_of : Waiting → Place

@@ -11,7 +11,7 @@ use Rattle.cfn_consistency.specs.Consistency.{AreFullyConsistent}
 use Rattle.cfn_proof.specs.declared.tree.Node.{Node}
 use Rattle.cfn_proof.specs.Nodes.{tree_of}
 use Rattle.cfn_node.specs.Limit.{step_limit}
-use Rattle.cfn_dive.specs.Backtracks.{backtracks}
+use Rattle.cfn_explore.specs.Backtracks.{backtracks}
 
 -- Behind a block the network is fully consistent at its upper bound, or the block has all steps that it may have.
 abbrev pub IsEnforced : Network → List Event → List Step → Type 0

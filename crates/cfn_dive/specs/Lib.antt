@@ -1,4 +1,3 @@
-pub mod Backtracks
 pub mod Stack
 pub mod Growing
 pub mod Diving

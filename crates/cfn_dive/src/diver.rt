@@ -1,12 +1,15 @@
 //! What a worker has for its dives, and what it makes of a task.
 
 ghost use Rattle.std.specs.Prelude.{◌≡◌, ◌≤◌, IfOk};
-ghost use Rattle.cfn_dive.specs.Diving.{HasFallen};
-ghost use Rattle.cfn_dive.specs.Making.{IsMade, IsDived};
+ghost use Rattle.cfn_explore.specs.Falling.{HasFallen};
+ghost use Rattle.cfn_explore.specs.Exploring.{IsExplored};
+ghost use Rattle.cfn_dive.specs.Growing.{AreEnforced};
+ghost use Rattle.cfn_dive.specs.Making.{IsMade};
 
 use crate::growing::Grown;
 use crate::parts::Parts;
 use cfn_branch::Rule;
+use cfn_explore::{Explore, Explored};
 use cfn_low::{Holder, Incumbent, Low};
 use cfn_net::{Network, Tables};
 use cfn_task::{Piece, Task};
@@ -29,13 +32,6 @@ impl<'n> Model for Diver<'n> {
     ghost view = { λ d. d.parts.store.network };
 
     ghost invariant = { λ d. IsOf d.parts.store.network d.parts };
-}
-
-/// What a dive makes of a task: a piece, and whether the dive made all its backtracks; or, at want of memory, nothing.
-#[derive(Drop)]
-pub enum Dived {
-    Piece { piece: Piece, cut: bool },
-    Memory { task: Task },
 }
 
 impl<'n> Diver<'n> {
@@ -68,13 +64,13 @@ impl<'n> Diver<'n> {
         low: &Low<M>,
         holder: &mut Holder<M>,
         backtracks: u64,
-    ) -> Dived
+    ) -> Explored
         requires network { network.now ≡ self.old }
         requires task { task.network ≡ self.old }
         requires word { M.network ≡ self.old }
         requires some { 1 ≤ backtracks }
         ensures falls { HasFallen M.network holder.old holder.new }
-        ensures dives { IsDived task backtracks holder.new.seen result }
+        ensures dives { IsExplored AreEnforced task backtracks holder.new.seen result }
         ensures same { self.new ≡ self.old }
     {
         let made = self
@@ -84,21 +80,42 @@ impl<'n> Diver<'n> {
     }
 }
 
+/// A diver explores by its dives: it keeps that each split is behind an enforced block.
+impl<'n> Explore for Diver<'n> {
+    ghost use Rattle.cfn_dive.specs.Growing.{AreEnforced};
+
+    ghost made_of = { λ d. d };
+
+    ghost keeps = { AreEnforced };
+
+    fn explore<M: Incumbent>(
+        &mut self,
+        alloc: Global,
+        network: &Network,
+        task: Task,
+        low: &Low<M>,
+        holder: &mut Holder<M>,
+        backtracks: u64,
+    ) -> Explored {
+        self.dive(alloc, network, task, low, holder, backtracks)
+    }
+}
+
 /// The piece of a task with a tree that was made, or the task itself where none was.
 fn handed_back(
     task: Task,
     made: Result<Grown, AllocError>,
     threshold: u64,
     backtracks: u64,
-) -> Dived
+) -> Explored
     requires { IfOk made (λ made. IsMade task.network task.task backtracks threshold made.tree made.cut) }
-    ensures { IsDived task backtracks threshold result }
+    ensures { IsExplored AreEnforced task backtracks threshold result }
 {
     match made {
-        Ok(Grown { tree, cut }) => Dived::Piece {
+        Ok(Grown { tree, cut }) => Explored::Piece {
             piece: Piece::of(task, tree, threshold),
             cut,
         },
-        Err(AllocError) => Dived::Memory { task },
+        Err(AllocError) => Explored::Memory { task },
     }
 }

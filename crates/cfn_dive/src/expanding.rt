@@ -10,7 +10,8 @@ ghost use Rattle.cfn_branch.specs.Choosing.{AllDecided, IsSplit};
 ghost use Rattle.cfn_edac.specs.Settling.{IsBehindSettled};
 ghost use Rattle.cfn_node.specs.Limit.{step_limit};
 ghost use Rattle.cfn_node.specs.Enforcing.{Finds, IsSpent};
-ghost use Rattle.cfn_dive.specs.Diving.{IsOf, HasFallen, IsWaiting, IsDiving, IsExpanding, IsExpanded, IsClosing, IsSettledOrSpent, IsSameDive, place_of};
+ghost use Rattle.cfn_explore.specs.Falling.{HasFallen};
+ghost use Rattle.cfn_dive.specs.Diving.{IsOf, IsWaiting, IsDiving, IsExpanding, IsExpanded, IsClosing, IsSettledOrSpent, IsSameDive, place_of};
 
 use crate::growth::{Growth, Leaf};
 use crate::parts::{Parts, Waiting};

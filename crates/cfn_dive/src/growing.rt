@@ -3,7 +3,8 @@
 ghost use Rattle.std.specs.Prelude.{◌≡◌, false, ◌≤◌, [], IfOk};
 ghost use Rattle.cfn_model.specs.Tree.{Closed};
 ghost use Rattle.cfn_proof.specs.Nodes.{tree_of};
-ghost use Rattle.cfn_dive.specs.Diving.{IsOf, HasFallen, IsDiving};
+ghost use Rattle.cfn_dive.specs.Diving.{IsOf, IsDiving};
+ghost use Rattle.cfn_explore.specs.Falling.{HasFallen};
 ghost use Rattle.cfn_dive.specs.Making.{Begins, IsMade};
 
 use crate::growth::{Growth, Leaf};

@@ -1,11 +1,14 @@
 //! The dive of hybrid best-first search: the tree below one leaf, made depth first (Allouche et al. 2015).
 //!
 //! - `diver.rt`: `Diver`, what a worker has for its dives, and what it makes of a task, a piece;
+//! - `divers.rt`: `Divers`, what makes the divers of a search;
 //! - `growing.rt`: a dive from its beginning to its end;
 //! - `expanding.rt`: one leaf is expanded: closed or split;
 //! - `deciding.rt`: by which decision, as the diver's rule names it;
 //! - `parts.rt`: what a diver is made of, and the leaves that wait;
 //! - `growth.rt`: the tree that a dive makes.
+//!
+//! A search knows divers by `cfn_explore`'s traits alone.
 //!
 //! A dive begins at the leaf of its task and expands the first child of a split next. The second child waits with a mark of
 //! where the store stood. Behind a closed leaf the store goes back to the newest mark, and refuses the decision there: that is
@@ -17,9 +20,11 @@
 
 mod deciding;
 mod diver;
+mod divers;
 mod expanding;
 mod growing;
 mod growth;
 mod parts;
 
-pub use diver::{Dived, Diver};
+pub use diver::Diver;
+pub use divers::Divers;

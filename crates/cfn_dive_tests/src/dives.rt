@@ -4,7 +4,8 @@ ghost use Rattle.std.specs.Prelude.{◌≡◌, ◌≤◌, None, IfOk, IfSome};
 ghost use Rattle.cfn_task.specs.Values.{IsTaskOf};
 
 use cfn_branch::Rule;
-use cfn_dive::{Dived, Diver};
+use cfn_dive::Diver;
+use cfn_explore::Explored;
 use cfn_low::{Holder, Incumbent, Low, Unnamed};
 use cfn_net::{Builder, Network, Scored, Tables};
 use cfn_pool::{Pool, Taken};
@@ -106,8 +107,8 @@ fn dive_below<M: Incumbent>(
     requires some { 1 ≤ backtracks }
 {
     match diver.dive(alloc, network, task, low, part, backtracks) {
-        Dived::Piece { piece, cut } => Ok(Some(told_by(&piece, cut))),
-        Dived::Memory { .. } => Err(AllocError),
+        Explored::Piece { piece, cut } => Ok(Some(told_by(&piece, cut))),
+        Explored::Memory { .. } => Err(AllocError),
     }
 }
 

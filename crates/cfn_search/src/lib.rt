@@ -2,6 +2,7 @@
 //!
 //! `solve` and `solve_together` make the outcome that a report and a certificate are written from. Their contract is the
 //! promise of every search, as `cfn_proof` defines it: a good certificate with its tree's bound, and why the search stopped.
+//! What makes a piece of a task they are given with the network, as a `Problem`.
 //!
 //! - `search.rt`: the search on one thread, and one dive of it;
 //! - `team.rt`: the search by several workers, from the first share of the word to the last;
@@ -15,5 +16,5 @@ mod search;
 mod team;
 
 pub use cfn_worker::{Gate, OpenGate, Point, Threshold};
-pub use search::{solve, solve_by};
+pub use search::solve;
 pub use team::{Teamwork, solve_together};

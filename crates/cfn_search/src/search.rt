@@ -11,10 +11,9 @@ ghost use Rattle.cfn_worker.specs.Searching.{IsSearch, GoesOn, HasMore};
 ghost use Rattle.cfn_worker.specs.Granting.{IsLimit};
 
 use crate::outcome::{conclude, meet, wind_up};
-use cfn_branch::Rule;
-use cfn_dive::Diver;
+use cfn_explore::{Explore, Explorers, Problem};
 use cfn_low::{Holder, Incumbent, Low, Unnamed};
-use cfn_net::{Network, Scored, Tables};
+use cfn_net::{Network, Scored};
 use cfn_pool::Pool;
 use cfn_proof::Outcome;
 use cfn_worker::{Account, Asked, FEWEST_BACKTRACKS, Threshold, hand_in, sweep, take, wanted};
@@ -26,54 +25,43 @@ const WORKER: u32 = 0;
 
 /// Searches a network for an assignment of least cost, making at most `budget` nodes: splits and closed leaves.
 ///
-/// A dive begins at the open leaf of least floor, and goes depth first from there; what it made takes the place of the leaf.
-/// Where memory is refused the search stops with the leaf still open, and hands out what it has; an `Err` is want of memory
-/// before the search stands.
-pub fn solve(alloc: Global, network: &Network, budget: u64) -> Result<Outcome, AllocError>
-    requires { budget ≤ GREATEST }
-    ensures { IfOk result (IsOutcome network.now budget) }
-{
-    solve_by(alloc, network, budget, Rule::Degrees)
-}
-
-/// Searches as `solve` does, with splits that `rule` names.
-pub fn solve_by(
+/// A dive begins at the open leaf of least floor, and goes on below it as its explorer does; what it made takes the place of
+/// the leaf. Where memory is refused the search stops with the leaf still open, and hands out what it has; an `Err` is want
+/// of memory before the search stands.
+pub fn solve<X: Explorers>(
     alloc: Global,
-    network: &Network,
+    network: &Problem<'_, X>,
     budget: u64,
-    rule: Rule,
 ) -> Result<Outcome, AllocError>
     requires { budget ≤ GREATEST }
     ensures { IfOk result (IsOutcome network.now budget) }
 {
-    let (outcome, _) = solve_alone(alloc, network, budget, rule)?;
+    let (outcome, _) = solve_alone(alloc, network, budget)?;
     Ok(outcome)
 }
 
 /// Searches so, and tells the least threshold at which a piece was made too.
-pub(crate) fn solve_alone(
+pub(crate) fn solve_alone<X: Explorers>(
     alloc: Global,
-    network: &Network,
+    network: &Problem<'_, X>,
     budget: u64,
-    rule: Rule,
 ) -> Result<(Outcome, Threshold), AllocError>
     requires { budget ≤ GREATEST }
     ensures outcome { IfOk result (λ found. IsOutcome network.now budget found.0) }
     ensures most { IfOk result (λ found. found.1 ≤ network.now.upper) }
     ensures least { IfOk result (λ found. threshold (certificate_of found.0.certificate) ≤ found.1) }
 {
+    let (network, explorers) = (network.network(), network.explorers());
     let unnamed = Unnamed::make(alloc, network)?;
     let empty = Scored::empty(alloc, network)?;
-    let tables = Tables::expand(alloc, network)?;
-    search::<Brand>(alloc, network, &tables, rule, unnamed, empty, budget)
+    search::<Brand, X>(alloc, network, explorers, unnamed, empty, budget)
 }
 
 /// The search, over a word by its name.
-fn search<M: Incumbent>(
+fn search<M: Incumbent, X: Explorers>(
     alloc: Global,
     network: &Network,
-    tables: &Tables,
-    rule: Rule,
+    explorers: &X,
     unnamed: Unnamed,
     empty: Scored,
     budget: u64,
@@ -81,7 +69,7 @@ fn search<M: Incumbent>(
     requires table { M.table ≡ unnamed.table }
     requires network { M.network ≡ unnamed.network }
     requires own { network.now ≡ unnamed.network }
-    requires tables { tables.now ≡ unnamed.network }
+    requires explorers { X.network explorers.now ≡ unnamed.network }
     requires empty { empty ≡ record { network = unnamed.network; held = None } }
     ensures outcome { IfOk result (λ found. IsOutcome network.now budget found.0) }
     ensures most { IfOk result (λ found. found.1 ≤ network.now.upper) }
@@ -90,7 +78,7 @@ fn search<M: Incumbent>(
     let (low, mut holder) = unnamed.named::<M>();
     let mut account = Account::open(low.split(&mut holder, empty));
     let mut held = open(alloc, network, &low, holder, budget)?;
-    work(alloc, network, tables, rule, &low, &mut held, &mut account)?;
+    work(alloc, network, explorers, &low, &mut held, &mut account)?;
     Ok(ended(network, low, held, account))
 }
 
@@ -137,41 +125,40 @@ fn ended<M: Incumbent>(
     (conclude(network, low, held), threshold)
 }
 
-/// Makes what it dives with, and dives until there is no leaf to take, or memory is refused. An `Err` is want of memory before
-/// the first dive.
-fn work<M: Incumbent>(
+/// Makes its explorer, and dives until there is no leaf to take, or memory is refused. An `Err` is want of memory before the
+/// first dive.
+fn work<M: Incumbent, X: Explorers>(
     alloc: Global,
     network: &Network,
-    tables: &Tables,
-    rule: Rule,
+    explorers: &X,
     low: &Low<M>,
     held: &mut Pool<M>,
     account: &mut Account<M>,
 ) -> Result<(), AllocError>
     requires own { network.now ≡ M.network }
-    requires tables { tables.now ≡ M.network }
+    requires explorers { X.network explorers.now ≡ M.network }
     requires search { IsSearch M.network (pool held.old) }
     ensures goes { GoesOn M.network (pool held.old) (pool held.new) }
     ensures shares { account.new.part.shares ≡ account.old.part.shares }
     ensures falls { account.new.least ≤ account.old.least }
 {
-    let mut diver = Diver::make(alloc, network, tables, rule)?;
-    dive_all(alloc, network, low, held, account, &mut diver);
-    drop(diver);
+    let mut explorer = explorers.make(alloc)?;
+    dive_all(alloc, network, low, held, account, &mut explorer);
+    drop(explorer);
     Ok(())
 }
 
 /// Dives until there is no leaf to take, or memory is refused.
-fn dive_all<M: Incumbent>(
+fn dive_all<M: Incumbent, E: Explore>(
     alloc: Global,
     network: &Network,
     low: &Low<M>,
     held: &mut Pool<M>,
     account: &mut Account<M>,
-    diver: &mut Diver<'_>,
+    explorer: &mut E,
 )
     requires own { network.now ≡ M.network }
-    requires diver { diver.old ≡ M.network }
+    requires explorer { E.made_of explorer.old ≡ M.network }
     requires search { IsSearch M.network (pool held.old) }
     ensures goes { GoesOn M.network (pool held.old) (pool held.new) }
     ensures shares { account.new.part.shares ≡ account.old.part.shares }
@@ -179,29 +166,29 @@ fn dive_all<M: Incumbent>(
 {
     held.kept();
     let mut limit = FEWEST_BACKTRACKS;
-    while let Some(next) = dive(alloc, network, low, held, account, diver, limit) {
+    while let Some(next) = dive(alloc, network, low, held, account, explorer, limit) {
         limit = next;
     }
 }
 
 /// One dive, of at most `limit` backtracks, and how many the next one may make; `None` where the search ends.
-fn dive<M: Incumbent>(
+fn dive<M: Incumbent, E: Explore>(
     alloc: Global,
     network: &Network,
     low: &Low<M>,
     held: &mut Pool<M>,
     account: &mut Account<M>,
-    diver: &mut Diver<'_>,
+    explorer: &mut E,
     limit: u64,
 ) -> Option<u64>
     requires own { network.now ≡ M.network }
-    requires diver { diver.old ≡ M.network }
+    requires explorer { E.made_of explorer.old ≡ M.network }
     requires search { IsSearch M.network (pool held.old) }
     requires limit { IsLimit limit }
     ensures goes { GoesOn M.network (pool held.old) (pool held.new) }
     ensures shares { account.new.part.shares ≡ account.old.part.shares }
     ensures falls { account.new.least ≤ account.old.least }
-    ensures diver { diver.new ≡ diver.old }
+    ensures explorer { E.made_of explorer.new ≡ E.made_of explorer.old }
     ensures next { IfSome result IsLimit }
     ensures more { IfSome result (λ next. HasMore (pool held.old) (pool held.new)) }
 {
@@ -211,7 +198,7 @@ fn dive<M: Incumbent>(
         Asked::Task { task } => task,
         Asked::Later | Asked::Over => return None,
     };
-    match task.dive(alloc, network, diver, low, account, limit) {
+    match task.dive(alloc, network, explorer, low, account, limit) {
         Ok(made) => hand_in(network, low, held, account, made, limit),
         Err(task) => {
             task.back(held);

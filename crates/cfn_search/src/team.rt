@@ -14,9 +14,9 @@ ghost use Rattle.cfn_worker.specs.Searching.{IsSearch};
 
 use crate::outcome::{conclude, meet, wind_up};
 use crate::search::{open, solve_alone};
-use cfn_branch::Rule;
+use cfn_explore::{Explorers, Problem};
 use cfn_low::{Holder, Incumbent, Low, Unnamed};
-use cfn_net::{Network, Scored, Tables};
+use cfn_net::{Network, Scored};
 use cfn_pool::Pool;
 use cfn_proof::Outcome;
 use cfn_rota::{Ends, deal};
@@ -42,10 +42,10 @@ pub struct Teamwork {
 /// answer keeps the whole contract. A worker that is refused memory for a dive ends, and the others go on with its leaf.
 ///
 /// The certificate's threshold is at most each threshold at which a worker made a piece.
-pub fn solve_together<R: Threads + Wait + Sync, G: Gate + Sync>(
+pub fn solve_together<X: Explorers + Sync, R: Threads + Wait + Sync, G: Gate + Sync>(
     rt: &R,
     alloc: Global,
-    network: &Network,
+    network: &Problem<'_, X>,
     workers: u32,
     budget: u64,
     gate: &G,
@@ -61,13 +61,19 @@ pub fn solve_together<R: Threads + Wait + Sync, G: Gate + Sync>(
     if workers == 1 {
         return solve_single(alloc, network, budget);
     }
+    let (network, explorers) = (network.network(), network.explorers());
     let unnamed = Unnamed::make(alloc, network)?;
-    let tables = Tables::expand(alloc, network)?;
-    search::<Brand, R, G>(rt, alloc, network, &tables, unnamed, workers, budget, gate)
+    search::<Brand, X, R, G>(
+        rt, alloc, network, explorers, unnamed, workers, budget, gate,
+    )
 }
 
 /// The search by a single worker.
-fn solve_single(alloc: Global, network: &Network, budget: u64) -> Result<Teamwork, AllocError>
+fn solve_single<X: Explorers>(
+    alloc: Global,
+    network: &Problem<'_, X>,
+    budget: u64,
+) -> Result<Teamwork, AllocError>
     requires { budget ≤ GREATEST }
     ensures outcome { IfOk result (λ found. IsOutcome network.now budget found.outcome) }
     ensures count { IfOk result (λ found. length found.thresholds.items ≡ 1) }
@@ -75,7 +81,7 @@ fn solve_single(alloc: Global, network: &Network, budget: u64) -> Result<Teamwor
     ensures least { IfOk result (λ found. All (λ k. threshold (certificate_of found.outcome.certificate) ≤ k) found.thresholds.items) }
 {
     let mut thresholds = Vec::with_capacity(alloc, 1)?;
-    let (outcome, own) = solve_alone(alloc, network, budget, Rule::Degrees)?;
+    let (outcome, own) = solve_alone(alloc, network, budget)?;
     thresholds.push_reserved(own);
     Ok(Teamwork {
         outcome,
@@ -84,11 +90,16 @@ fn solve_single(alloc: Global, network: &Network, budget: u64) -> Result<Teamwor
 }
 
 /// The search, over a word by its name.
-fn search<M: Incumbent + Squad + Send + Sync, R: Threads + Wait + Sync, G: Gate + Sync>(
+fn search<
+    M: Incumbent + Squad + Send + Sync,
+    X: Explorers + Sync,
+    R: Threads + Wait + Sync,
+    G: Gate + Sync,
+>(
     rt: &R,
     alloc: Global,
     network: &Network,
-    tables: &Tables,
+    explorers: &X,
     unnamed: Unnamed,
     workers: u32,
     budget: u64,
@@ -97,7 +108,7 @@ fn search<M: Incumbent + Squad + Send + Sync, R: Threads + Wait + Sync, G: Gate 
     requires table { M.table ≡ unnamed.table }
     requires network { M.network ≡ unnamed.network }
     requires own { network.now ≡ unnamed.network }
-    requires tables { tables.now ≡ unnamed.network }
+    requires explorers { X.network explorers.now ≡ unnamed.network }
     requires budget { M.budget ≡ budget }
     requires crew { M.crew ≡ workers }
     requires some { 1 ≤ workers }
@@ -112,30 +123,35 @@ fn search<M: Incumbent + Squad + Send + Sync, R: Threads + Wait + Sync, G: Gate 
     let (parts, ends) = supplies(alloc, network, &low, &mut holder, workers)?;
     let held = open(alloc, network, &low, holder, budget)?;
     let crew = recruit(alloc, parts, ends)?;
-    let (held, crew) = run(rt, alloc, network, tables, &low, held, crew, gate);
+    let (held, crew) = run(rt, alloc, network, explorers, &low, held, crew, gate);
     Ok(end_all(network, low, held, crew, thresholds))
 }
 
 /// The pool and the workers once there is no leaf to take.
-fn run<M: Incumbent + Squad + Send + Sync, R: Threads + Wait + Sync, G: Gate + Sync>(
+fn run<
+    M: Incumbent + Squad + Send + Sync,
+    X: Explorers + Sync,
+    R: Threads + Wait + Sync,
+    G: Gate + Sync,
+>(
     rt: &R,
     alloc: Global,
     network: &Network,
-    tables: &Tables,
+    explorers: &X,
     low: &Low<M>,
     held: Pool<M>,
     crew: Vec<Worker<M>>,
     gate: &G,
 ) -> (Pool<M>, Vec<Worker<M>>)
     requires own { network.now ≡ M.network }
-    requires tables { tables.now ≡ M.network }
+    requires explorers { X.network explorers.now ≡ M.network }
     requires board { IsBoard M.network M.budget M.crew held }
     ensures board { IsBoard M.network M.budget M.crew result.0 }
     ensures count { length result.1.items ≡ length crew.items }
     ensures same { map reach result.1.items ≡ map reach crew.items }
 {
     let board = Mutex::new(Board::new(held));
-    let crew = work_all(rt, alloc, network, tables, low, &board, crew, gate);
+    let crew = work_all(rt, alloc, network, explorers, low, &board, crew, gate);
     (board.into_inner().into_pool(), crew)
 }
 
@@ -239,25 +255,30 @@ fn recruit<M: Incumbent>(
 }
 
 /// Lets all workers work until there is no leaf to take.
-fn work_all<M: Incumbent + Squad + Send + Sync, R: Threads + Wait + Sync, G: Gate + Sync>(
+fn work_all<
+    M: Incumbent + Squad + Send + Sync,
+    X: Explorers + Sync,
+    R: Threads + Wait + Sync,
+    G: Gate + Sync,
+>(
     rt: &R,
     alloc: Global,
     network: &Network,
-    tables: &Tables,
+    explorers: &X,
     low: &Low<M>,
     board: &Mutex<Board<M>>,
     mut crew: Vec<Worker<M>>,
     gate: &G,
 ) -> Vec<Worker<M>>
     requires own { network.now ≡ M.network }
-    requires tables { tables.now ≡ M.network }
+    requires explorers { X.network explorers.now ≡ M.network }
     ensures count { length result.items ≡ length crew.items }
     ensures same { map reach result.items ≡ map reach crew.items }
 {
     let changed = Condvar::new();
     let shared = Shared {
         network,
-        tables,
+        explorers,
         low,
         board,
         changed: &changed,
@@ -268,14 +289,14 @@ fn work_all<M: Incumbent + Squad + Send + Sync, R: Threads + Wait + Sync, G: Gat
 }
 
 /// Lets each worker work in a thread of its own.
-fn work_each<M: Incumbent + Squad + Send + Sync, R: Threads + Wait + Sync, G: Gate + Sync>(
-    rt: &R,
-    alloc: Global,
-    shared: &Shared<'_, M, G>,
-    crew: &mut [Worker<M>],
-)
+fn work_each<
+    M: Incumbent + Squad + Send + Sync,
+    X: Explorers + Sync,
+    R: Threads + Wait + Sync,
+    G: Gate + Sync,
+>(rt: &R, alloc: Global, shared: &Shared<'_, M, X, G>, crew: &mut [Worker<M>])
     requires network { shared.now.network.now ≡ M.network }
-    requires tables { shared.now.tables.now ≡ M.network }
+    requires explorers { X.network shared.now.explorers.now ≡ M.network }
     ensures count { length crew.new ≡ length crew.old }
     ensures same { map reach crew.new ≡ map reach crew.old }
 {
@@ -287,7 +308,7 @@ fn work_each<M: Incumbent + Squad + Send + Sync, R: Threads + Wait + Sync, G: Ga
             threads,
             &|_: usize, worker: &mut Worker<M>|
                 requires network { shared.now.network.now ≡ M.network }
-                requires tables { shared.now.tables.now ≡ M.network }
+                requires explorers { X.network shared.now.explorers.now ≡ M.network }
                 ensures { reach worker.exit.now ≡ reach worker.entry.now }
             { worker.work(rt, alloc, shared) },
         );

@@ -1,9 +1,13 @@
-//! Tests of the search, on one thread and by several workers, and no code of its own.
+//! Tests of the search, on one thread and by several workers, also by explorers that want memory, and no code of its own.
 #![tactic(auto)]
 
 #[cfg(test)]
 mod alone;
 #[cfg(test)]
+mod failing;
+#[cfg(test)]
 mod networks;
+#[cfg(test)]
+mod searching;
 #[cfg(test)]
 mod teams;

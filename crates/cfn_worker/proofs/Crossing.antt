@@ -6,8 +6,7 @@ use denote.Param.Send.{IsSend, IsSync, sendable, view_send}
 use denote.Param.SendFields.{as_row_send, declared_send}
 use Rattle.std.proofs.Crossing.{crosses}
 use Rattle.cfn_net.specs.contracts.network.Network as Network
-use Rattle.cfn_net.specs.contracts.tables.Tables as Tables
-use Rattle.cfn_net.proofs.CallerLemmas.{snapshot_send, snapshot_sync}
+use Rattle.cfn_net.proofs.CallerLemmas.{snapshot_send}
 use Rattle.cfn_low.specs.declared.rule.Incumbent as word
 use Rattle.cfn_low.specs.contracts.holder.Holder as Holder
 use Rattle.cfn_low.specs.contracts.low.Low as Low
@@ -29,9 +28,6 @@ use Rattle.cfn_worker.specs.contracts.board.Board as Board
 
 network_sync : IsSync Network.the_row
 network_sync = search (sendable, crosses) depth 40
-
-tables_sync : IsSync Tables.the_row
-tables_sync = search (sendable, crosses, snapshot_sync) depth 40
 
 block_send : IsSend Block.the_row
 block_send = search (sendable, crosses) depth 40 fits 20000
@@ -72,5 +68,5 @@ module _ (M : RattleType) (g : word.Ghosts M.Denot) where
     board_send : IsSend (Board.the_row M g h)
     board_send = search (sendable, pool_send) depth 40
 
-    pub shared_sync : (a : NamedLft) (G : RattleType) → IsSync G → IsSync (Shared.the_row a M G g h)
-    shared_sync a G s = search (sendable, crosses, network_sync, tables_sync, of_low, board_send) depth 40
+    pub shared_sync : (a : NamedLft) (X G : RattleType) → IsSync X → IsSync G → IsSync (Shared.the_row a M X G g h)
+    shared_sync a X G x s = search (sendable, crosses, network_sync, of_low, board_send) depth 40

@@ -4,7 +4,7 @@ use Rattle.cfn_model.specs.declared.report.Row.{Row}
 use Rattle.cfn_model.specs.Network.{Network}
 use Rattle.cfn_proof.specs.Outcome.{opening}
 use Rattle.cfn_task.specs.Values.{TaskValue, PieceValue}
-use Rattle.cfn_dive.specs.Making.{IsPieceOf}
+use Rattle.cfn_explore.specs.Exploring.{Keeping, IsPieceOf}
 use Rattle.cfn_machine.specs.Pool.{Pool, Task}
 use Rattle.cfn_machine.specs.Steps.{PoolReturns, IsOut, IsNotOut}
 use Rattle.cfn_pool.specs.Views.{Held, pool}
@@ -35,10 +35,10 @@ IsTaskFor P (asked.Task task) = task.network ≡ P
 IsTaskFor P asked.Later = Unit {0}
 IsTaskFor P asked.Over = Unit {0}
 
--- A piece is made of a task at a threshold, by a dive that ended as dives do.
-pub record IsMadeOf (task : TaskValue) (granted k : ℕ) (piece : PieceValue) : Type 0 where
+-- A piece is made of a task at a threshold, with what is kept of its tree, and ended as exploring does.
+pub record IsMadeOf (keeps : Keeping) (task : TaskValue) (granted k : ℕ) (piece : PieceValue) : Type 0 where
   pub cut : Bool
-  pub piece_is : IsPieceOf task granted k piece cut
+  pub piece_is : IsPieceOf keeps task granted k piece cut
 
 -- A task's leaf is free again; or it was not out as the task says, and nothing changes.
 abbrev pub IsReturned : Held → Task → Held → Type 0

@@ -5,10 +5,10 @@
 //! nothing else makes.
 
 ghost use Rattle.std.specs.Prelude.{◌≡◌, ◌≤◌, min, is_some, IfOk, IfErr};
-ghost use Rattle.cfn_dive.specs.Diving.{HasFallen};
+ghost use Rattle.cfn_explore.specs.Falling.{HasFallen};
 ghost use Rattle.cfn_worker.specs.Searching.{IsMadeOf};
 
-use cfn_dive::{Dived, Diver};
+use cfn_explore::{Explore, Explored};
 use cfn_low::{Holder, Incumbent, Low, Note};
 use cfn_net::Network;
 use cfn_task::{Piece, Task};
@@ -76,32 +76,32 @@ impl<M: Incumbent> Account<M> {
     }
 
     /// Dives below a task's leaf, with at most `backtracks`, at least 1. An `Err`, want of memory, gives the task back.
-    pub(crate) fn dive(
+    pub(crate) fn dive<E: Explore>(
         &mut self,
         alloc: Global,
         network: &Network,
-        diver: &mut Diver<'_>,
+        explorer: &mut E,
         task: Task,
         low: &Low<M>,
         backtracks: u64,
     ) -> Result<Piece, Task>
-        requires network { network.now ≡ diver.old }
-        requires task { task.network ≡ diver.old }
-        requires word { M.network ≡ diver.old }
+        requires network { network.now ≡ E.made_of explorer.old }
+        requires task { task.network ≡ E.made_of explorer.old }
+        requires word { M.network ≡ E.made_of explorer.old }
         requires some { 1 ≤ backtracks }
         ensures falls { HasFallen M.network self.old.part self.new.part }
-        ensures made { IfOk result (IsMadeOf task backtracks self.new.part.seen) }
+        ensures made { IfOk result (IsMadeOf E.keeps task backtracks self.new.part.seen) }
         ensures least { IfOk result (λ piece. self.new.least ≡ min self.old.least piece.threshold) }
         ensures same { IfErr result (λ given. self.new.least ≡ self.old.least) }
         ensures back { IfErr result (λ given. given ≡ task) }
-        ensures diver { diver.new ≡ diver.old }
+        ensures explorer { E.made_of explorer.new ≡ E.made_of explorer.old }
     {
-        match diver.dive(alloc, network, task, low, &mut self.part, backtracks) {
-            Dived::Piece { piece, cut: _ } => {
+        match explorer.explore(alloc, network, task, low, &mut self.part, backtracks) {
+            Explored::Piece { piece, cut: _ } => {
                 self.least = self.least.min(piece.threshold());
                 Ok(piece)
             }
-            Dived::Memory { task } => Err(task),
+            Explored::Memory { task } => Err(task),
         }
     }
 

@@ -5,14 +5,14 @@
 //! piece is given to the pool.
 
 ghost use Rattle.std.specs.Prelude.{◌≡◌, [], ◌∷◌, ◌++◌, ◌<◌, ◌≤◌, min, length, IfOk, IfErr, IsTrue, IsFalse};
-ghost use Rattle.cfn_dive.specs.Diving.{HasFallen};
+ghost use Rattle.cfn_explore.specs.Falling.{HasFallen};
 ghost use Rattle.cfn_pool.specs.Views.{pool};
 ghost use Rattle.cfn_task.specs.Values.{IsTaskOf};
 ghost use Rattle.cfn_worker.specs.Searching.{IsSearch, GoesOn, IsMadeOf, IsReturned, IsLeft};
 
 use crate::account::Account;
 use crate::errands::Errands;
-use cfn_dive::Diver;
+use cfn_explore::Explore;
 use cfn_low::{Incumbent, Low};
 use cfn_net::Network;
 use cfn_pool::{Handed, Pool};
@@ -55,28 +55,28 @@ impl InHand {
 
     /// Dives below its leaf, with at most `backtracks`, at least 1, and lowers the account's least threshold to the piece's. An
     /// `Err`, want of memory, gives it back.
-    pub fn dive<M: Incumbent>(
+    pub fn dive<M: Incumbent, E: Explore>(
         self,
         alloc: Global,
         network: &Network,
-        diver: &mut Diver<'_>,
+        explorer: &mut E,
         low: &Low<M>,
         account: &mut Account<M>,
         backtracks: u64,
     ) -> Result<Made, InHand>
-        requires network { network.now ≡ diver.old }
-        requires task { self.network ≡ diver.old }
-        requires word { M.network ≡ diver.old }
+        requires network { network.now ≡ E.made_of explorer.old }
+        requires task { self.network ≡ E.made_of explorer.old }
+        requires word { M.network ≡ E.made_of explorer.old }
         requires some { 1 ≤ backtracks }
         ensures falls { HasFallen M.network account.old.part account.new.part }
-        ensures made { IfOk result (IsMadeOf self backtracks account.new.part.seen) }
+        ensures made { IfOk result (IsMadeOf E.keeps self backtracks account.new.part.seen) }
         ensures least { IfOk result (λ made. account.new.least ≡ min account.old.least made.threshold) }
         ensures same { IfErr result (λ given. account.new.least ≡ account.old.least) }
         ensures back { IfErr result (λ given. given ≡ self) }
-        ensures diver { diver.new ≡ diver.old }
+        ensures explorer { E.made_of explorer.new ≡ E.made_of explorer.old }
     {
         let InHand { task } = self;
-        match account.dive(alloc, network, diver, task, low, backtracks) {
+        match account.dive(alloc, network, explorer, task, low, backtracks) {
             Ok(piece) => Ok(Made { piece }),
             Err(task) => Err(InHand { task }),
         }

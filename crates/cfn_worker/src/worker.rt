@@ -16,10 +16,9 @@ use crate::errands::Errands;
 use crate::gate::{Gate, Point};
 use crate::grants::FEWEST_BACKTRACKS;
 use crate::hand::InHand;
-use cfn_branch::Rule;
-use cfn_dive::Diver;
+use cfn_explore::{Explore, Explorers};
 use cfn_low::{Holder, Incumbent, Low};
-use cfn_net::{Network, Tables};
+use cfn_net::Network;
 use cfn_pool::Pool;
 use std::alloc::Global;
 use std::marker::Model;
@@ -50,10 +49,10 @@ impl<M: Incumbent> Model for Worker<M> {
 
 /// What all workers share.
 #[derive(Drop)]
-pub struct Shared<'a, M: Incumbent + Squad, G> {
+pub struct Shared<'a, M: Incumbent + Squad, X, G> {
     pub network: &'a Network,
-    /// The network's tables.
-    pub tables: &'a Tables,
+    /// What makes explorers for the network.
+    pub explorers: &'a X,
     pub low: &'a Low<M>,
     pub board: &'a Mutex<Board<M>>,
     /// Told at each change of the board.
@@ -149,16 +148,21 @@ impl<M: Incumbent> Worker<M> {
 
 impl<M: Incumbent + Squad> Worker<M> {
     /// Takes leaves and dives until there is no leaf to take, or memory is refused, and gives back what its lane holds then.
-    /// What it dives with it makes itself, so that its memory is its own thread's.
-    pub fn work<R: Wait, G: Gate>(&mut self, rt: &R, alloc: Global, shared: &Shared<'_, M, G>)
+    /// Its explorer it makes itself, so that its memory is its own thread's.
+    pub fn work<X: Explorers, R: Wait, G: Gate>(
+        &mut self,
+        rt: &R,
+        alloc: Global,
+        shared: &Shared<'_, M, X, G>,
+    )
         requires network { shared.now.network.now ≡ M.network }
-        requires tables { shared.now.tables.now ≡ M.network }
+        requires explorers { X.network shared.now.explorers.now ≡ M.network }
         ensures same { reach self.new ≡ reach self.old }
         ensures falls { self.new.least ≤ self.old.least }
     {
-        if let Ok(mut diver) = Diver::make(alloc, shared.network, shared.tables, Rule::Degrees) {
-            self.dive_all(rt, alloc, shared, &mut diver);
-            drop(diver);
+        if let Ok(mut explorer) = shared.explorers.make(alloc) {
+            self.dive_all(rt, alloc, shared, &mut explorer);
+            drop(explorer);
         }
         self.give_up(rt, shared);
         shared.board.lock(rt).tell();
@@ -167,15 +171,15 @@ impl<M: Incumbent + Squad> Worker<M> {
     }
 
     /// Takes leaves and dives until there is no leaf to take, or memory is refused.
-    fn dive_all<R: Wait, G: Gate>(
+    fn dive_all<E: Explore, X, R: Wait, G: Gate>(
         &mut self,
         rt: &R,
         alloc: Global,
-        shared: &Shared<'_, M, G>,
-        diver: &mut Diver<'_>,
+        shared: &Shared<'_, M, X, G>,
+        explorer: &mut E,
     )
         requires network { shared.now.network.now ≡ M.network }
-        requires diver { diver.old ≡ M.network }
+        requires explorer { E.made_of explorer.old ≡ M.network }
         ensures same { reach self.new ≡ reach self.old }
         ensures falls { self.new.least ≤ self.old.least }
     {
@@ -184,14 +188,14 @@ impl<M: Incumbent + Squad> Worker<M> {
                 break;
             };
             shared.gate.pass(self.number, Point::Taken);
-            if !self.explore(rt, alloc, shared, diver, task) {
+            if !self.explore(rt, alloc, shared, explorer, task) {
                 break;
             }
         }
     }
 
     /// Finds a task, and waits while others may still bring one.
-    fn ask<R: Wait, G: Gate>(&mut self, rt: &R, shared: &Shared<'_, M, G>) -> Option<InHand>
+    fn ask<X, R: Wait, G: Gate>(&mut self, rt: &R, shared: &Shared<'_, M, X, G>) -> Option<InHand>
         requires { shared.now.network.now ≡ M.network }
         ensures task { IfSome result (IsTaskOf M.network) }
         ensures same { reach self.new ≡ reach self.old }
@@ -221,7 +225,7 @@ impl<M: Incumbent + Squad> Worker<M> {
     }
 
     /// Asks the board for a leaf, and for more for its lane.
-    fn ask_board<R: Wait, G: Gate>(&mut self, rt: &R, shared: &Shared<'_, M, G>) -> Offer
+    fn ask_board<X, R: Wait, G: Gate>(&mut self, rt: &R, shared: &Shared<'_, M, X, G>) -> Offer
         requires { shared.now.network.now ≡ M.network }
         ensures offer { IsOffered M.network result }
         ensures same { reach self.new ≡ reach self.old }
@@ -238,7 +242,7 @@ impl<M: Incumbent + Squad> Worker<M> {
     }
 
     /// Waits while the board has changed so often.
-    fn wait<R: Wait, G: Gate>(&self, rt: &R, shared: &Shared<'_, M, G>, changes: u64) {
+    fn wait<X, R: Wait, G: Gate>(&self, rt: &R, shared: &Shared<'_, M, X, G>, changes: u64) {
         shared.gate.pass(self.number, Point::Waiting);
         let board = shared.board.lock(rt);
         let _board = shared
@@ -247,7 +251,7 @@ impl<M: Incumbent + Squad> Worker<M> {
     }
 
     /// Gives back what its lane holds, for other workers.
-    fn give_up<R: Wait, G: Gate>(&mut self, rt: &R, shared: &Shared<'_, M, G>)
+    fn give_up<X, R: Wait, G: Gate>(&mut self, rt: &R, shared: &Shared<'_, M, X, G>)
         ensures same { reach self.new ≡ reach self.old }
         ensures least { self.new.least ≡ self.old.least }
     {
@@ -260,25 +264,25 @@ impl<M: Incumbent + Squad> Worker<M> {
     }
 
     /// Dives below a task's leaf, and gives back what was made; whether the worker goes on.
-    fn explore<R: Wait, G: Gate>(
+    fn explore<E: Explore, X, R: Wait, G: Gate>(
         &mut self,
         rt: &R,
         alloc: Global,
-        shared: &Shared<'_, M, G>,
-        diver: &mut Diver<'_>,
+        shared: &Shared<'_, M, X, G>,
+        explorer: &mut E,
         task: InHand,
     ) -> bool
         requires network { shared.now.network.now ≡ M.network }
-        requires diver { diver.old ≡ M.network }
+        requires explorer { E.made_of explorer.old ≡ M.network }
         requires task { IsTaskOf M.network task }
-        ensures diver { diver.new ≡ diver.old }
+        ensures explorer { E.made_of explorer.new ≡ E.made_of explorer.old }
         ensures same { reach self.new ≡ reach self.old }
         ensures falls { self.new.least ≤ self.old.least }
     {
         let dived = task.dive(
             alloc,
             shared.network,
-            diver,
+            explorer,
             shared.low,
             &mut self.account,
             self.limit,

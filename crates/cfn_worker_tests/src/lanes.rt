@@ -8,6 +8,7 @@ ghost use Rattle.cfn_worker.specs.Accounts.{reach};
 ghost use Rattle.cfn_worker.specs.Boards.{IsBoard};
 ghost use Rattle.cfn_worker.specs.Searching.{IsSearch, GoesOn};
 
+use cfn_dive::Divers;
 use cfn_low::{Holder, Incumbent, Low, Unnamed};
 use cfn_net::{Builder, Network, Scored, Tables};
 use cfn_pool::{Pool, Taken};
@@ -126,13 +127,13 @@ fn lays_two<M: Incumbent>(
 fn after_work<M: Incumbent + Squad, R: AllocGlobal + Wait>(
     rt: &R,
     network: &Network,
-    tables: &Tables,
+    divers: &Divers<'_>,
     low: &Low<M>,
     held: Pool<M>,
     worker: &mut Worker<M>,
 ) -> Pool<M>
     requires network { network.now ≡ M.network }
-    requires tables { tables.now ≡ M.network }
+    requires divers { divers.now ≡ M.network }
     requires board { IsBoard M.network M.budget M.crew held }
     ensures board { IsBoard M.network M.budget M.crew result }
     ensures same { reach worker.new ≡ reach worker.old }
@@ -141,7 +142,7 @@ fn after_work<M: Incumbent + Squad, R: AllocGlobal + Wait>(
     let changed = Condvar::new();
     let shared = Shared {
         network,
-        tables,
+        explorers: divers,
         low,
         board: &board,
         changed: &changed,
@@ -168,17 +169,17 @@ fn let_go<M: Incumbent>(alloc: Global, held: &mut Pool<M>, mut worker: Worker<M>
 fn free_after_work<M: Incumbent + Squad, R: AllocGlobal + Wait>(
     rt: &R,
     network: &Network,
-    tables: &Tables,
+    divers: &Divers<'_>,
     low: &Low<M>,
     held: Pool<M>,
     mut worker: Worker<M>,
 ) -> bool
     requires network { network.now ≡ M.network }
-    requires tables { tables.now ≡ M.network }
+    requires divers { divers.now ≡ M.network }
     requires board { IsBoard M.network M.budget M.crew held }
     requires all { AreAll (reach worker ∷ []) }
 {
-    let mut held = after_work(rt, network, tables, low, held, &mut worker);
+    let mut held = after_work(rt, network, divers, low, held, &mut worker);
     let free = is_free(network, &mut held);
     let_go(rt.alloc(), &mut held, worker);
     free
@@ -213,6 +214,7 @@ fn asked<M: Incumbent + Squad, R: AllocGlobal + Wait>(
     requires crew { M.crew ≡ 1 }
 {
     let tables = Tables::expand(rt.alloc(), network)?;
+    let divers = Divers::over(network, &tables);
     let empty = Scored::empty(rt.alloc(), network)?;
     let mut own = own_ends(rt.alloc())?;
     let (low, mut holder) = unnamed.named::<M>();
@@ -222,7 +224,7 @@ fn asked<M: Incumbent + Squad, R: AllocGlobal + Wait>(
     let before = is_free(network, &mut held);
     let worker = Worker::new(WORKER, part, Errands::of(own));
     let after = if works {
-        free_after_work(rt, network, &tables, &low, held, worker)
+        free_after_work(rt, network, &divers, &low, held, worker)
     } else {
         free_without_work(rt.alloc(), network, held, worker)
     };

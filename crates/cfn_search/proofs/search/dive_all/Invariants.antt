@@ -10,7 +10,7 @@ invariant-loop-next g l = record {
   within : (pool l.held).nodes ≤ (pool l.held).budget;
   shares : l.account.part.shares ≡ l.fn.account.part.shares;
   falls : l.account.least ≤ l.fn.account.least;
-  diver : l.diver ≡ l.fn.diver;
+  explorer : g.E.Explore.made_of l.explorer ≡ g.E.Explore.made_of l.fn.explorer;
   limit : IsLimit l.limit;
 }
 

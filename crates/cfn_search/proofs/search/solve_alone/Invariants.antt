@@ -1,4 +1,4 @@
 use Rattle.cfn_search.proofs.search.solve_alone.Given as goal
 
 abbrev pub ghosts-search : goal.ghosts-search
-ghosts-search a = record { table = a.unnamed.table; network = a.unnamed.network }
+ghosts-search g a = record { table = a.unnamed.table; network = a.unnamed.network }

@@ -1,6 +1,7 @@
 use Rattle.std.proofs.Common.{◌≡◌, ◌≤◌, ◌-◌}
 use Rattle.std.specs.Prelude.{None}
-use Rattle.cfn_dive.specs.Diving.{HasFallen, IsDiving, GoesOn}
+use Rattle.cfn_explore.specs.Falling.{HasFallen}
+use Rattle.cfn_dive.specs.Diving.{IsDiving, GoesOn}
 use Rattle.cfn_dive.proofs.parts.Parts.grow.Given as goal
 
 abbrev pub invariant-loop-next : goal.invariant-loop-next

@@ -6,7 +6,7 @@ abbrev pub invariant-loop : goal.invariant-loop
 invariant-loop g l = record {
   next : (goal.iterator-loop g).can_next l.iterator';
   finite : (goal.iterator-loop g).is_finite l.iterator';
-  diver : l.diver ≡ l.fn.diver;
+  explorer : g.E.Explore.made_of l.explorer ≡ g.E.Explore.made_of l.fn.explorer;
   same : reach l.self ≡ reach l.fn.self;
   falls : l.self.least ≤ l.fn.self.least;
 }

@@ -1,0 +1,3 @@
+pub mod Backtracks
+pub mod Falling
+pub mod Exploring
