@@ -94,9 +94,10 @@ fn helpers(alloc: Global, network: &Network) -> Result<(Enforcer<'_>, Trimmer<'_
     ensures enforcer { IfOk result (λ made. made.0 ≡ network.now) }
     ensures trimmer { IfOk result (λ made. made.1 ≡ network.now) }
 {
-    let enforcer = Enforcer::make(alloc, network)?;
-    let trimmer = Trimmer::make(alloc, network)?;
-    Ok((enforcer, trimmer))
+    both(
+        Enforcer::make(alloc, network)?,
+        Trimmer::make(alloc, network),
+    )
 }
 
 /// What the brancher goes by, for a network. An `Err` is want of memory.
@@ -104,9 +105,10 @@ fn branching(alloc: Global, network: &Network) -> Result<(Weights, Incidence), A
     ensures weights { IfOk result (λ made. length made.0 ≡ length network.now.functions) }
     ensures incidence { IfOk result (λ made. made.1 ≡ network.now) }
 {
-    let weights = Weights::make(alloc, network)?;
-    let incidence = Incidence::build(alloc, network)?;
-    Ok((weights, incidence))
+    both(
+        Weights::make(alloc, network)?,
+        Incidence::build(alloc, network),
+    )
 }
 
 /// Room for an assignment, and for one with its cost. An `Err` is want of memory.
@@ -114,7 +116,8 @@ fn buffers(alloc: Global, network: &Network) -> Result<(Vec<u32>, Scored), Alloc
     ensures values { IfOk result (λ made. length made.0.items ≡ length network.now.sizes) }
     ensures offer { IfOk result (λ made. made.1 ≡ record { network = network.now; held = None }) }
 {
-    let values = vec![in alloc; 0; network.variables() as usize]?;
-    let offer = Scored::empty(alloc, network)?;
-    Ok((values, offer))
+    both(
+        vec![in alloc; 0; network.variables() as usize]?,
+        Scored::empty(alloc, network),
+    )
 }
