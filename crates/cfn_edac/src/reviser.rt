@@ -5,7 +5,8 @@
 //!
 //! Invariant: what does not wait is consistent in the store as it stands, and what is known of resting values and of supports is so there.
 
-ghost use Rattle.std.specs.Prelude.{◌≡◌, ◌<◌, ◌≤◌, length, take, IfOk, IfSome, OnOk};
+ghost use Rattle.std.specs.Prelude.{◌≡◌, ◌<◌, ◌≤◌, length, take, IfOk, IfSome, IsOkAnd, OnOk};
+ghost use Rattle.cfn_model.specs.declared.limits.TheConstants.{MOST_VALUES};
 ghost use Rattle.cfn_queue.specs.Waiting.{IsFirst};
 ghost use Rattle.cfn_consistency.specs.Consistency.{IsNodeConsistent, AreFullyConsistent};
 ghost use Rattle.cfn_live.specs.Sets.{live_count};
@@ -71,13 +72,17 @@ impl<'n> Reviser<'n> {
     pub fn make(alloc: Global, network: &'n Network) -> Result<Reviser<'n>, AllocError>
         ensures { IfOk result (λ reviser. reviser.network ≡ network.now) }
     {
+        let made = both(Due::make(alloc, network)?, room_for_moves(alloc))?;
+        let made = both(made, Arms::make(alloc, network))?;
+        let made = both(made, Rests::make(alloc, network))?;
+        let ((((due, moves), arms), rests), sides) = both(made, Sides::make(alloc, network))?;
         Ok(Reviser {
             network,
-            due: Due::make(alloc, network)?,
-            moves: vec![in alloc; 0; MOST_VALUES as usize]?,
-            arms: Arms::make(alloc, network)?,
-            rests: Rests::make(alloc, network)?,
-            sides: Sides::make(alloc, network)?,
+            due,
+            moves,
+            arms,
+            rests,
+            sides,
             blamed: None,
         })
     }
@@ -386,4 +391,20 @@ impl<'n> Reviser<'n> {
         self.rests.note_steps(incidence, store, start);
         self.sides.note_steps(incidence, store, start);
     }
+}
+
+/// Room for an amount for each value of a variable. An `Err` is want of memory.
+fn room_for_moves(alloc: Global) -> Result<Vec<u64>, AllocError>
+    ensures { IfOk result (λ moves. length moves.items ≡ MOST_VALUES) }
+{
+    Ok(vec![in alloc; 0; MOST_VALUES as usize]?)
+}
+
+/// Two values, where the second was made too, so that no exit of a maker has more than one thing to let go. An `Err` is want of
+/// memory.
+fn both<A: Drop, B: Drop>(one: A, other: Result<B, AllocError>) -> Result<(A, B), AllocError>
+    ensures one { IfOk result (λ made. made.0 ≡ one) }
+    ensures other { IfOk result (λ made. IsOkAnd other (λ given. made.1 ≡ given)) }
+{
+    Ok((one, other?))
 }
