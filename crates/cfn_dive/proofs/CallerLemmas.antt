@@ -1,2 +1,2 @@
 -- What callers cite.
-pub use Rattle.cfn_dive.proofs.Crossing.{divers_sync}
+pub use Rattle.cfn_dive.proofs.Crossing.{divers_sync, diver_send}

@@ -3,9 +3,9 @@
 use crate::explore::Explore;
 use std::alloc::{AllocError, Global};
 
-/// Makes explorers for one network. Each worker of a search has one of its own, which it makes itself.
+/// Makes explorers for one network. Each worker of a search has one of its own, which it makes in its own thread.
 pub trait Explorers {
-    type Explorer: Explore;
+    type Explorer: Explore + Send;
 
     ghost use Rattle.std.specs.Prelude.{◌≡◌, IfOk};
     ghost use Rattle.cfn_model.specs.Network.{Network as CostNetwork};
