@@ -34,7 +34,7 @@ pub(crate) fn write_file<D: Desk>(
 }
 
 /// What a desk answered to a file written in two pieces, and to a load behind it.
-#[derive(Clone, Copy, Debug, PartialEq, Eq)]
+#[derive(Clone, Copy, PartialEq, Eq)]
 pub(crate) struct Kept {
     pub(crate) write: Result<(), Failed>,
     pub(crate) load: Result<(), LoadFault>,

@@ -5,18 +5,20 @@ use crate::calling::{
 };
 use cfn_desk::{Desk, Failed, HostDesk, LoadFault};
 use std::alloc::AllocError;
-use std::fs;
-use std::fs::Permissions;
+use std::fs::{self, Permissions};
+use std::io;
 use std::os::unix::fs::{PermissionsExt, symlink};
 use std::test::Fail;
 
-/// Writes a file and loads one, with the same desk over the system's files; whether both are done, and the load gave the
-/// two pieces.
+/// Writes a file, loads one and says a line, with the same desk over the system's files; whether all is done, and the load
+/// gave the two pieces.
 fn writes(rt: &HostRuntime, pieces: (&str, &[u8], &[u8]), name: &str) -> Result<bool, AllocError> {
-    let mut into = Vec::new(rt.alloc());
     let mut desk = HostDesk::make(rt)?;
+    let mut into = Vec::new(rt.alloc());
     let answers = write_and_load(&mut desk, pieces, name, &mut into);
-    Ok(answers == BOTH_DONE && into.strip_prefix(pieces.1) == Some(pieces.2))
+    let said = say_piece(&mut desk, b"said\n");
+    drop(desk);
+    Ok(answers == BOTH_DONE && said == Ok(()) && into.strip_prefix(pieces.1) == Some(pieces.2))
 }
 
 /// What a desk over the system's files answers to a load, and whether the load gave these bytes.
@@ -25,10 +27,24 @@ fn load(
     name: &str,
     bytes: &[u8],
 ) -> Result<(Result<(), LoadFault>, bool), AllocError> {
-    let mut into = Vec::new(rt.alloc());
     let mut desk = HostDesk::make(rt)?;
+    let mut into = Vec::new(rt.alloc());
     let answer = desk.load(name, &mut into);
+    drop(desk);
     Ok((answer, into.as_slice() == bytes))
+}
+
+/// Whether nothing stands at a name.
+fn is_free(rt: &HostRuntime, name: &str) -> io::Result<bool> {
+    Ok(!fs::exists(rt, name)?)
+}
+
+/// Removes these files.
+fn remove(rt: &HostRuntime, names: &[&str]) -> io::Result<()> {
+    for name in names {
+        fs::remove_file(rt, name)?;
+    }
+    Ok(())
 }
 
 /// Writes a file whose second piece is large, and loads it.
@@ -40,97 +56,81 @@ fn writes_large(rt: &HostRuntime, name: &str) -> Result<bool, AllocError> {
 #[test]
 fn host_desk_writes_and_reads_a_file(rt: HostRuntime) -> Result<(), Fail> {
     assert!(rt; writes_large(&rt, "written.txt")?);
-    assert!(rt; !fs::exists(&rt, "written.txt.part")?);
-    fs::remove_file(&rt, "written.txt")?;
-    Ok(())
-}
-
-/// Writes a file, loads it and says a word, with the same desk over the system's files; whether all is done.
-fn writes_and_says(rt: &HostRuntime, name: &str, word: &[u8]) -> Result<bool, AllocError> {
-    let mut into = Vec::new(rt.alloc());
-    let mut desk = HostDesk::make(rt)?;
-    let answers = write_and_load(&mut desk, (name, b"be", b"fore"), name, &mut into);
-    let said = say_piece(&mut desk, word);
-    Ok(answers == BOTH_DONE && said == Ok(()))
-}
-
-#[test]
-fn host_desk_says_behind_a_written_file(rt: HostRuntime) -> Result<(), Fail> {
-    assert!(rt; writes_and_says(&rt, "before.txt", b"said\n")?);
-    fs::remove_file(&rt, "before.txt")?;
+    assert!(rt; is_free(&rt, "written.txt.part")?);
+    remove(&rt, &["written.txt"])?;
     Ok(())
 }
 
 /// Begins a file with a piece, and ends with it half written; whether it was begun.
 fn is_interrupted(rt: &HostRuntime, name: &str, piece: &[u8]) -> Result<bool, AllocError> {
     let mut desk = HostDesk::make(rt)?;
-    Ok(begin_file(&mut desk, name, piece) == Ok(()))
+    let begun = begin_file(&mut desk, name, piece);
+    drop(desk);
+    Ok(begun == Ok(()))
 }
 
-/// Makes a file, and then a desk that begins one of the same name and ends with it half written.
-fn interrupt(rt: &HostRuntime, name: &str) -> Result<bool, Fail> {
-    fs::write(rt, name, "earlier")?;
+/// Makes a desk that begins a file with a large piece, and ends with it half written.
+fn interrupts(rt: &HostRuntime, name: &str) -> Result<bool, AllocError> {
     let large = large_piece(rt.alloc())?;
-    Ok(is_interrupted(rt, name, &large)?)
+    is_interrupted(rt, name, &large)
 }
 
 #[test]
 fn host_desk_leaves_the_earlier_file_where_it_is_interrupted(rt: HostRuntime) -> Result<(), Fail> {
-    assert!(rt; interrupt(&rt, "kept.txt")?);
+    fs::write(&rt, "kept.txt", "earlier")?;
+    assert!(rt; interrupts(&rt, "kept.txt")?);
     assert!(rt; load(&rt, "kept.txt", b"earlier")? == (Ok(()), true));
-    assert!(rt; fs::exists(&rt, "kept.txt.part")?);
-    fs::remove_file(&rt, "kept.txt.part")?;
-    fs::remove_file(&rt, "kept.txt")?;
+    remove(&rt, &["kept.txt.part", "kept.txt"])?;
     Ok(())
 }
 
 #[test]
 fn host_desk_writes_although_a_part_is_left(rt: HostRuntime) -> Result<(), Fail> {
-    assert!(rt; interrupt(&rt, "kept.txt")?);
+    fs::write(&rt, "kept.txt", "earlier")?;
+    assert!(rt; interrupts(&rt, "kept.txt")?);
     assert!(rt; writes(&rt, ("kept.txt", b"la", b"ter"), "kept.txt")?);
-    assert!(rt; !fs::exists(&rt, "kept.txt.part1")?);
-    fs::remove_file(&rt, "kept.txt.part")?;
-    fs::remove_file(&rt, "kept.txt")?;
+    assert!(rt; is_free(&rt, "kept.txt.part1")?);
+    remove(&rt, &["kept.txt.part", "kept.txt"])?;
     Ok(())
 }
 
 /// Begins a file, makes a folder of its name, and ends the file; whether both were made, and the end failed.
 fn fails_over_folder(rt: &HostRuntime, name: &str) -> Result<bool, AllocError> {
     let mut desk = HostDesk::make(rt)?;
-    Ok(
-        begin_file(&mut desk, name, b"piece").is_ok()
-            && fs::create_dir(rt, name).is_ok()
-            && end_file(&mut desk) == Err(Failed),
-    )
+    let fails = begin_file(&mut desk, name, b"piece").is_ok()
+        && fs::create_dir(rt, name).is_ok()
+        && end_file(&mut desk) == Err(Failed);
+    drop(desk);
+    Ok(fails)
 }
 
 #[test]
 fn host_desk_removes_what_it_cannot_store(rt: HostRuntime) -> Result<(), Fail> {
     assert!(rt; fails_over_folder(&rt, "folder")?);
-    assert!(rt; !fs::exists(&rt, "folder.part")?);
+    assert!(rt; is_free(&rt, "folder.part")?);
     fs::remove_dir(&rt, "folder")?;
     Ok(())
 }
 
 /// Makes a file that its owner may write and its group may read, and a link to it.
-fn make_link(rt: &HostRuntime) -> Result<(), Fail> {
+fn make_link(rt: &HostRuntime) -> io::Result<()> {
     fs::write(rt, "file.txt", "earlier")?;
     fs::set_permissions(rt, "file.txt", Permissions::from_mode(0o640))?;
-    symlink(rt, "file.txt", "link.txt")?;
-    Ok(())
+    symlink(rt, "file.txt", "link.txt")
+}
+
+/// Whether that link is one still, and the file has its mode.
+fn keeps_link(rt: &HostRuntime) -> io::Result<bool> {
+    let mode = fs::metadata(rt, "file.txt")?.permissions().mode();
+    Ok(mode & 0o777 == 0o640 && fs::symlink_metadata(rt, "link.txt")?.is_symlink())
 }
 
 #[test]
 fn host_desk_keeps_links_and_modes(rt: HostRuntime) -> Result<(), Fail> {
     make_link(&rt)?;
     assert!(rt; writes(&rt, ("link.txt", b"la", b"ter"), "file.txt")?);
-    assert!(rt; fs::symlink_metadata(&rt, "link.txt")?.is_symlink());
-    assert_eq!(rt;
-        fs::metadata(&rt, "file.txt")?.permissions().mode() & 0o777,
-        0o640
-    );
-    fs::remove_file(&rt, "link.txt")?;
-    fs::remove_file(&rt, "file.txt")?;
+    assert!(rt; keeps_link(&rt)?);
+    remove(&rt, &["link.txt", "file.txt"])?;
     Ok(())
 }
 
@@ -144,6 +144,7 @@ fn write_two(
     let mut desk = HostDesk::make(rt)?;
     let first = write_file(&mut desk, names.0, front, back);
     let second = write_file(&mut desk, names.1, front, back);
+    drop(desk);
     Ok((first, second))
 }
 
