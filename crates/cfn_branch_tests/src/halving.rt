@@ -17,7 +17,7 @@ const EIGHT: &str = "eight 1 8 1 10\n8\n1 0 5 1\n6 1\n";
 const AMPLE: u64 = 1_000_000;
 
 /// What is asked of a whole search of the network.
-#[derive(Clone, Copy, Debug, PartialEq, Eq)]
+#[derive(Clone, Copy, PartialEq, Eq)]
 struct Found {
     done: bool,
     lower: u64,
@@ -95,7 +95,7 @@ fn eight_values_are_halved(rt: HostRuntime) -> Result<(), Fail> {
         good: true,
         halved: true,
     };
-    assert_eq!(rt; searched(rt.alloc(), Rule::Fewest)?, by_fewest);
+    assert!(rt; searched(rt.alloc(), Rule::Fewest)? == by_fewest);
     Ok(())
 }
 
@@ -108,6 +108,6 @@ fn weighted_degrees_halve_none(rt: HostRuntime) -> Result<(), Fail> {
         good: true,
         halved: false,
     };
-    assert_eq!(rt; searched(rt.alloc(), Rule::Degrees)?, by_degrees);
+    assert!(rt; searched(rt.alloc(), Rule::Degrees)? == by_degrees);
     Ok(())
 }

@@ -38,7 +38,7 @@ fn blamed(alloc: Global, network: &Network) -> Result<Option<(u64, u64)>, AllocE
 #[test]
 fn blame_raises_a_weight(rt: HostRuntime) -> Result<(), Fail> {
     let network = row(rt.alloc())?;
-    assert_eq!(rt; blamed(rt.alloc(), &network)?, Some((1, 3)));
+    assert!(rt; blamed(rt.alloc(), &network)? == Some((1, 3)));
     Ok(())
 }
 
@@ -81,7 +81,7 @@ fn chosen(alloc: Global, network: &Network) -> Result<Option<u32>, AllocError> {
 #[test]
 fn variable_in_the_middle_is_chosen(rt: HostRuntime) -> Result<(), Fail> {
     let network = row(rt.alloc())?;
-    assert_eq!(rt; chosen(rt.alloc(), &network)?, Some(1));
+    assert!(rt; chosen(rt.alloc(), &network)? == Some(1));
     Ok(())
 }
 

@@ -414,8 +414,8 @@ fn first_fault_of_two_files(rt: HostRuntime) -> Result<(), Fail> {
     for (certificate, file, failing, status, said) in rows {
         let words = ["wcspsolve", "check", "in", certificate];
         let run_of = Run::of(&rt, &words, file, failing)?;
-        assert_eq!(rt; run_of.status, status);
-        assert_eq!(rt; run_of.said(), said);
+        assert!(rt; run_of.status == status);
+        assert!(rt; run_of.said() == said);
     }
     Ok(())
 }

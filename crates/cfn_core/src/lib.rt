@@ -24,6 +24,3 @@ mod world;
 pub use action::{Action, Reply};
 pub use cfn_task::{Piece, Task};
 pub use world::{RunMemory, World};
-
-#[cfg(test)]
-mod tests;

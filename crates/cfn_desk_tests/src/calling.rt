@@ -34,16 +34,11 @@ pub(crate) fn write_file<D: Desk>(
 }
 
 /// What a desk answered to a file written in two pieces, and to a load behind it.
-#[derive(Clone, Copy, Debug, PartialEq, Eq)]
+#[derive(Clone, Copy, PartialEq, Eq)]
 pub(crate) struct Kept {
     pub(crate) write: Result<(), Failed>,
     pub(crate) load: Result<(), LoadFault>,
 }
-
-pub(crate) const BOTH_DONE: Kept = Kept {
-    write: Ok(()),
-    load: Ok(()),
-};
 
 /// Writes a file in two pieces, and loads one, which may be the same.
 pub(crate) fn write_and_load<D: Desk>(
@@ -69,13 +64,6 @@ pub(crate) fn begin_file<D: Desk>(desk: &mut D, name: &str, piece: &[u8]) -> Res
     desk.put(piece)
 }
 
-/// Ends a file that is being written, whatever the desk is over.
-pub(crate) fn end_file<D: Desk>(desk: &mut D) -> Result<(), Failed>
-    requires { IsWriting (D.outside desk.old).calls }
-{
-    desk.close_out()
-}
-
 /// Begins a file, and drops it.
 pub(crate) fn drop_file<D: Desk>(desk: &mut D, name: &str) -> Result<(), Failed>
     requires { IsIdle (D.outside desk.old).calls }
@@ -84,9 +72,4 @@ pub(crate) fn drop_file<D: Desk>(desk: &mut D, name: &str) -> Result<(), Failed>
     desk.open_out(name)?;
     desk.discard_out();
     Ok(())
-}
-
-/// Says a piece, whatever the desk is over.
-pub(crate) fn say_piece<D: Desk>(desk: &mut D, piece: &[u8]) -> Result<(), Failed> {
-    desk.say(piece)
 }

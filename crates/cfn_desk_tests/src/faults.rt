@@ -22,19 +22,22 @@ fn keeps(
         write,
         load: Ok(()),
     };
+    drop(desk);
     Ok(answers == expected && into.as_slice() == kept)
 }
 
+/// The call of the storage that fails, or 0 where none does, what the writing is answered, and the file's bytes then.
+const FAULTS: [(u64, Result<(), Failed>, &[u8]); 5] = [
+    (0, Ok(()), b"later"),
+    (1, Err(Failed), b"earlier"),
+    (2, Err(Failed), b"earlier"),
+    (3, Err(Failed), b"earlier"),
+    (4, Ok(()), b"later"),
+];
+
 #[test]
 fn file_desk_keeps_the_earlier_file_at_each_fault(rt: HostRuntime) -> Result<(), Fail> {
-    let expected: [(u64, Result<(), Failed>, &[u8]); 5] = [
-        (0, Ok(()), b"later"),
-        (1, Err(Failed), b"earlier"),
-        (2, Err(Failed), b"earlier"),
-        (3, Err(Failed), b"earlier"),
-        (4, Ok(()), b"later"),
-    ];
-    for (failing, write, kept) in expected {
+    for (failing, write, kept) in FAULTS {
         assert!(rt; keeps(rt.alloc(), failing, write, kept)?, "call {failing}");
     }
     Ok(())
@@ -50,6 +53,7 @@ fn keeps_behind_large(alloc: Global, kept: &[u8]) -> Result<bool, AllocError> {
     let mut into = Vec::new(alloc);
     let answers = write_and_load(&mut desk, ("out", b"front", &large), "out", &mut into);
     let said = desk.say(b"word");
+    drop(desk);
     let expected = Kept {
         write: Err(Failed),
         load: Ok(()),

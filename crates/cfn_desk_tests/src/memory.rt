@@ -15,7 +15,7 @@ fn memory_desk(rt: &HostRuntime, failing: &[u64]) -> Result<MemoryDesk, AllocErr
 }
 
 /// What a desk answered to a load, to a file written in two pieces, and to a word said.
-#[derive(Clone, Copy, Debug, PartialEq, Eq)]
+#[derive(Clone, Copy, PartialEq, Eq)]
 struct Answers {
     load: Result<(), LoadFault>,
     write: Result<(), Failed>,
@@ -60,13 +60,17 @@ fn tells(desk: &MemoryDesk, name: &str, bytes: &[u8]) -> bool {
     desk.file(name).unwrap_or(b"") == bytes
 }
 
-/// Whether all six calls are done, and the load gives this file, and they leave this said and no file being written.
-fn keeps(rt: &HostRuntime, given: &[u8], said: &[u8]) -> Result<bool, AllocError> {
+/// Whether all six calls are done, the load gives this file, and the desk tells it, what was written and said, no other
+/// file and none that is being written.
+fn keeps(rt: &HostRuntime, given: &[u8], written: &[u8], said: &[u8]) -> Result<bool, AllocError> {
     let mut desk = memory_desk(rt, &[])?;
     let mut into = Vec::new(rt.alloc());
     Ok(
         six_calls(&mut desk, &mut into) == ALL_DONE
             && into.as_slice() == given
+            && tells(&desk, "in", given)
+            && tells(&desk, "out", written)
+            && desk.file("other").is_none()
             && desk.said_bytes() == said
             && desk.out_bytes().is_empty(),
     )
@@ -74,47 +78,41 @@ fn keeps(rt: &HostRuntime, given: &[u8], said: &[u8]) -> Result<bool, AllocError
 
 #[test]
 fn memory_desk_keeps_what_it_is_given(rt: HostRuntime) -> Result<(), Fail> {
-    assert!(rt; keeps(&rt, b"given", b"word")?);
+    assert!(rt; keeps(&rt, b"given", b"written", b"word")?);
     Ok(())
 }
 
-/// Whether a desk behind the six calls tells these files, and no other.
-fn tells_files(rt: &HostRuntime, given: &[u8], written: &[u8]) -> Result<bool, AllocError> {
-    let mut desk = memory_desk(rt, &[])?;
-    let mut into = Vec::new(rt.alloc());
-    six_calls(&mut desk, &mut into);
-    Ok(tells(&desk, "in", given) && tells(&desk, "out", written) && desk.file("other").is_none())
-}
+const LOAD_FAILS: Answers = Answers {
+    load: Err(LoadFault::Failed),
+    write: Ok(()),
+    say: Ok(()),
+};
 
-#[test]
-fn memory_desk_tells_its_files(rt: HostRuntime) -> Result<(), Fail> {
-    assert!(rt; tells_files(&rt, b"given", b"written")?);
-    Ok(())
-}
+const WRITE_FAILS: Answers = Answers {
+    load: Ok(()),
+    write: Err(Failed),
+    say: Ok(()),
+};
+
+const SAY_FAILS: Answers = Answers {
+    load: Ok(()),
+    write: Ok(()),
+    say: Err(Failed),
+};
+
+/// The call that fails, what the six calls are answered, and the bytes in the file and on the screen then.
+const FAULTS: [(u64, Answers, &[u8], &[u8]); 6] = [
+    (1, LOAD_FAILS, b"written", b"word"),
+    (2, WRITE_FAILS, b"", b"word"),
+    (3, WRITE_FAILS, b"", b"word"),
+    (4, WRITE_FAILS, b"", b"word"),
+    (5, WRITE_FAILS, b"", b"word"),
+    (6, SAY_FAILS, b"written", b""),
+];
 
 #[test]
 fn memory_desk_fails_at_each_call(rt: HostRuntime) -> Result<(), Fail> {
-    let load = Answers {
-        load: Err(LoadFault::Failed),
-        ..ALL_DONE
-    };
-    let write = Answers {
-        write: Err(Failed),
-        ..ALL_DONE
-    };
-    let say = Answers {
-        say: Err(Failed),
-        ..ALL_DONE
-    };
-    let expected: [(u64, Answers, &[u8], &[u8]); 6] = [
-        (1, load, b"written", b"word"),
-        (2, write, b"", b"word"),
-        (3, write, b"", b"word"),
-        (4, write, b"", b"word"),
-        (5, write, b"", b"word"),
-        (6, say, b"written", b""),
-    ];
-    for (ordinal, answers, written, said) in expected {
+    for (ordinal, answers, written, said) in FAULTS {
         assert!(rt;
             leaves(&rt, &[ordinal], answers, written, said)?,
             "call {ordinal}"
@@ -151,6 +149,6 @@ fn counts(alloc: Global) -> Result<Option<(u64, u64)>, AllocError> {
 
 #[test]
 fn sure_desk_counts(rt: HostRuntime) -> Result<(), Fail> {
-    assert_eq!(rt; counts(rt.alloc())?, Some((7, 4)));
+    assert!(rt; counts(rt.alloc())? == Some((7, 4)));
     Ok(())
 }

@@ -15,13 +15,18 @@ struct NamedFile {
     bytes: Vec<u8>,
 }
 
+/// A file with copies of this name and these bytes.
+fn copy_file(alloc: Global, name: &str, bytes: &[u8]) -> Result<NamedFile, AllocError> {
+    let name = Vec::from_slice(alloc, name.as_bytes())?;
+    let bytes = Vec::from_slice(alloc, bytes)?;
+    Ok(NamedFile { name, bytes })
+}
+
 /// Copies of the files, in their order.
 fn copy_files(alloc: Global, files: &[(&str, &[u8])]) -> Result<Vec<NamedFile>, AllocError> {
-    let mut kept = Vec::with_capacity(alloc, files.len())?;
+    let mut kept = Vec::new(alloc);
     for (name, bytes) in files {
-        let name = Vec::from_slice(alloc, name.as_bytes())?;
-        let bytes = Vec::from_slice(alloc, bytes)?;
-        kept.push(NamedFile { name, bytes })?;
+        kept.push(copy_file(alloc, name, bytes)?)?;
     }
     Ok(kept)
 }

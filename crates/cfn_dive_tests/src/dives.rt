@@ -29,7 +29,7 @@ fn tri(alloc: Global) -> Result<Network, AllocError> {
 }
 
 /// What is asked of a dive.
-#[derive(Clone, Copy, Debug, PartialEq, Eq)]
+#[derive(Clone, Copy, PartialEq, Eq)]
 struct Made {
     /// The threshold of the piece.
     threshold: u64,
@@ -128,7 +128,7 @@ fn has_open(tree: &Tree) -> bool {
         let id = NodeId {
             number: number as u32,
         };
-        if tree.node(id).end == End::Free {
+        if matches!(tree.node(id).end, End::Free) {
             return true;
         }
     }
@@ -189,7 +189,7 @@ fn dive_closes_all(rt: HostRuntime) -> Result<(), Fail> {
         open: false,
         cut: false,
     };
-    assert_eq!(rt; dive_in_tri(rt.alloc(), AMPLE)?, Some(all));
+    assert!(rt; dive_in_tri(rt.alloc(), AMPLE)? == Some(all));
     Ok(())
 }
 
@@ -200,6 +200,6 @@ fn dive_ends_after_its_backtracks(rt: HostRuntime) -> Result<(), Fail> {
         open: true,
         cut: true,
     };
-    assert_eq!(rt; dive_in_tri(rt.alloc(), 1)?, Some(some));
+    assert!(rt; dive_in_tri(rt.alloc(), 1)? == Some(some));
     Ok(())
 }

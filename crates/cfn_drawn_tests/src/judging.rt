@@ -300,11 +300,8 @@ impl Judge {
                     Ok(decision) => decision,
                     Err(kind) => return Ok(Some(kind)),
                 };
-                let mut second = Vec::from_slice(alloc, history.as_slice())?;
-                second.insert(0, Event::Refused(decision))?;
-                history.insert(0, Event::Took(decision))?;
-                self.due.push(second)?;
-                self.due.push(history)?;
+                self.due.push(with(alloc, &history, Event::Refused(decision))?)?;
+                self.due.push(with(alloc, &history, Event::Took(decision))?)?;
             }
             _ => {
                 let fault = self.step(alloc, network, words, &mut history)?;
@@ -344,6 +341,13 @@ impl Judge {
         k <= cfn_plain::floor(network, history)
             || (0..network.variables()).any(|x| is_wiped(network, history, x))
     }
+}
+
+/// A history behind which an event happened, the newest event first.
+fn with(alloc: Global, history: &[Event], event: Event) -> Result<Vec<Event>, AllocError> {
+    let mut longer = Vec::from_slice(alloc, &[event])?;
+    longer.extend_from_slice(history)?;
+    Ok(longer)
 }
 
 /// Whether no value of a variable is live behind a history.

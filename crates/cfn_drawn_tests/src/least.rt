@@ -9,7 +9,6 @@ use cfn_proof::{Outcome, Row, Stop};
 use cfn_testing::drawing::{Dice, MOST, draw, file_of, least_of};
 use cfn_testing::running::{certificate_of, check_answers};
 use std::alloc::{AllocError, AllocGlobal, Global};
-use std::process::Abort;
 use std::sync::Wait;
 use std::test::Fail;
 use std::thread::Threads;
@@ -20,29 +19,35 @@ const AMPLE: u64 = 1_000_000;
 /// How many networks are drawn for each upper bound.
 const DRAWN: u64 = 50;
 
-/// Judges the searches of a file whose least cost below its upper bound is known.
-fn judge<R: Abort>(rt: &R, alloc: Global, file: &str, least: Option<u64>) -> Result<(), Fail> {
-    let network = cfn_wcsp::read(alloc, file.as_bytes())?;
-    assert_eq!(rt; cfn_plain::least(alloc, &network)?, least, "of {file}");
-    assert!(rt; is_done(alloc, &network, least)?, "of {file}");
+/// Whether the searches of a network with this least cost below its upper bound are right, also with budgets of 0, 1 and 2.
+fn is_searched(alloc: Global, network: &Network, least: Option<u64>) -> Result<bool, AllocError> {
     for budget in 0..3 {
-        assert!(rt;
-            is_cut(alloc, &network, least, budget)?,
-            "of {file} with {budget}"
-        );
+        if !is_cut(alloc, network, least, budget)? {
+            return Ok(false);
+        }
     }
-    Ok(())
+    Ok(cfn_plain::least(alloc, network)? == least && is_done(alloc, network, least)?)
+}
+
+/// The same of a file, and whether `check` verifies what `solve` writes of it.
+fn is_right<R: AllocGlobal + Threads + Wait + Sync>(
+    rt: &R,
+    file: &str,
+    least: Option<u64>,
+) -> Result<bool, Fail> {
+    let network = cfn_wcsp::read(rt.alloc(), file.as_bytes())?;
+    Ok(is_searched(rt.alloc(), &network, least)? && is_verified(rt, file)?)
 }
 
 /// Whether a search with an ample budget is sound, and ends with this least cost and its bound.
 fn is_done(alloc: Global, network: &Network, least: Option<u64>) -> Result<bool, AllocError> {
     let whole = solve(alloc, network, AMPLE)?;
-    Ok(
-        whole.stop == Stop::Done
-            && price(&whole) == least
-            && whole.certificate.lower == least.unwrap_or(network.ub())
-            && is_sound(alloc, network, &whole)?,
-    )
+    let done = whole.stop == Stop::Done
+        && price(&whole) == least
+        && whole.certificate.lower == least.unwrap_or(network.ub());
+    let sound = is_sound(alloc, network, &whole);
+    drop(whole);
+    Ok(done && sound?)
 }
 
 /// Whether a search with a small budget is sound, keeps it, and has this least cost between its bounds.
@@ -56,12 +61,12 @@ fn is_cut(
 {
     let cut = solve(alloc, network, budget)?;
     let cost = least.unwrap_or(network.ub());
-    Ok(
-        is_within(&cut, budget)
-            && cut.certificate.lower <= cost
-            && cost <= price(&cut).unwrap_or(network.ub())
-            && is_sound(alloc, network, &cut)?,
-    )
+    let kept = is_within(&cut, budget)
+        && cut.certificate.lower <= cost
+        && cost <= price(&cut).unwrap_or(network.ub());
+    let sound = is_sound(alloc, network, &cut);
+    drop(cut);
+    Ok(kept && sound?)
 }
 
 /// Whether the certificate of an outcome is good, its tree strict, its lower bound the tree's bound, and the first
@@ -100,26 +105,47 @@ fn price(outcome: &Outcome) -> Option<u64> {
 const BUDGETS: [(u32, &str); 4] = [(0, "0"), (1, "1"), (2, "2"), (1_000_000, "1000000")];
 
 /// What `check` is to say of the certificate of a search.
-fn verdict_of(alloc: Global, file: &str, budget: u32) -> Result<Verdict, Fail> {
+fn verdict(alloc: Global, network: &Network, budget: u32) -> Result<Verdict, AllocError> {
+    let outcome = solve(alloc, network, budget as u64)?;
+    let lower = outcome.certificate.lower;
+    let best = price(&outcome);
+    drop(outcome);
+    Ok(Verdict::Verified { lower, best })
+}
+
+/// What `check` is to say of the certificate of a search of a file.
+fn said_of(alloc: Global, file: &str, budget: u32) -> Result<String, Fail> {
     let network = cfn_wcsp::read(alloc, file.as_bytes())?;
-    let outcome = solve(alloc, &network, budget as u64)?;
-    Ok(Verdict::Verified {
-        lower: outcome.certificate.lower,
-        best: price(&outcome),
-    })
+    Ok(verdict(alloc, &network, budget)?.said(alloc)?)
+}
+
+/// Whether `check` verifies what `solve` writes of a file with this budget, and says this.
+fn verifies<R: AllocGlobal + Threads + Wait + Sync>(
+    rt: &R,
+    file: &str,
+    budget: &str,
+    said: &str,
+) -> Result<bool, AllocError> {
+    let certificate = certificate_of(rt, file.as_bytes(), budget)?;
+    check_answers(rt, file.as_bytes(), &certificate, 0, said.as_bytes())
 }
 
 /// Whether `check` verifies what `solve` writes of a file, with the bounds of the search, whatever the budget.
 fn is_verified<R: AllocGlobal + Threads + Wait + Sync>(rt: &R, file: &str) -> Result<bool, Fail> {
     for (budget, word) in BUDGETS {
-        let said = verdict_of(rt.alloc(), file, budget)?.said(rt.alloc())?;
-        let certificate = certificate_of(rt, file.as_bytes(), word)?;
-        let certificate = certificate.as_slice();
-        if !check_answers(rt, file.as_bytes(), certificate, 0, said.as_bytes())? {
+        let said = said_of(rt.alloc(), file, budget)?;
+        if !verifies(rt, file, word, said.as_str())? {
             return Ok(false);
         }
     }
     Ok(true)
+}
+
+/// A file that is drawn, and the least cost that its words say.
+fn drawn(alloc: Global, dice: &mut Dice, upper: u64) -> Result<(String, Option<u64>), AllocError> {
+    let words = draw(alloc, dice, upper)?;
+    let least = least_of(alloc, &words)?;
+    Ok((file_of(alloc, &words)?, least))
 }
 
 #[test]
@@ -127,11 +153,8 @@ fn drawn_networks(rt: HostRuntime) -> Result<(), Fail> {
     let mut dice = Dice { state: 2026 };
     for upper in [0, 1, 8, 15, 40, MOST] {
         for _ in 0..DRAWN {
-            let words = draw(rt.alloc(), &mut dice, upper)?;
-            let file = file_of(rt.alloc(), words.as_slice())?;
-            let least = least_of(rt.alloc(), words.as_slice())?;
-            judge(&rt, rt.alloc(), file.as_str(), least)?;
-            assert!(rt; is_verified(&rt, file.as_str())?, "of {file}");
+            let (file, least) = drawn(rt.alloc(), &mut dice, upper)?;
+            assert!(rt; is_right(&rt, file.as_str(), least)?, "of {file}");
         }
     }
     Ok(())
@@ -186,8 +209,7 @@ const BY_HAND: [(&str, Option<u64>); 16] = [
 #[test]
 fn networks_by_hand(rt: HostRuntime) -> Result<(), Fail> {
     for (file, least) in BY_HAND {
-        judge(&rt, rt.alloc(), file, least)?;
-        assert!(rt; is_verified(&rt, file)?, "of {file}");
+        assert!(rt; is_right(&rt, file, least)?, "of {file}");
     }
     Ok(())
 }
@@ -217,26 +239,41 @@ fn lower_within(alloc: Global, network: &Network, budget: u64) -> Result<Option<
     requires { budget ≤ 1000 }
 {
     let cut = solve(alloc, network, budget)?;
-    Ok(is_within(&cut, budget).then_some(cut.certificate.lower))
+    let lower = is_within(&cut, budget).then_some(cut.certificate.lower);
+    drop(cut);
+    Ok(lower)
 }
 
 /// Whether a search with an ample budget makes more than four rows, which come together.
 fn makes_rows(alloc: Global, network: &Network) -> Result<bool, AllocError> {
     let whole = solve(alloc, network, AMPLE)?;
-    Ok(whole.rows.len() > 4 && come_together(whole.rows.as_slice()))
+    let makes = whole.rows.len() > 4 && come_together(whole.rows.as_slice());
+    drop(whole);
+    Ok(makes)
+}
+
+/// Whether the lower bounds of searches with rising budgets rise, up to the least cost, and an ample one finds it.
+fn rise(alloc: Global, network: &Network, least: u64) -> Result<bool, AllocError> {
+    let mut lower = 0;
+    for budget in [20, 60, 150, 400] {
+        let next = lower_within(alloc, network, budget)?.unwrap_or(u64::MAX);
+        if next < lower || least < next {
+            return Ok(false);
+        }
+        lower = next;
+    }
+    is_done(alloc, network, Some(least))
+}
+
+/// The same of the groups, and whether their rows are as they are to be.
+fn ends_and_begins(alloc: Global) -> Result<bool, Fail> {
+    let file = groups(alloc)?;
+    let network = cfn_wcsp::read(alloc, file.as_bytes())?;
+    Ok(rise(alloc, &network, 7)? && makes_rows(alloc, &network)?)
 }
 
 #[test]
 fn dives_end_and_begin(rt: HostRuntime) -> Result<(), Fail> {
-    let file = groups(rt.alloc())?;
-    let network = cfn_wcsp::read(rt.alloc(), file.as_bytes())?;
-    let mut lower = 0;
-    for budget in [20, 60, 150, 400] {
-        let next = lower_within(rt.alloc(), &network, budget)?.unwrap_or(8);
-        assert!(rt; lower <= next && next <= 7);
-        lower = next;
-    }
-    assert!(rt; is_done(rt.alloc(), &network, Some(7))?);
-    assert!(rt; makes_rows(rt.alloc(), &network)?);
+    assert!(rt; ends_and_begins(rt.alloc())?);
     Ok(())
 }

@@ -129,26 +129,63 @@ fn plain_verdict(
     verdict_of(alloc, network, lines.as_slice())
 }
 
-/// Judges changes of what `solve` writes of a file with this budget, and adds their verdicts. The answer is the first
-/// of which `check` says something else than the plain judge.
+/// The plain judge's verdict of a certificate, if `check` gives the same.
+fn agreed<R: AllocGlobal + Threads + Wait + Sync>(
+    rt: &R,
+    network: &Network,
+    file: &str,
+    certificate: &str,
+) -> Result<Option<Verdict>, AllocError> {
+    let verdict = plain_verdict(rt.alloc(), network, certificate)?;
+    Ok(is_verdict(rt, file, certificate, verdict)?.then_some(verdict))
+}
+
+/// Judges changes of the lines of a certificate, and adds their verdicts. The answer is the first of which `check` says
+/// something else than the plain judge.
 fn judge_changes<R: AllocGlobal + Threads + Wait + Sync>(
     rt: &R,
     dice: &mut Dice,
+    network: &Network,
+    (file, lines): (&str, &[&str]),
+    seen: &mut Vec<Verdict>,
+) -> Result<Option<String>, AllocError> {
+    for _ in 0..CHANGES {
+        let other = changed(rt.alloc(), dice, lines)?;
+        match agreed(rt, network, file, other.as_str())? {
+            Some(verdict) => seen.push(verdict)?,
+            None => return Ok(Some(other)),
+        }
+    }
+    Ok(None)
+}
+
+/// The same of what `solve` writes of a file with this budget.
+fn judge_written<R: AllocGlobal + Threads + Wait + Sync>(
+    rt: &R,
+    dice: &mut Dice,
+    network: &Network,
+    (file, budget): (&str, &str),
+    seen: &mut Vec<Verdict>,
+) -> Result<Option<String>, AllocError> {
+    let certificate = certificate_of(rt, file.as_bytes(), budget)?;
+    let certificate = std::str::from_utf8(&certificate).unwrap_or("");
+    let lines = lines_of(rt.alloc(), certificate)?;
+    judge_changes(rt, dice, network, (file, &lines), seen)
+}
+
+/// The same of a file with each of three budgets.
+fn judge_file<R: AllocGlobal + Threads + Wait + Sync>(
+    rt: &R,
+    dice: &mut Dice,
     file: &str,
-    budget: &str,
     seen: &mut Vec<Verdict>,
 ) -> Result<Option<String>, Fail> {
     let network = cfn_wcsp::read(rt.alloc(), file.as_bytes())?;
-    let certificate = certificate_of(rt, file.as_bytes(), budget)?;
-    let certificate = std::str::from_utf8(certificate.as_slice()).unwrap_or("");
-    let lines = lines_of(rt.alloc(), certificate)?;
-    for _ in 0..CHANGES {
-        let other = changed(rt.alloc(), dice, lines.as_slice())?;
-        let verdict = plain_verdict(rt.alloc(), &network, other.as_str())?;
-        if !is_verdict(rt, file, other.as_str(), verdict)? {
-            return Ok(Some(other));
+    for budget in ["1", "3", "1000000"] {
+        let wrong = judge_written(rt, dice, &network, (file, budget), seen)?;
+        if wrong.is_some() {
+            return Ok(wrong);
         }
-        seen.push(verdict)?;
     }
     Ok(None)
 }
@@ -171,23 +208,45 @@ fn verified(seen: &[Verdict]) -> usize {
         .count()
 }
 
-#[test]
-fn changed_certificates_are_judged_plainly(rt: HostRuntime) -> Result<(), Fail> {
+/// A file that is drawn.
+fn drawn(alloc: Global, dice: &mut Dice, upper: u64) -> Result<String, AllocError> {
+    let words = draw(alloc, dice, upper)?;
+    file_of(alloc, &words)
+}
+
+/// The same of drawn files with this upper bound.
+fn judge_drawn<R: AllocGlobal + Threads + Wait + Sync>(
+    rt: &R,
+    dice: &mut Dice,
+    upper: u64,
+    seen: &mut Vec<Verdict>,
+) -> Result<Option<String>, Fail> {
+    for _ in 0..DRAWN {
+        let file = drawn(rt.alloc(), dice, upper)?;
+        let wrong = judge_file(rt, dice, file.as_str(), seen)?;
+        if wrong.is_some() {
+            return Ok(wrong);
+        }
+    }
+    Ok(None)
+}
+
+/// Whether `check` says of each change what the plain judge says, and each kind of a refusal comes, and more than a hundred
+/// changes are good.
+fn is_judged<R: AllocGlobal + Threads + Wait + Sync>(rt: &R) -> Result<bool, Fail> {
     let mut dice = Dice { state: 11 };
     let mut seen = Vec::new(rt.alloc());
     for upper in [1, 8, 15, 40] {
-        for _ in 0..DRAWN {
-            let words = draw(rt.alloc(), &mut dice, upper)?;
-            let file = file_of(rt.alloc(), words.as_slice())?;
-            for budget in ["1", "3", "1000000"] {
-                let wrong = judge_changes(&rt, &mut dice, file.as_str(), budget, &mut seen)?;
-                assert_eq!(rt; wrong, None, "of {file}");
-            }
+        if judge_drawn(rt, &mut dice, upper, &mut seen)?.is_some() {
+            return Ok(false);
         }
     }
-    for kind in Kind::ALL {
-        assert!(rt; has_kind(seen.as_slice(), kind), "none for {}", kind.word());
-    }
-    assert!(rt; verified(seen.as_slice()) > 100);
+    let seen = seen.as_slice();
+    Ok(Kind::ALL.iter().all(|kind| has_kind(seen, *kind)) && verified(seen) > 100)
+}
+
+#[test]
+fn changed_certificates_are_judged_plainly(rt: HostRuntime) -> Result<(), Fail> {
+    assert!(rt; is_judged(&rt)?);
     Ok(())
 }

@@ -50,6 +50,6 @@ fn steps_in(store: &mut Store<'_>, network: &Network) -> Result<Option<usize>, A
 #[test]
 fn lower_variable_gets_what_its_tuples_have(rt: HostRuntime) -> Result<(), Fail> {
     let network = pair(rt.alloc())?;
-    assert_eq!(rt; steps(rt.alloc(), &network)?, Some(2));
+    assert!(rt; steps(rt.alloc(), &network)? == Some(2));
     Ok(())
 }

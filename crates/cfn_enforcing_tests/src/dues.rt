@@ -78,7 +78,7 @@ fn all_waits_in_its_order(rt: HostRuntime) -> Result<(), Fail> {
         Some(Next::Directed(0)),
         None,
     ];
-    assert_eq!(rt; taken, all);
+    assert!(rt; taken == all);
     Ok(())
 }
 
@@ -97,7 +97,7 @@ fn next_of_none_and_all(alloc: Global, network: &Network) -> Result<[Option<Next
 fn all_waits_again_that_was_taken_away(rt: HostRuntime) -> Result<(), Fail> {
     let network = chain(rt.alloc())?;
     let next = next_of_none_and_all(rt.alloc(), &network)?;
-    assert_eq!(rt; next, [None, Some(Next::Arc(0))]);
+    assert!(rt; next == [None, Some(Next::Arc(0))]);
     Ok(())
 }
 
@@ -151,7 +151,7 @@ fn decision_ends_what_is_known_of_its_functions(rt: HostRuntime) -> Result<(), F
             Some(Next::Directed(2)),
             None,
         ];
-        assert_eq!(rt; taken, known);
+        assert!(rt; taken == known);
     }
     Ok(())
 }
@@ -167,7 +167,7 @@ fn lift_ends_nothing_and_an_extend_what_is_known_of_its_function(
             amount: 1,
         });
         let taken = due_behind::<1>(rt.alloc(), &network, &lift)?;
-        assert_eq!(rt; taken, [None]);
+        assert!(rt; taken == [None]);
     }
     if network.functions() == 3 && network.cells(1) == 4 {
         let cut = Event::Did(Step::CutTuple {
@@ -182,7 +182,7 @@ fn lift_ends_nothing_and_an_extend_what_is_known_of_its_function(
             Some(Next::Directed(1)),
             None,
         ];
-        assert_eq!(rt; taken, known);
+        assert!(rt; taken == known);
     }
     Ok(())
 }
@@ -235,9 +235,6 @@ fn next_noted(
 #[test]
 fn steps_of_a_block_are_noted(rt: HostRuntime) -> Result<(), Fail> {
     let network = chain(rt.alloc())?;
-    assert_eq!(rt;
-        next_behind_a_cut(rt.alloc(), &network)?,
-        Some(Next::Arc(0))
-    );
+    assert!(rt; next_behind_a_cut(rt.alloc(), &network)? == Some(Next::Arc(0)));
     Ok(())
 }

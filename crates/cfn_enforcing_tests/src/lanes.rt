@@ -23,10 +23,10 @@ fn found(entries: &[u64], shifted: &[u64], cut: &[bool]) -> Option<(usize, u64)>
 
 #[test]
 fn least_of_words_of_any_number(rt: HostRuntime) -> Result<(), Fail> {
-    assert_eq!(rt; least(&[]), None);
-    assert_eq!(rt; least(&[7, 3, u64::MAX, 3]), Some(3));
-    assert_eq!(rt; zeros(&[0, 1, 0, 0]), 3);
-    assert_eq!(rt; zeros(&[]), 0);
+    assert!(rt; least(&[]) == None);
+    assert!(rt; least(&[7, 3, u64::MAX, 3]) == Some(3));
+    assert!(rt; zeros(&[0, 1, 0, 0]) == 3);
+    assert!(rt; zeros(&[]) == 0);
     Ok(())
 }
 
@@ -34,26 +34,20 @@ fn least_of_words_of_any_number(rt: HostRuntime) -> Result<(), Fail> {
 fn amounts_wrap(rt: HostRuntime) -> Result<(), Fail> {
     let mut words = [0, 5, u64::MAX];
     put_on(&mut words, 2);
-    assert_eq!(rt; words, [2, 7, 1]);
+    assert!(rt; words == [2, 7, 1]);
     take_off(&mut words, 3);
-    assert_eq!(rt; words, [u64::MAX, 4, u64::MAX - 1]);
+    assert!(rt; words == [u64::MAX, 4, u64::MAX - 1]);
     Ok(())
 }
 
 #[test]
 fn least_of_what_is_open(rt: HostRuntime) -> Result<(), Fail> {
-    assert_eq!(rt; least_difference(&[5, 0], &[4, 1]), Some(1));
-    assert_eq!(rt; least_below(&[5, 9, 3], &[4, 9, 0], 9), Some(1));
-    assert_eq!(rt; least_below(&[5, 9], &[0, 0], 5), None);
-    assert_eq!(rt;
-        found(&[5, 100, 4, 4], &[0, 0, 1, 1], &[false; 4]),
-        Some((2, 2))
-    );
-    assert_eq!(rt;
-        found(&[5, 100, 4, 4], &[0, 0, 1, 1], &[false, false, true, true]),
-        Some((0, 4))
-    );
-    assert_eq!(rt; found(&[5, 3], &[4, 0], &[false; 2]), Some((0, 0)));
-    assert_eq!(rt; found(&[100], &[0], &[false]), None);
+    assert!(rt; least_difference(&[5, 0], &[4, 1]) == Some(1));
+    assert!(rt; least_below(&[5, 9, 3], &[4, 9, 0], 9) == Some(1));
+    assert!(rt; least_below(&[5, 9], &[0, 0], 5) == None);
+    assert!(rt; found(&[5, 100, 4, 4], &[0, 0, 1, 1], &[false; 4]) == Some((2, 2)));
+    assert!(rt; found(&[5, 100, 4, 4], &[0, 0, 1, 1], &[false, false, true, true]) == Some((0, 4)));
+    assert!(rt; found(&[5, 3], &[4, 0], &[false; 2]) == Some((0, 0)));
+    assert!(rt; found(&[100], &[0], &[false]) == None);
     Ok(())
 }

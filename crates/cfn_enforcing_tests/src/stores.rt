@@ -66,7 +66,7 @@ fn newest_in(store: &mut Store<'_>, network: &Network) -> Result<Option<(usize, 
 fn takes_room_and_makes_a_block(rt: HostRuntime) -> Result<(), Fail> {
     let network = pair(rt.alloc())?;
     let told = beginning(rt.alloc(), &network)?;
-    assert_eq!(rt; told, (0, 0, false));
+    assert!(rt; told == (0, 0, false));
     Ok(())
 }
 
@@ -78,6 +78,6 @@ fn tells_its_newest_steps(rt: HostRuntime) -> Result<(), Fail> {
         variable: 1,
         value: 0,
     };
-    assert_eq!(rt; told, Some((2, cut)));
+    assert!(rt; told == Some((2, cut)));
     Ok(())
 }

@@ -1,97 +1,96 @@
 //! Tests of decisions, and of going back to the root from behind them.
 
-use crate::acting::{Act, barred, cut, cut_tuple, done, first_odd, is, lift, most, project};
-use crate::networks::{narrow, pair, tiny, tri};
+use crate::acting::Act::{self, Barred, Closes, Done, Floor, Refuse, Take, Undo};
+use crate::acting::Choice::{Is, Most};
+use crate::acting::Move::{Cut, CutTuple, Lift, Project};
+use crate::acting::first_odd_in;
+use crate::networks::Which;
 use std::test::Fail;
 
-#[test]
-fn both_sides_close(rt: HostRuntime) -> Result<(), Fail> {
-    let network = tri(&rt)?;
-    let acts = [
-        Act::Take(is(0, 0), true),
-        // where x0 is 0, x1 and x2 are 1 both
-        done(1, project(0, 1, 0, 1)),
-        done(1, cut(1, 0)),
-        done(1, project(1, 1, 0, 1)),
-        done(1, cut(2, 0)),
-        done(1, project(2, 0, 1, 1)),
-        done(1, lift(1, 1)),
-        Act::Closes(1, true),
-        Act::Undo,
-        Act::Closes(1, false),
-        Act::Refuse(is(0, 0), true),
-        // where x0 is 1, x1 and x2 are 0 both
-        done(1, project(0, 1, 1, 1)),
-        done(1, cut(1, 1)),
-        done(1, project(1, 1, 1, 1)),
-        done(1, cut(2, 1)),
-        done(1, project(2, 0, 0, 1)),
-        done(1, lift(1, 1)),
-        Act::Closes(1, true),
-        Act::Undo,
-        Act::Closes(1, false),
-        Act::Floor(0),
-    ];
-    assert_eq!(rt; first_odd(rt.alloc(), &network, &acts)?, None);
-    Ok(())
-}
+/// Each side of a decision closes, and the root does not.
+const BOTH_SIDES_CLOSE: [Act; 21] = [
+    Take(Is(0, 0), true),
+    // where x0 is 0, x1 and x2 are 1 both
+    Done(1, Project(0, 1, 0, 1)),
+    Done(1, Cut(1, 0)),
+    Done(1, Project(1, 1, 0, 1)),
+    Done(1, Cut(2, 0)),
+    Done(1, Project(2, 0, 1, 1)),
+    Done(1, Lift(1, 1)),
+    Closes(1, true),
+    Undo,
+    Closes(1, false),
+    Refuse(Is(0, 0), true),
+    // where x0 is 1, x1 and x2 are 0 both
+    Done(1, Project(0, 1, 1, 1)),
+    Done(1, Cut(1, 1)),
+    Done(1, Project(1, 1, 1, 1)),
+    Done(1, Cut(2, 1)),
+    Done(1, Project(2, 0, 0, 1)),
+    Done(1, Lift(1, 1)),
+    Closes(1, true),
+    Undo,
+    Closes(1, false),
+    Floor(0),
+];
 
-#[test]
-fn undo_takes_a_bound_back(rt: HostRuntime) -> Result<(), Fail> {
-    let network = tiny(&rt)?;
-    let acts = [
-        Act::Refuse(most(0, 1), true),
-        Act::Closes(1, true),
-        Act::Undo,
-        Act::Take(most(0, 1), true),
-        Act::Closes(1, false),
-        Act::Take(most(0, 0), true),
-        Act::Closes(1, false),
-        Act::Refuse(is(0, 0), true),
-        Act::Closes(1, true),
-    ];
-    assert_eq!(rt; first_odd(rt.alloc(), &network, &acts)?, None);
-    Ok(())
-}
+/// A bound is taken back.
+const UNDO_TAKES_A_BOUND_BACK: [Act; 9] = [
+    Refuse(Most(0, 1), true),
+    Closes(1, true),
+    Undo,
+    Take(Most(0, 1), true),
+    Closes(1, false),
+    Take(Most(0, 0), true),
+    Closes(1, false),
+    Refuse(Is(0, 0), true),
+    Closes(1, true),
+];
 
 /// The project is not allowed before the tuple that costs 2 is cut, once or twice, and allowed behind it.
-#[test]
-fn a_cut_tuple_counts_no_more(rt: HostRuntime) -> Result<(), Fail> {
-    let network = pair(&rt)?;
-    let acts = [
-        barred(2, cut_tuple(0, 2)),
-        barred(2, project(0, 0, 0, 5)),
-        done(2, cut_tuple(0, 1)),
-        done(2, cut_tuple(0, 1)),
-        done(2, project(0, 0, 0, 5)),
-        Act::Undo,
-        barred(2, project(0, 0, 0, 5)),
-        done(2, cut_tuple(0, 1)),
-        done(2, cut_tuple(0, 1)),
-        done(2, project(0, 0, 0, 5)),
-    ];
-    assert_eq!(rt; first_odd(rt.alloc(), &network, &acts)?, None);
-    Ok(())
-}
+const A_CUT_TUPLE_COUNTS_NO_MORE: [Act; 10] = [
+    Barred(2, CutTuple(0, 2)),
+    Barred(2, Project(0, 0, 0, 5)),
+    Done(2, CutTuple(0, 1)),
+    Done(2, CutTuple(0, 1)),
+    Done(2, Project(0, 0, 0, 5)),
+    Undo,
+    Barred(2, Project(0, 0, 0, 5)),
+    Done(2, CutTuple(0, 1)),
+    Done(2, CutTuple(0, 1)),
+    Done(2, Project(0, 0, 0, 5)),
+];
+
+/// Tuples with a value that is not live are not asked.
+const LIVE_TUPLES_ALONE_ARE_ASKED: [Act; 13] = [
+    Barred(9, Project(0, 1, 0, 2)),
+    Barred(9, Project(0, 0, 1, 2)),
+    Barred(9, Project(0, 2, 1, 2)),
+    Refuse(Is(2, 1), true),
+    Done(9, Project(0, 1, 0, 4)),
+    Undo,
+    Barred(9, Project(0, 1, 0, 2)),
+    Barred(9, Project(0, 0, 1, 2)),
+    Barred(9, Project(0, 2, 1, 2)),
+    Refuse(Is(1, 0), true),
+    Done(9, Project(0, 1, 0, 2)),
+    Done(9, Project(0, 0, 1, 2)),
+    Done(9, Project(0, 2, 1, 2)),
+];
+
+/// The lists, and the networks that they are for.
+const LISTS: [(Which, &[Act]); 4] = [
+    (Which::Tri, &BOTH_SIDES_CLOSE),
+    (Which::Tiny, &UNDO_TAKES_A_BOUND_BACK),
+    (Which::Pair, &A_CUT_TUPLE_COUNTS_NO_MORE),
+    (Which::Narrow, &LIVE_TUPLES_ALONE_ARE_ASKED),
+];
 
 #[test]
-fn live_tuples_alone_are_asked(rt: HostRuntime) -> Result<(), Fail> {
-    let network = narrow(&rt)?;
-    let acts = [
-        barred(9, project(0, 1, 0, 2)),
-        barred(9, project(0, 0, 1, 2)),
-        barred(9, project(0, 2, 1, 2)),
-        Act::Refuse(is(2, 1), true),
-        done(9, project(0, 1, 0, 4)),
-        Act::Undo,
-        barred(9, project(0, 1, 0, 2)),
-        barred(9, project(0, 0, 1, 2)),
-        barred(9, project(0, 2, 1, 2)),
-        Act::Refuse(is(1, 0), true),
-        done(9, project(0, 1, 0, 2)),
-        done(9, project(0, 0, 1, 2)),
-        done(9, project(0, 2, 1, 2)),
-    ];
-    assert_eq!(rt; first_odd(rt.alloc(), &network, &acts)?, None);
+fn decisions_are_gone_back_from(rt: HostRuntime) -> Result<(), Fail> {
+    for (list, (which, acts)) in LISTS.iter().enumerate() {
+        let odd = first_odd_in(rt.alloc(), *which, acts)?;
+        assert!(rt; odd.is_none(), "in list {list}");
+    }
     Ok(())
 }

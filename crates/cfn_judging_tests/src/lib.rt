@@ -3,7 +3,7 @@
 //! - `networks` has the networks.
 //! - `acting` makes a list of acts in a ledger, and names the first that goes otherwise than the list says.
 //! - `stepping` has lists of steps, and `deciding` lists with decisions that are gone back from.
-//! - `judging` has whole texts, and what the checker answers to each.
+//! - `judging` has whole texts, and what the checker answers to each, in one table.
 //! - `reading` has texts, and what the reader of certificates tells of each line.
 #![tactic(auto)]
 

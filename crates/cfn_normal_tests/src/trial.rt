@@ -19,22 +19,13 @@ fn trial<R: AllocGlobal + Threads + Wait + Sync>(
 #[test]
 fn least_costs_of_one_and_two_variables(rt: HostRuntime) -> Result<(), Fail> {
     let run = trial(&rt, &["wcspsolve", "trial", "7", "1"])?;
-    assert_eq!(rt; run.status, 0);
-    assert_eq!(rt;
-        run.said(),
-        b"variables 1\nfunctions 1\nleast 2\n".as_slice()
-    );
+    assert!(rt; run.status == 0);
+    assert!(rt; run.said() == b"variables 1\nfunctions 1\nleast 2\n".as_slice());
     let run = trial(&rt, &["wcspsolve", "trial", "7", "2"])?;
-    assert_eq!(rt; run.status, 0);
-    assert_eq!(rt;
-        run.said(),
-        b"variables 2\nfunctions 3\nleast 5\n".as_slice()
-    );
+    assert!(rt; run.status == 0);
+    assert!(rt; run.said() == b"variables 2\nfunctions 3\nleast 5\n".as_slice());
     let run = trial(&rt, &["wcspsolve", "trial", "7", "3"])?;
-    assert_eq!(rt;
-        run.said(),
-        b"variables 3\nfunctions 6\nleast 11\n".as_slice()
-    );
+    assert!(rt; run.said() == b"variables 3\nfunctions 6\nleast 11\n".as_slice());
     Ok(())
 }
 
@@ -44,24 +35,18 @@ fn workers_change_nothing(rt: HostRuntime) -> Result<(), Fail> {
     for workers in ["1", "2", "8"] {
         let words = ["wcspsolve", "trial", "7", "20", "--workers", workers];
         let run = trial(&rt, &words)?;
-        assert_eq!(rt; run.status, 0);
-        assert_eq!(rt;
-            run.said(),
-            b"variables 20\nfunctions 57\nleast 139\n".as_slice()
-        );
+        assert!(rt; run.status == 0);
+        assert!(rt; run.said() == b"variables 20\nfunctions 57\nleast 139\n".as_slice());
     }
     let run = trial(&rt, &["wcspsolve", "trial", "7", "20"])?;
-    assert_eq!(rt;
-        run.said(),
-        b"variables 20\nfunctions 57\nleast 139\n".as_slice()
-    );
+    assert!(rt; run.said() == b"variables 20\nfunctions 57\nleast 139\n".as_slice());
     Ok(())
 }
 
 #[test]
 fn failed_say_is_a_fault(rt: HostRuntime) -> Result<(), Fail> {
     let run = Run::over(&rt, &["wcspsolve", "trial", "7", "1"], &[], &[2], "out")?;
-    assert_eq!(rt; run.status, 5);
-    assert_eq!(rt; run.said(), b"variables 1\n".as_slice());
+    assert!(rt; run.status == 5);
+    assert!(rt; run.said() == b"variables 1\n".as_slice());
     Ok(())
 }

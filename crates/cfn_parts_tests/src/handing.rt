@@ -35,7 +35,7 @@ fn root(network: &Network, leaves: &mut Leaves) -> Option<Task>
 }
 
 /// What leaves answered to a piece.
-#[derive(Clone, Copy, Debug, PartialEq, Eq)]
+#[derive(Clone, Copy, PartialEq, Eq)]
 enum Answer {
     Nothing,
     Done,
@@ -102,13 +102,13 @@ fn given(alloc: Global, recalled: bool) -> Result<((u64, Answer), (u64, u64, usi
 
 #[test]
 fn piece_takes_the_place_of_the_root(rt: HostRuntime) -> Result<(), Fail> {
-    assert_eq!(rt; given(rt.alloc(), false)?, ((0, Answer::Done), (1, 1, 3)));
+    assert!(rt; given(rt.alloc(), false)? == ((0, Answer::Done), (1, 1, 3)));
     Ok(())
 }
 
 #[test]
 fn piece_is_refused_after_a_recall(rt: HostRuntime) -> Result<(), Fail> {
-    assert_eq!(rt; given(rt.alloc(), true)?, ((0, Answer::Gone), (0, 2, 1)));
+    assert!(rt; given(rt.alloc(), true)? == ((0, Answer::Gone), (0, 2, 1)));
     Ok(())
 }
 
@@ -132,7 +132,7 @@ fn given_back(alloc: Global) -> Result<(Option<(u64, bool, bool)>, u64), AllocEr
 
 #[test]
 fn task_is_given_back_once(rt: HostRuntime) -> Result<(), Fail> {
-    assert_eq!(rt; given_back(rt.alloc())?, (Some((7, true, false)), 9));
+    assert!(rt; given_back(rt.alloc())? == (Some((7, true, false)), 9));
     Ok(())
 }
 
@@ -151,7 +151,7 @@ fn sweep(network: &Network, leaves: &mut Leaves) -> (u64, u64, usize)
 /// Whether the root of the tree is closed.
 fn is_shut(leaves: Leaves) -> bool {
     let (tree, _) = leaves.finish();
-    tree.node(Tree::ROOT).end == End::Shut
+    matches!(tree.node(Tree::ROOT).end, End::Shut)
 }
 
 /// The same for new leaves, and whether their root is closed then.
@@ -164,6 +164,6 @@ fn swept(alloc: Global) -> Result<((u64, u64, usize), bool), AllocError> {
 
 #[test]
 fn sweep_closes_the_root(rt: HostRuntime) -> Result<(), Fail> {
-    assert_eq!(rt; swept(rt.alloc())?, ((0, 10, 2), true));
+    assert!(rt; swept(rt.alloc())? == ((0, 10, 2), true));
     Ok(())
 }

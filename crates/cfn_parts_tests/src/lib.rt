@@ -4,8 +4,8 @@
 //! - `trees` has blocks, paths and trees.
 //! - `waiting` has the queue, `table` rows of different lengths, and `values` the live values.
 //! - `nodes` has node consistency.
-//! - `listing` has the open list, `handing` the leaves of a tree that are handed out, and `pooling` a pool over them; `halving`
-//!   splits a task's leaf for these.
+//! - `listing` has the open list, `handing` the leaves of a tree that are handed out, `pooling` a pool over them, and
+//!   `machine` the pool machine; `halving` splits a task's leaf for these.
 #![tactic(auto)]
 
 #[cfg(test)]
@@ -16,6 +16,8 @@ mod halving;
 mod handing;
 #[cfg(test)]
 mod listing;
+#[cfg(test)]
+mod machine;
 #[cfg(test)]
 mod networks;
 #[cfg(test)]

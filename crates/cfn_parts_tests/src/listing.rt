@@ -29,25 +29,23 @@ fn takings(alloc: Global) -> Result<(usize, Option<OpenLeaf>, [Option<OpenLeaf>;
     Ok((len, least, taken))
 }
 
-/// The least of no leaf.
-fn least_of_none(alloc: Global) -> Option<OpenLeaf> {
-    OpenList::make(alloc).least()
+/// Whether no leaf has a least one.
+fn is_none_least(alloc: Global) -> bool {
+    OpenList::make(alloc).least().is_none()
 }
 
 #[test]
 fn least_floor_first_and_then_least_number(rt: HostRuntime) -> Result<(), Fail> {
-    assert_eq!(rt; least_of_none(rt.alloc()), None);
-    let (len, least, taken) = takings(rt.alloc())?;
-    assert_eq!(rt; len, 4);
-    assert_eq!(rt; least, Some(OpenLeaf { floor: 5, leaf: 3 }));
+    assert!(rt; is_none_least(rt.alloc()));
+    let least = OpenLeaf { floor: 5, leaf: 3 };
     let expected = [
-        Some(OpenLeaf { floor: 5, leaf: 3 }),
+        Some(least),
         Some(OpenLeaf { floor: 5, leaf: 4 }),
         Some(OpenLeaf { floor: 6, leaf: 0 }),
         Some(OpenLeaf { floor: 7, leaf: 1 }),
         None,
     ];
-    assert_eq!(rt; taken, expected);
+    assert!(rt; takings(rt.alloc())? == (4, Some(least), expected));
     Ok(())
 }
 
@@ -67,6 +65,6 @@ fn kept_below_six(alloc: Global) -> Result<(usize, Option<OpenLeaf>), AllocError
 #[test]
 fn leaves_below_a_floor_are_kept(rt: HostRuntime) -> Result<(), Fail> {
     let kept = kept_below_six(rt.alloc())?;
-    assert_eq!(rt; kept, (1, Some(OpenLeaf { floor: 5, leaf: 4 })));
+    assert!(rt; kept == (1, Some(OpenLeaf { floor: 5, leaf: 4 })));
     Ok(())
 }

@@ -8,94 +8,129 @@ use std::alloc::{AllocError, Global};
 use std::test::Fail;
 
 /// Two variables of 2 and 3 values, and one function over the second: it costs 3, and 7 where the value is 2.
-fn tiny(rt: &HostRuntime) -> Result<Network, Fail> {
-    let mut builder = Builder::make(rt.alloc(), b"tiny", &[2, 3], 10)?;
+fn tiny(alloc: Global) -> Result<Network, AllocError> {
+    let mut builder = Builder::make(alloc, b"tiny", &[2, 3], 10)?;
     builder.function(&[1], 3, &[(&[2], 7)])?;
-    Ok(builder.finish()?)
+    builder.finish()
+}
+
+/// What no assignment of a network costs, and one with these values, if they fit.
+fn prices(
+    alloc: Global,
+    network: &Network,
+    values: &[u32],
+) -> Result<(u64, Option<u64>), AllocError> {
+    let mut scored = Scored::empty(alloc, network)?;
+    let empty = scored.price();
+    if network.fits(values) != Fit::Fits {
+        return Ok((empty, None));
+    }
+    scored.fill(network, values);
+    Ok((empty, Some(scored.price())))
+}
+
+/// Whether that network has these prices, and too few values and a value that is too great do not fit.
+fn is_scored(alloc: Global) -> Result<bool, AllocError> {
+    let network = tiny(alloc)?;
+    let prices = prices(alloc, &network, &[1, 2])?;
+    Ok(
+        prices == (10, Some(7))
+            && network.fits(&[1]) == Fit::Length
+            && network.fits(&[2, 3]) == Fit::Value(0),
+    )
 }
 
 #[test]
 fn builds_and_scores(rt: HostRuntime) -> Result<(), Fail> {
-    let network = tiny(&rt)?;
-    let mut scored = Scored::empty(rt.alloc(), &network)?;
-    assert_eq!(rt; scored.price(), 10);
-    let values = [1, 2];
-    assert_eq!(rt; network.fits(&values), Fit::Fits);
-    scored.fill(&network, &values);
-    assert_eq!(rt; scored.price(), 7);
-    assert_eq!(rt; network.fits(&[1]), Fit::Length);
-    assert_eq!(rt; network.fits(&[2, 3]), Fit::Value(0));
+    assert!(rt; is_scored(rt.alloc())?);
     Ok(())
 }
 
 /// Two variables of 4 values, and a function over both: it costs 1, but 7 at cell 5, and where `second` is set, 4 at
 /// cell 10.
-fn square(rt: &HostRuntime, second: bool) -> Result<Network, Fail> {
-    let mut builder = Builder::make(rt.alloc(), b"square", &[4, 4], 10)?;
+fn square(alloc: Global, second: bool) -> Result<Network, AllocError> {
+    let mut builder = Builder::make(alloc, b"square", &[4, 4], 10)?;
     builder.begin(&[0, 1], 1)?;
     builder.list(5, 7);
     if second {
         builder.list(10, 4);
     }
-    Ok(builder.finish()?)
+    builder.finish()
+}
+
+/// Whether each cell of that function costs what it does, as an entry and as the cost of its values.
+fn costs(network: &Network, second: bool) -> bool {
+    if network.functions() != 1 || network.cells(0) != 16 {
+        return false;
+    }
+    for cell in 0..16 {
+        let cost = match cell {
+            5 => 7,
+            10 if second => 4,
+            _ => 1,
+        };
+        let values = [cell / 4, cell % 4];
+        if network.entry(0, cell) != cost
+            || network.fits(&values) != Fit::Fits
+            || network.cost(&values).value() != cost
+        {
+            return false;
+        }
+    }
+    true
+}
+
+/// Whether all entries of that function are kept, and no cell is listed alone.
+fn is_whole(network: &Network) -> bool {
+    network.functions() == 1 && network.table(0).is_some() && network.listed(0).is_none()
+}
+
+/// Whether that network has its costs, and keeps all entries where `second` is set.
+fn lists(alloc: Global, second: bool) -> Result<bool, AllocError> {
+    let network = square(alloc, second)?;
+    Ok(costs(&network, second) && is_whole(&network) == second)
 }
 
 /// One entry of 16 that differs from the default is listed alone; with two of them all entries are kept.
 #[test]
 fn lists_few_entries(rt: HostRuntime) -> Result<(), Fail> {
     for second in [false, true] {
-        let network = square(&rt, second)?;
-        assert_eq!(rt; network.functions(), 1);
-        assert_eq!(rt; network.cells(0), 16);
-        assert_eq!(rt; network.table(0).is_some(), second);
-        assert_eq!(rt; network.listed(0).is_none(), second);
-        for cell in 0..16 {
-            let cost = match cell {
-                5 => 7,
-                10 if second => 4,
-                _ => 1,
-            };
-            let values = [cell / 4, cell % 4];
-            assert_eq!(rt; network.entry(0, cell), cost);
-            assert_eq!(rt; network.fits(&values), Fit::Fits);
-            assert_eq!(rt; network.cost(&values).value(), cost);
-        }
+        assert!(rt; lists(rt.alloc(), second)?);
     }
     Ok(())
 }
 
-/// Whether a function has this table.
-fn has(network: &Network, f: u32, entries: &[u64]) -> bool
-    requires { f < length network.now.functions }
-{
-    matches!(network.table(f), Some(table) if table == entries)
-}
-
 /// Functions that share a table, the last of which is written at one cell.
-#[test]
-fn shares_tables(rt: HostRuntime) -> Result<(), Fail> {
-    let mut builder = Builder::make(rt.alloc(), b"shared", &[2, 2, 2], 10)?;
+fn sharing(alloc: Global) -> Result<Network, AllocError> {
+    let mut builder = Builder::make(alloc, b"shared", &[2, 2, 2], 10)?;
     builder.function(&[0, 1], 1, &[(&[0, 1], 5)])?;
     builder.shared(&[1, 2], 0)?;
     builder.shared(&[2, 0], 1)?;
     builder.list(3, 9);
-    let network = builder.finish()?;
-    assert_eq!(rt; network.functions(), 3);
-    assert_eq!(rt; network.scope(1), [1, 2].as_slice());
-    assert!(rt; has(&network, 0, &[1, 5, 1, 1]));
-    assert!(rt; has(&network, 1, &[1, 5, 1, 1]));
-    assert!(rt; has(&network, 2, &[1, 5, 1, 9]));
-    Ok(())
+    builder.finish()
 }
 
-/// What a network lists alone is all there for those who go over it.
+/// Whether a function has this scope and this table.
+fn has(network: &Network, f: u32, scope: &[u32], entries: &[u64]) -> bool {
+    f < network.functions()
+        && network.scope(f) == scope
+        && matches!(network.table(f), Some(table) if table == entries)
+}
+
+/// Whether those functions have their tables.
+fn shares(alloc: Global) -> Result<bool, AllocError> {
+    let network = sharing(alloc)?;
+    Ok(
+        network.functions() == 3
+            && has(&network, 0, &[0, 1], &[1, 5, 1, 1])
+            && has(&network, 1, &[1, 2], &[1, 5, 1, 1])
+            && has(&network, 2, &[2, 0], &[1, 5, 1, 9]),
+    )
+}
+
 #[test]
-fn expands_tables(rt: HostRuntime) -> Result<(), Fail> {
-    let network = square(&rt, false)?;
-    let tables = Tables::expand(rt.alloc(), &network)?;
-    assert_eq!(rt; network.functions(), 1);
-    let table = [1, 1, 1, 1, 1, 7, 1, 1, 1, 1, 1, 1, 1, 1, 1, 1];
-    assert_eq!(rt; tables.table(&network, 0), table.as_slice());
+fn shares_tables(rt: HostRuntime) -> Result<(), Fail> {
+    assert!(rt; shares(rt.alloc())?);
     Ok(())
 }
 
@@ -117,13 +152,27 @@ fn greatest(alloc: Global, network: &Network, tables: &Tables) -> Result<u64, Al
     }
 }
 
-/// Two stores over the same tables.
+/// The greatest cost of that square, by each of two stores over the same tables.
+fn greatest_twice(alloc: Global) -> Result<(u64, u64), AllocError> {
+    let network = square(alloc, false)?;
+    let tables = Tables::expand(alloc, &network)?;
+    let first = greatest(alloc, &network, &tables)?;
+    let second = greatest(alloc, &network, &tables)?;
+    Ok((first, second))
+}
+
+/// Whether the tables of that square have these entries.
+fn expands(alloc: Global, entries: &[u64]) -> Result<bool, AllocError> {
+    let network = square(alloc, false)?;
+    let tables = Tables::expand(alloc, &network)?;
+    Ok(network.functions() == 1 && tables.table(&network, 0) == entries)
+}
+
+/// What a network lists alone is all there for those who go over it.
 #[test]
-fn stores_share_tables(rt: HostRuntime) -> Result<(), Fail> {
-    let network = square(&rt, false)?;
-    let tables = Tables::expand(rt.alloc(), &network)?;
-    for _ in 0..2 {
-        assert_eq!(rt; greatest(rt.alloc(), &network, &tables)?, 7);
-    }
+fn expands_tables(rt: HostRuntime) -> Result<(), Fail> {
+    let table = [1, 1, 1, 1, 1, 7, 1, 1, 1, 1, 1, 1, 1, 1, 1, 1];
+    assert!(rt; expands(rt.alloc(), &table)?);
+    assert!(rt; greatest_twice(rt.alloc())? == (7, 7));
     Ok(())
 }

@@ -1,6 +1,8 @@
 //! Tests of the places of variables.
 
-use cfn_incidence::{Incidence, Place};
+ghost use Rattle.std.specs.Prelude.{◌<◌, length};
+
+use cfn_incidence::Incidence;
 use cfn_net::{Builder, Network};
 use std::alloc::{AllocError, Global};
 use std::test::*;
@@ -14,27 +16,33 @@ fn three(alloc: Global) -> Result<Network, AllocError> {
     builder.finish()
 }
 
-#[test]
-fn places_of_each_variable(rt: HostRuntime) -> Result<(), Fail> {
-    let network = three(rt.alloc())?;
-    let incidence = Incidence::build(rt.alloc(), &network)?;
-    assert!(rt; network.variables() == 3);
-    let first = incidence.places(0);
-    assert_eq!(rt; first.len(), 2);
-    assert!(rt; first[0] == at(0, 0, 2));
-    assert!(rt; first[1] == at(2, 1, 1));
-    assert_eq!(rt; incidence.places(1).len(), 1);
-    let last = incidence.places(2);
-    assert_eq!(rt; last.len(), 2);
-    assert!(rt; last[0] == at(0, 1, 0));
-    assert!(rt; last[1] == at(1, 0, 2));
-    Ok(())
+/// Whether a variable stands at these places: in which function, at which place of its scope, and beside which other
+/// variable.
+fn stands_at(incidence: &Incidence, x: u32, expected: &[(u32, u32, u32)]) -> bool
+    requires { x < length incidence.now.sizes }
+{
+    let places = incidence.places(x);
+    places.len() == expected.len()
+        && places
+            .iter()
+            .zip(expected)
+            .all(|(at, place)| (at.function, at.place, at.other) == *place)
 }
 
-fn at(function: u32, place: u32, other: u32) -> Place {
-    Place {
-        function,
-        place,
-        other,
-    }
+/// Whether the variables of that network stand where they do.
+fn stand_there(alloc: Global) -> Result<bool, AllocError> {
+    let network = three(alloc)?;
+    let incidence = Incidence::build(alloc, &network)?;
+    Ok(
+        network.variables() == 3
+            && stands_at(&incidence, 0, &[(0, 0, 2), (2, 1, 1)])
+            && stands_at(&incidence, 1, &[(2, 0, 0)])
+            && stands_at(&incidence, 2, &[(0, 1, 0), (1, 0, 2)]),
+    )
+}
+
+#[test]
+fn places_of_each_variable(rt: HostRuntime) -> Result<(), Fail> {
+    assert!(rt; stand_there(rt.alloc())?);
+    Ok(())
 }

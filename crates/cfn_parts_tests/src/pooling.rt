@@ -11,7 +11,7 @@ use std::marker::Brand;
 use std::test::*;
 
 /// What is told of a pool after a piece was given.
-#[derive(Clone, Copy, Debug, PartialEq, Eq)]
+#[derive(Clone, Copy, PartialEq, Eq)]
 struct Told {
     answer: Option<(u64, bool, bool)>,
     bound: u64,
@@ -120,6 +120,6 @@ fn piece_takes_the_place_of_a_pools_root(rt: HostRuntime) -> Result<(), Fail> {
         whole: true,
         tree: 3,
     };
-    assert_eq!(rt; make_told(rt.alloc())?, expected);
+    assert!(rt; make_told(rt.alloc())? == expected);
     Ok(())
 }

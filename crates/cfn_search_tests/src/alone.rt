@@ -48,7 +48,7 @@ fn told_of_tiny(alloc: Global) -> Result<Told, AllocError> {
 fn optimum_of_one_variable(rt: HostRuntime) -> Result<(), Fail> {
     let told = told_of_tiny(rt.alloc())?;
     assert!(rt; told.stop == Stop::Done);
-    assert_eq!(rt; (told.lower, told.best), (1, Some(1)));
+    assert!(rt; (told.lower, told.best) == (1, Some(1)));
     Ok(())
 }
 
@@ -56,7 +56,7 @@ fn optimum_of_one_variable(rt: HostRuntime) -> Result<(), Fail> {
 fn budget_is_spent(rt: HostRuntime) -> Result<(), Fail> {
     let (told, nodes) = told_of_tri(rt.alloc(), 1)?;
     assert!(rt; told.stop == Stop::Budget);
-    assert_eq!(rt; (nodes, told.lower), (1, 0));
+    assert!(rt; (nodes, told.lower) == (1, 0));
     Ok(())
 }
 
@@ -64,6 +64,6 @@ fn budget_is_spent(rt: HostRuntime) -> Result<(), Fail> {
 fn ample_budget_is_not_spent(rt: HostRuntime) -> Result<(), Fail> {
     let (told, _) = told_of_tri(rt.alloc(), 1_000)?;
     assert!(rt; told.stop == Stop::Done);
-    assert_eq!(rt; told.lower, 1);
+    assert!(rt; told.lower == 1);
     Ok(())
 }

@@ -9,7 +9,7 @@ use cfn_plain::{Ask, Sought};
 use std::alloc::{AllocError, Global};
 
 /// How an enforcing call says that it ended.
-#[derive(Clone, Copy, Debug, PartialEq, Eq)]
+#[derive(Clone, Copy, PartialEq, Eq)]
 pub(crate) enum Answer {
     Settled,
     Dead,
@@ -17,7 +17,7 @@ pub(crate) enum Answer {
 }
 
 /// What is wrong with an enforcing call.
-#[derive(Clone, Copy, Debug, PartialEq, Eq)]
+#[derive(Clone, Copy, PartialEq, Eq)]
 pub(crate) enum Fault {
     /// A step is not allowed behind those before it.
     Step,

@@ -1,22 +1,29 @@
 //! What a run says and leaves where a call on the outside fails.
 
-use cfn_testing::running::{Run, SOLVE, TINY, ends};
+use crate::rows::Whole;
+use cfn_testing::running::{Run, SOLVE, TINY};
 use std::alloc::{AllocError, AllocGlobal};
 use std::sync::Wait;
 use std::test::Fail;
 use std::thread::Threads;
 
-#[test]
-fn failed_load_is_a_read_fault(rt: HostRuntime) -> Result<(), Fail> {
-    let rows: [(&[&str], &[u64]); 2] = [
-        (&SOLVE, &[1]),
-        (&["wcspsolve", "solve", "nowhere", "out"], &[]),
-    ];
-    for (words, failing) in rows {
-        assert!(rt; ends(&rt, words, TINY, failing, (5, b"error read\n", b""))?);
-    }
-    Ok(())
-}
+/// Runs of which all is known.
+pub(crate) const WHOLE: [Whole; 5] = [
+    // a load that fails is a read fault
+    (&SOLVE, TINY, &[1], 5, b"error read\n", b""),
+    (
+        &["wcspsolve", "solve", "nowhere", "out"],
+        TINY,
+        &[],
+        5,
+        b"error read\n",
+        b"",
+    ),
+    // a fault that can not be said is a fault
+    (&SOLVE, TINY, &[1, 2], 5, b"", b""),
+    (&SOLVE, TINY, &[2, 3], 5, b"", b""),
+    (&SOLVE, TINY, &[5, 6], 5, b"", b""),
+];
 
 /// Whether a run whose put fails says so, and drops the file that it began.
 fn drops_the_file<R: AllocGlobal + Threads + Wait + Sync>(rt: &R) -> Result<bool, AllocError> {
@@ -59,15 +66,6 @@ fn keepers<R: AllocGlobal + Threads + Wait + Sync>(rt: &R) -> Result<(u64, bool)
 fn earlier_certificate_survives_each_fault(rt: HostRuntime) -> Result<(), Fail> {
     // the load, the opening, 32 puts and the closing
     assert!(rt; keepers(&rt)? == (35, true));
-    Ok(())
-}
-
-#[test]
-fn fault_that_can_not_be_said_is_a_fault(rt: HostRuntime) -> Result<(), Fail> {
-    let rows: [[u64; 2]; 3] = [[1, 2], [2, 3], [5, 6]];
-    for failing in rows {
-        assert!(rt; ends(&rt, &SOLVE, TINY, &failing, (5, b"", b""))?);
-    }
     Ok(())
 }
 

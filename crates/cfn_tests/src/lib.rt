@@ -1,7 +1,8 @@
 //! Tests of whole runs, and no code of its own.
 //!
 //! `solving`, `asking`, `reading`, `failing` and `migrating` judge what is found, what the words of a command line ask for,
-//! which files are refused, what a fault of the outside leaves, and what becomes of a certificate of the first version.
+//! which files are refused, what a fault of the outside leaves, and what becomes of a certificate of the first version; `rows`
+//! walks the runs that these list.
 #![tactic(auto)]
 
 #[cfg(test)]
@@ -12,5 +13,7 @@ mod failing;
 mod migrating;
 #[cfg(test)]
 mod reading;
+#[cfg(test)]
+mod rows;
 #[cfg(test)]
 mod solving;

@@ -58,27 +58,37 @@ fn refused_certificate_is_not_written(rt: HostRuntime) -> Result<(), Fail> {
     Ok(())
 }
 
+const READ: Option<&[u8]> = Some(b"error read\n");
+
+const WRITE: Option<&[u8]> = Some(b"error write\n");
+
+/// The call that fails, the status then, what is said, if that is asked, and whether the file is written.
+const CALLS: [(u64, u8, Option<&[u8]>, bool); 9] = [
+    (1, 5, READ, false),
+    (2, 5, READ, false),
+    (3, 5, WRITE, false),
+    (4, 5, WRITE, false),
+    (5, 5, WRITE, false),
+    (6, 5, WRITE, false),
+    (7, 5, WRITE, false),
+    (8, 5, None, true),
+    (9, 0, None, true),
+];
+
 /// The loads of both files, the opening, the puts of the first line and of the others, the closing, and the say.
 #[test]
 fn each_call_may_fail(rt: HostRuntime) -> Result<(), Fail> {
     let text = certificate(&rt, b"wcspcert 1\n", LINES)?;
     let written = certificate(&rt, b"wcspcert 2\n", LINES)?;
-    let read: &[u8] = b"error read\n";
-    let write: &[u8] = b"error write\n";
-    let rows: [(u64, u8, Option<&[u8]>, Option<&[u8]>); 9] = [
-        (1, 5, Some(read), None),
-        (2, 5, Some(read), None),
-        (3, 5, Some(write), None),
-        (4, 5, Some(write), None),
-        (5, 5, Some(write), None),
-        (6, 5, Some(write), None),
-        (7, 5, Some(write), None),
-        (8, 5, None, Some(&written)),
-        (9, 0, None, Some(&written)),
-    ];
-    for (call, status, said, left) in rows {
+    for (call, status, said, is_left) in CALLS {
         assert!(rt;
-            migrates(&rt, &text, "out", &[call], (status, said, left))?,
+            migrates(
+                &rt,
+                &text,
+                "out",
+                &[call],
+                (status, said, is_left.then_some(&written))
+            )?,
             "at {call}"
         );
     }

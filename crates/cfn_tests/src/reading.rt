@@ -1,6 +1,7 @@
 //! Which files a run takes, and what it says of the others.
 
-use cfn_testing::running::{Run, SOLVE, TINY, TRI, ends, says};
+use crate::rows::Lined;
+use cfn_testing::running::{Run, SOLVE, TINY, TRI, ends};
 use std::alloc::{AllocError, AllocGlobal, Global};
 use std::sync::Wait;
 use std::test::Fail;
@@ -131,12 +132,17 @@ fn joins<R: AllocGlobal + Threads + Wait + Sync>(rt: &R, other: u8) -> Result<bo
     ends(rt, &SOLVE, &file, &[], (4, b"error short at 2\n", b""))
 }
 
+/// Bytes that part words, and some that do not.
+const SPACES: [u8; 6] = [9, 10, 11, 12, 13, 32];
+
+const OTHERS: [u8; 9] = [0, 8, 14, 31, 33, 127, 133, 160, 255];
+
 #[test]
 fn white_space_of_any_kind_parts_words(rt: HostRuntime) -> Result<(), Fail> {
-    for space in [9, 10, 11, 12, 13, 32] {
+    for space in SPACES {
         assert!(rt; parts(&rt, space)?, "at {space}");
     }
-    for other in [0, 8, 14, 31, 33, 127, 133, 160, 255] {
+    for other in OTHERS {
         assert!(rt; joins(&rt, other)?, "at {other}");
     }
     Ok(())
@@ -156,42 +162,45 @@ fn parted(alloc: Global, file: &[u8], space: u8) -> Result<Vec<u8>, AllocError> 
     Ok(parted)
 }
 
+/// Other spellings of `TINY`.
+const SPELLINGS: [&[u8]; 9] = [
+    // leading zeros
+    b"tiny 01 002 0001 00000000000000000000000010\n02\n01 00 003 001\n01 000001\n",
+    // a name of odd bytes, of digits, and of a sign
+    b"\x00\xff 1 2 1 10\n2\n1 0 3 1\n1 1\n",
+    b"7 1 2 1 10\n2\n1 0 3 1\n1 1\n",
+    b"- 1 2 1 10\n2\n1 0 3 1\n1 1\n",
+    // a variable -0, and a tuple with the value -0 and the cost that the default is
+    b"tiny 1 2 1 10\n2\n1 -0 3 2\n1 1\n-0 3\n",
+    // words after the last function
+    b"tiny 1 2 1 10\n2\n1 0 3 1\n1 1\n1 0 0 0 and more \x00\xff -1",
+    // no line end
+    b"tiny 1 2 1 10\n2\n1 0 3 1\n1 1",
+    // another greatest domain size, which is not used
+    b"tiny 1 9223372036854775807 1 10\n2\n1 0 3 1\n1 1\n",
+    // all tuples listed
+    b"tiny 1 2 1 10\n2\n1 0 0 2\n0 3\n1 1\n",
+];
+
 #[test]
 fn spellings_of_one_network(rt: HostRuntime) -> Result<(), Fail> {
-    let rows: [&[u8]; 9] = [
-        // leading zeros
-        b"tiny 01 002 0001 00000000000000000000000010\n02\n01 00 003 001\n01 000001\n",
-        // a name of odd bytes, of digits, and of a sign
-        b"\x00\xff 1 2 1 10\n2\n1 0 3 1\n1 1\n",
-        b"7 1 2 1 10\n2\n1 0 3 1\n1 1\n",
-        b"- 1 2 1 10\n2\n1 0 3 1\n1 1\n",
-        // a variable -0, and a tuple with the value -0 and the cost that the default is
-        b"tiny 1 2 1 10\n2\n1 -0 3 2\n1 1\n-0 3\n",
-        // words after the last function
-        b"tiny 1 2 1 10\n2\n1 0 3 1\n1 1\n1 0 0 0 and more \x00\xff -1",
-        // no line end
-        b"tiny 1 2 1 10\n2\n1 0 3 1\n1 1",
-        // another greatest domain size, which is not used
-        b"tiny 1 9223372036854775807 1 10\n2\n1 0 3 1\n1 1\n",
-        // all tuples listed
-        b"tiny 1 2 1 10\n2\n1 0 0 2\n0 3\n1 1\n",
-    ];
-    for file in rows {
+    for file in SPELLINGS {
         assert!(rt; are_alike(&rt, TINY, file)?);
     }
     Ok(())
 }
 
-#[test]
-fn minus_nothing_is_no_cost(rt: HostRuntime) -> Result<(), Fail> {
-    let rows: [&[u8]; 3] = [
-        b"free 1 2 1 10\n2\n1 0 3 1\n1 -0\n",
-        b"free 1 2 1 10\n2\n1 0 -0 1\n0 3\n",
+/// Runs of which some lines are known: a cost of minus nothing is no cost.
+pub(crate) const LINED: [Lined; 3] = [
+    (&SOLVE, b"free 1 2 1 10\n2\n1 0 3 1\n1 -0\n", 0, FREE, None),
+    (&SOLVE, b"free 1 2 1 10\n2\n1 0 -0 1\n0 3\n", 0, FREE, None),
+    (
+        &SOLVE,
         b"free 1 2 2 10\n2\n1 0 3 1\n1 -00\n0 -0 0\n",
-    ];
-    let lines = b"lower 0\nupper 0\nvalues 1\nresult optimum";
-    for file in rows {
-        assert!(rt; says(&rt, &SOLVE, file, 0, lines)?);
-    }
-    Ok(())
-}
+        0,
+        FREE,
+        None,
+    ),
+];
+
+const FREE: &[u8] = b"lower 0\nupper 0\nvalues 1\nresult optimum";

@@ -4,7 +4,7 @@ use cfn_desk::{Failed, MemoryDesk};
 use cfn_net::{Builder, Fit, Network};
 use cfn_wcsp::read;
 use cfn_wcspwrite::write;
-use std::alloc::AllocError;
+use std::alloc::{AllocError, Global};
 use std::test::Fail;
 
 /// Two variables of 2 and 3 values, a constant, one function over both, and one over the second.
@@ -42,34 +42,51 @@ fn failed_say_is_a_failure(rt: HostRuntime) -> Result<(), Fail> {
     Ok(())
 }
 
+/// A file with a function that has the table of another, the same whose own default cost differs, and what is said of both.
+const SHARED: &[u8] = b"share 3 2 2 10\n2 2 2\n-2 0 1 0 1\n0 0 4\n2 1 2 0 -1\n";
+
+const SHARED_BESIDE: &[u8] = b"share 3 2 2 10\n2 2 2\n-2 0 1 0 1\n0 0 4\n2 1 2 1 -1\n";
+
+const SHARED_SAID: &[u8] = b"share 3 2 2 10\n2 2 2\n2 0 1 0 1\n0 0 4\n2 1 2 0 1\n0 0 4\n";
+
+/// Whether the network of a file is said as these bytes.
+fn says(alloc: Global, network: &Network, bytes: &[u8]) -> Result<bool, AllocError> {
+    let mut desk = MemoryDesk::make(alloc, &[], 0, 100, &[])?;
+    Ok(write(network, &mut desk) == Ok(()) && desk.said_bytes() == bytes)
+}
+
+/// The same of a file that is read.
+fn reads_and_says(alloc: Global, file: &[u8], bytes: &[u8]) -> Result<bool, AllocError> {
+    match read(alloc, file) {
+        Ok(network) => says(alloc, &network, bytes),
+        Err(_) => Ok(false),
+    }
+}
+
 /// A function that has a shared table is said as any other, and its own default cost does not count.
 #[test]
 fn says_shared_tables_plainly(rt: HostRuntime) -> Result<(), Fail> {
-    let text = b"share 3 2 2 10\n2 2 2\n2 0 1 0 1\n0 0 4\n2 1 2 0 1\n0 0 4\n";
-    for file in [
-        b"share 3 2 2 10\n2 2 2\n-2 0 1 0 1\n0 0 4\n2 1 2 0 -1\n".as_slice(),
-        b"share 3 2 2 10\n2 2 2\n-2 0 1 0 1\n0 0 4\n2 1 2 1 -1\n",
-        text,
-    ] {
-        let network = read(rt.alloc(), file)
-            .ok()
-            .expect(&rt, "the file is a network");
-        let mut desk = MemoryDesk::make(rt.alloc(), &[], 0, 100, &[])?;
-        assert!(rt; write(&network, &mut desk) == Ok(()));
-        assert!(rt; desk.said_bytes() == text.as_slice());
+    for file in [SHARED, SHARED_BESIDE, SHARED_SAID] {
+        assert!(rt; reads_and_says(rt.alloc(), file, SHARED_SAID)?);
     }
     Ok(())
+}
+
+/// Whether an assignment of a network costs so much.
+fn costs(network: &Network, values: &[u32], cost: u64) -> bool {
+    network.fits(values) == Fit::Fits && network.cost(values).value() == cost
+}
+
+/// Whether two assignments of a file's network cost so much.
+fn shares_costs(alloc: Global, file: &[u8], first: u64, second: u64) -> bool {
+    match read(alloc, file) {
+        Ok(network) => costs(&network, &[0, 0, 0], first) && costs(&network, &[1, 0, 0], second),
+        Err(_) => false,
+    }
 }
 
 /// The cost of an assignment counts each function that has a shared table.
 #[test]
 fn shared_tables_cost(rt: HostRuntime) {
-    let file = b"share 3 2 2 10\n2 2 2\n-2 0 1 0 1\n0 0 4\n2 1 2 0 -1\n";
-    let network = read(rt.alloc(), file)
-        .ok()
-        .expect(&rt, "the file is a network");
-    assert!(rt; network.fits(&[0, 0, 0]) == Fit::Fits);
-    assert_eq!(rt; network.cost(&[0, 0, 0]).value(), 8);
-    assert!(rt; network.fits(&[1, 0, 0]) == Fit::Fits);
-    assert_eq!(rt; network.cost(&[1, 0, 0]).value(), 4);
+    assert!(rt; shares_costs(rt.alloc(), SHARED, 8, 4));
 }

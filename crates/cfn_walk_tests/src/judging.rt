@@ -11,7 +11,7 @@ use cfn_store::{Extreme, Sense, Store};
 use std::alloc::{AllocError, Global};
 
 /// A value at a place of a function.
-#[derive(Clone, Copy, Debug, PartialEq, Eq)]
+#[derive(Clone, Copy, PartialEq, Eq)]
 pub(crate) struct Place {
     pub function: u32,
     pub place: u32,
@@ -19,7 +19,7 @@ pub(crate) struct Place {
 }
 
 /// What a store tells that is wrong.
-#[derive(Clone, Copy, Debug, PartialEq, Eq)]
+#[derive(Clone, Copy, PartialEq, Eq)]
 pub(crate) enum Fault {
     /// The steps since the newest decision.
     Block,

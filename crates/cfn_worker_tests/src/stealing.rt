@@ -65,13 +65,13 @@ fn shared<R: Threads + Wait + Sync>(
 #[test]
 fn pops_come_in_the_order_of_pushes(rt: HostRuntime) -> Result<(), Fail> {
     let (pushed, popped) = first_in_first_out(rt.alloc())?;
-    assert_eq!(rt; pushed, [true, true]);
-    assert_eq!(rt; popped, [Some(7), Some(8), None]);
+    assert!(rt; pushed == [true, true]);
+    assert!(rt; popped == [Some(7), Some(8), None]);
     Ok(())
 }
 
 #[test]
 fn another_thread_steals(rt: HostRuntime) -> Result<(), Fail> {
-    assert_eq!(rt; shared(&rt, rt.alloc())?, (Some(7), Some(8), 1));
+    assert!(rt; shared(&rt, rt.alloc())? == (Some(7), Some(8), 1));
     Ok(())
 }
