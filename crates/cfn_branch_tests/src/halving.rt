@@ -33,7 +33,8 @@ struct Found {
 fn solve_by(alloc: Global, network: &Network, rule: Rule) -> Result<Outcome, AllocError> {
     let tables = Tables::expand(alloc, network)?;
     let divers = Divers::by(network, &tables, rule);
-    solve(alloc, &Problem::of(network, &divers), AMPLE)
+    let problem = Problem::of(network, &divers);
+    solve(alloc, &problem, AMPLE)
 }
 
 /// What a whole search by a rule finds.

@@ -18,7 +18,8 @@ pub(crate) fn solve(alloc: Global, network: &Network, budget: u64) -> Result<Out
 {
     let tables = Tables::expand(alloc, network)?;
     let divers = Divers::over(network, &tables);
-    cfn_search::solve(alloc, &Problem::of(network, &divers), budget)
+    let problem = Problem::of(network, &divers);
+    cfn_search::solve(alloc, &problem, budget)
 }
 
 /// What several workers find. An `Err` is want of memory before the search stands.
