@@ -21,17 +21,31 @@ fn opened(alloc: Global, network: &Network, budget: u64) -> Result<Leaves, Alloc
     Leaves::start(alloc, network, tree, network.ub(), budget)
 }
 
-/// The root's task, taken by the worker 3 to make at most 2 nodes.
-fn root(network: &Network, leaves: &mut Leaves) -> Option<Task>
+/// The root's task, taken by a worker to make at most so many nodes.
+fn root(network: &Network, leaves: &mut Leaves, worker: u32, want: u64) -> Option<Task>
     requires own { leaves.old.network ≡ network.now }
     requires sound { IsSoundPool leaves.old }
     ensures own { leaves.new.network ≡ network.now }
     ensures task { IfSome result (λ task. task.network ≡ network.now) }
 {
-    match leaves.take(network, 3, 2) {
+    match leaves.take(network, worker, want) {
         Taken::Given { task } => Some(task),
         _ => None,
     }
+}
+
+/// The root's task in new leaves, taken by a worker to make one node.
+pub(crate) fn root_of(
+    alloc: Global,
+    network: &Network,
+    worker: u32,
+) -> Result<Option<Task>, AllocError>
+    ensures { IfOk result (λ root. IfSome root (λ task. task.network ≡ network.now)) }
+{
+    let mut leaves = opened(alloc, network, 1)?;
+    let task = root(network, &mut leaves, worker, 1);
+    drop(leaves);
+    Ok(task)
 }
 
 /// What leaves answered to a piece.
@@ -74,7 +88,7 @@ fn take_and_give(
     requires own { leaves.old.network ≡ network.now }
     requires sound { IsSoundPool leaves.old }
 {
-    let Some(task) = root(network, leaves) else {
+    let Some(task) = root(network, leaves, 3, 2) else {
         return Ok((0, Answer::Nothing));
     };
     let left = leaves.left();
@@ -118,7 +132,7 @@ fn give_back(network: &Network, leaves: &mut Leaves) -> Option<(u64, bool, bool)
     requires own { leaves.old.network ≡ network.now }
     requires sound { IsSoundPool leaves.old }
 {
-    let task = root(network, leaves)?;
+    let task = root(network, leaves, 3, 2)?;
     Some((leaves.left(), leaves.back(&task), leaves.back(&task)))
 }
 
