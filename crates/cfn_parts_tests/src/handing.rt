@@ -34,16 +34,12 @@ fn root(network: &Network, leaves: &mut Leaves, worker: u32, want: u64) -> Optio
     }
 }
 
-/// The root's task in new leaves, taken by a worker to make one node.
-pub(crate) fn root_of(
-    alloc: Global,
-    network: &Network,
-    worker: u32,
-) -> Result<Option<Task>, AllocError>
+/// The root's task in new leaves, taken by the worker 0 to make one node.
+pub(crate) fn root_of(alloc: Global, network: &Network) -> Result<Option<Task>, AllocError>
     ensures { IfOk result (λ root. IfSome root (λ task. task.network ≡ network.now)) }
 {
     let mut leaves = opened(alloc, network, 1)?;
-    let task = root(network, &mut leaves, worker, 1);
+    let task = root(network, &mut leaves, 0, 1);
     drop(leaves);
     Ok(task)
 }

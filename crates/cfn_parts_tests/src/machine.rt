@@ -13,9 +13,7 @@ use std::test::*;
 /// What a world answered, without what it handed out.
 #[derive(Clone, Copy, PartialEq, Eq)]
 enum Answer {
-    Idle,
     Seen(u64),
-    Noted(u64),
     Given,
     Spent,
     Gone,
@@ -29,14 +27,13 @@ fn answer_to(world: &mut World<'_>, action: Action) -> Result<Answer, AllocError
     ensures { world.new.network ≡ world.old.network }
 {
     Ok(match world.step(&action)? {
-        Reply::Idle => Answer::Idle,
         Reply::Seen { threshold } => Answer::Seen(threshold),
-        Reply::Noted { note } => Answer::Noted(note),
         Reply::Given { .. } => Answer::Given,
         Reply::Spent => Answer::Spent,
         Reply::Gone => Answer::Gone,
         Reply::Done => Answer::Done,
-        Reply::Empty | Reply::Again | Reply::NotOut => Answer::Other,
+        Reply::Idle | Reply::Noted { .. } | Reply::Empty | Reply::Again | Reply::NotOut =>
+            Answer::Other,
     })
 }
 
@@ -44,7 +41,7 @@ fn answer_to(world: &mut World<'_>, action: Action) -> Result<Answer, AllocError
 fn split_root(alloc: Global, network: &Network) -> Result<Option<Piece>, AllocError>
     ensures { IfOk result (λ half. IfSome half (λ piece. piece.network ≡ network.now)) }
 {
-    match root_of(alloc, network, 0)? {
+    match root_of(alloc, network)? {
         Some(task) => halved(alloc, network, task),
         None => Ok(None),
     }
@@ -85,22 +82,6 @@ fn split_root_is_given(rt: HostRuntime) -> Result<(), Fail> {
         let expected = [Answer::Given, last[0], last[1]];
         assert!(rt; given(rt.alloc(), budget, recalled)? == Some(expected));
     }
-    Ok(())
-}
-
-/// What a world for one worker answers where the worker 5 gives the root's task back, if it was handed out.
-fn back(alloc: Global) -> Result<Option<Answer>, AllocError> {
-    let network = pair(alloc)?;
-    let mut one = World::start(alloc, &network, 1, 2)?;
-    match root_of(alloc, &network, 5)? {
-        Some(task) => Ok(Some(answer_to(&mut one, Action::Back { task })?)),
-        None => Ok(None),
-    }
-}
-
-#[test]
-fn task_of_a_worker_that_is_not_there_stays_out(rt: HostRuntime) -> Result<(), Fail> {
-    assert!(rt; back(rt.alloc())? == Some(Answer::Idle));
     Ok(())
 }
 
