@@ -1,6 +1,6 @@
 //! Tests of the leaves of a tree over two variables, handed out and given back.
 
-ghost use Rattle.std.specs.Prelude.{◌≡◌, IfOk, IfSome};
+ghost use Rattle.std.specs.Prelude.{◌≡◌, ◌≤◌, IfOk, IfSome};
 ghost use Rattle.cfn_leaves.specs.Answers.{IsSoundPool};
 
 use crate::halving::{halved, pair};
@@ -23,6 +23,7 @@ fn opened(alloc: Global, network: &Network, budget: u64) -> Result<Leaves, Alloc
 
 /// The root's task, taken by a worker to make at most so many nodes.
 fn root(network: &Network, leaves: &mut Leaves, worker: u32, want: u64) -> Option<Task>
+    requires wants { 1 ≤ want }
     requires own { leaves.old.network ≡ network.now }
     requires sound { IsSoundPool leaves.old }
     ensures own { leaves.new.network ≡ network.now }

@@ -86,7 +86,9 @@ fn split_root_is_given(rt: HostRuntime) -> Result<(), Fail> {
 }
 
 /// Whether a world looks at the word of the worker 0 where a list of actions says so.
-fn looks(world: &mut World<'_>) -> bool {
+fn looks(world: &mut World<'_>) -> bool
+    ensures { world.new.network ≡ world.old.network }
+{
     let actions = [Action::Look { worker: 0 }];
     match world.run(&actions) {
         Ok(replies) => matches!(replies.as_slice(), [Reply::Seen { threshold: 10 }]),

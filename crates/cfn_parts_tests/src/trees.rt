@@ -222,10 +222,12 @@ const GRAFTED: [Told; 7] = [
 
 /// Whether a tree's nodes are these.
 fn tells(tree: &Tree, expected: &[Told]) -> bool {
-    for (number, node) in expected.iter().enumerate() {
-        if told(tree, number as u32) != Some(*node) {
+    let mut number = 0;
+    for node in expected {
+        if told(tree, number) != Some(*node) {
             return false;
         }
+        number = number.saturating_add(1);
     }
     tree.len() == expected.len()
 }
