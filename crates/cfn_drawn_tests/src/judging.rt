@@ -300,8 +300,10 @@ impl Judge {
                     Ok(decision) => decision,
                     Err(kind) => return Ok(Some(kind)),
                 };
-                self.due.push(with(alloc, &history, Event::Refused(decision))?)?;
-                self.due.push(with(alloc, &history, Event::Took(decision))?)?;
+                self.due
+                    .push(with(alloc, &history, Event::Refused(decision))?)?;
+                self.due
+                    .push(with(alloc, &history, Event::Took(decision))?)?;
             }
             _ => {
                 let fault = self.step(alloc, network, words, &mut history)?;

@@ -49,7 +49,10 @@ fn judge<R: Abort>(
     word: Word,
 ) -> Result<(), Fail> {
     let network = cfn_wcsp::read(alloc, FILE.as_bytes())?;
-    assert!(rt; word_of(alloc, &network, history, steps)? == word, "of {steps:?}");
+    assert!(rt;
+        word_of(alloc, &network, history, steps)? == word,
+        "of {steps:?}"
+    );
     Ok(())
 }
 
