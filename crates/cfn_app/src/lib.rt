@@ -8,10 +8,9 @@
 //!
 //! - `program` has `run`, and `solving`, `checking`, `costing`, `normalizing`, `trying` and `migrating` have a command each,
 //!   as specs/ has.
-//! - `searching` is the search of a network: `cfn_search` by the divers of `cfn_dive`.
 //! - `loading` goes from the names of files to bytes and a network in a format, and `output` writes a certificate and
 //!   says its report. `status` has the statuses.
-//! - A `Gate` is what the workers of a search pass (`cfn_search`).
+//! - A `Gate` is what the workers of a search pass (`cfn_solve`).
 #![tactic(auto)]
 
 mod checking;
@@ -21,11 +20,10 @@ mod migrating;
 mod normalizing;
 mod output;
 mod program;
-mod searching;
 mod solving;
 mod status;
 mod trying;
 
-pub use cfn_search::{Gate, OpenGate, Point};
+pub use cfn_solve::{Gate, OpenGate, Point};
 pub use program::run;
 pub use status::Status;

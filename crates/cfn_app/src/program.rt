@@ -15,7 +15,7 @@ use crate::status::{Status, ending};
 use crate::trying::try_drawn;
 use cfn_cli::{CliFault, Command};
 use cfn_desk::Desk;
-use cfn_search::Gate;
+use cfn_solve::Gate;
 use std::alloc::Global;
 use std::sync::Wait;
 use std::thread::Threads;

@@ -8,12 +8,11 @@ ghost use Rattle.cfn_app.specs.Solving.{Searches, Solves};
 
 use crate::loading::{load_bytes, read_bytes};
 use crate::output::put_out;
-use crate::searching::search;
 use crate::status::{Status, ending};
 use cfn_cli::SolveArguments;
 use cfn_desk::Desk;
 use cfn_net::Network;
-use cfn_search::Gate;
+use cfn_solve::{Gate, solve_together};
 use std::alloc::{AllocError, Global};
 use std::sync::Wait;
 use std::thread::Threads;
@@ -63,8 +62,8 @@ fn open_and_search<R: Threads + Wait + Sync, D: Desk, G: Gate + Sync>(
     }
     network.limits();
     let workers = u32::from(ask.workers);
-    match search(rt, alloc, network, workers, ask.budget, gate) {
-        Ok(found) => put_out(&found, workers, desk),
+    match solve_together(rt, alloc, network, workers, ask.budget, gate) {
+        Ok(found) => put_out(&found.outcome, workers, desk),
         Err(AllocError) => {
             desk.discard_out();
             ending(cfn_report::write_memory_fault(desk), Status::NoMemory)

@@ -5,7 +5,6 @@ ghost use Rattle.cfn_model.specs.Network.{Least, cost};
 ghost use Rattle.cfn_cli.specs.Request.{spoken_trial};
 ghost use Rattle.cfn_app.specs.Trying.{Tries};
 
-use crate::searching::search;
 use crate::status::{Status, ending};
 use cfn_cli::TrialArguments;
 use cfn_desk::Desk;
@@ -13,7 +12,7 @@ use cfn_gen::{allowing_law, instance};
 use cfn_model::GREATEST;
 use cfn_net::Network;
 use cfn_proof::Stop;
-use cfn_search::Gate;
+use cfn_solve::{Gate, solve_together};
 use std::alloc::{AllocError, Global};
 use std::sync::Wait;
 use std::thread::Threads;
@@ -65,9 +64,9 @@ fn least_cost<R: Threads + Wait + Sync, G: Gate + Sync>(
     ensures { IfOk result (λ least. Least network.now least) }
 {
     network.limits();
-    let found = search(rt, alloc, network, workers, GREATEST, gate)?;
-    match found.stop {
-        Stop::Done => Ok(found.certificate.lower),
+    let found = solve_together(rt, alloc, network, workers, GREATEST, gate)?;
+    match found.outcome.stop {
+        Stop::Done => Ok(found.outcome.certificate.lower),
         Stop::Budget | Stop::Memory => Err(AllocError),
     }
 }

@@ -3,9 +3,9 @@
 ghost use Rattle.std.specs.Prelude.{◌≤◌};
 
 use crate::judging::Verdict;
-use crate::searching::solve;
 use cfn_net::Network;
 use cfn_proof::{Outcome, Row, Stop};
+use cfn_solve::solve;
 use cfn_testing::drawing::{Dice, MOST, draw, file_of, least_of};
 use cfn_testing::running::{certificate_of, check_answers};
 use std::alloc::{AllocError, AllocGlobal, Global};

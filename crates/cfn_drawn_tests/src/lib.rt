@@ -3,7 +3,6 @@
 //! - `least` judges searches by the plain program and by the drawn words.
 //! - `mutating` changes a word or a line of good certificates, and has each judged by `check` and by `judging`, a plain
 //!   judge that stands on the plain program alone.
-//! - `searching` is the search that `least` judges.
 #![tactic(auto)]
 
 #[cfg(test)]
@@ -12,5 +11,3 @@ mod judging;
 mod least;
 #[cfg(test)]
 mod mutating;
-#[cfg(test)]
-mod searching;

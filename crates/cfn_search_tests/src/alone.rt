@@ -3,9 +3,9 @@
 ghost use Rattle.std.specs.Prelude.{◌≤◌};
 
 use crate::networks::{tiny, tri};
-use crate::searching::solve;
 use cfn_net::Network;
 use cfn_proof::Stop;
+use cfn_solve::solve;
 use std::alloc::{AllocError, Global};
 use std::test::*;
 

@@ -8,6 +8,4 @@ mod failing;
 #[cfg(test)]
 mod networks;
 #[cfg(test)]
-mod searching;
-#[cfg(test)]
 mod teams;

@@ -3,9 +3,8 @@
 ghost use Rattle.std.specs.Prelude.{◌≤◌};
 
 use crate::networks::tri;
-use crate::searching::solve_together;
 use cfn_proof::Stop;
-use cfn_search::{Gate, OpenGate, Point, Threshold};
+use cfn_solve::{Gate, OpenGate, Point, Threshold, solve_together};
 use std::alloc::{AllocError, AllocGlobal};
 use std::sync::Wait;
 use std::sync::atomic::{AtomicU64, Ordering};

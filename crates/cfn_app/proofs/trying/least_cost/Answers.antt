@@ -8,9 +8,9 @@ use Rattle.cfn_app.proofs.trying.least_cost.Goals as goal
 
 pub returns-in-Done : goal.returns-in-Done
 returns-in-Done g c =
-    let o = c.in_ok-found.found in
+    let o = c.in_ok-found.found.outcome in
     let P = c.args.network.now in
     let k = certificate_of o.certificate in
     least_when_done P _ o.nodes k o.rows.items
-    (promised P _ o.nodes k o.rows.items Done c.limits.ensures (subst (λ stop. IsSearched P _ o.nodes k o.rows.items stop) c.in-Done.is c.in_ok-found.ensures))
+    (promised P _ o.nodes k o.rows.items Done c.limits.ensures (subst (λ stop. IsSearched P _ o.nodes k o.rows.items stop) c.in-Done.is c.in_ok-found.ensures.outcome))
     c.requires.allowed

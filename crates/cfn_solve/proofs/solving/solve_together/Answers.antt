@@ -1,6 +1,6 @@
 use denote.Param.Send.{sendable}
 use Rattle.cfn_dive.proofs.CallerLemmas.{diver_send, divers_sync}
-use Rattle.cfn_search_tests.proofs.searching.solve_together.Goals as goal
+use Rattle.cfn_solve.proofs.solving.solve_together.Goals as goal
 
 pub of-problem-requires-send-X-Explorer : goal.of-problem-requires-send-X-Explorer
 of-problem-requires-send-X-Explorer g c κs within = search (sendable, diver_send) depth 40

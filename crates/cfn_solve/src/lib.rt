@@ -1,0 +1,10 @@
+//! The search of a network: hybrid best-first search (`cfn_search`) by depth-first dives (`cfn_dive`).
+//!
+//! `solve` searches on the caller's thread, `solve_together` by several workers. Both make the tables that the divers share, and
+//! promise what every search does, as `cfn_proof` defines it (specs/Outcome.antt).
+#![tactic(auto)]
+
+mod solving;
+
+pub use cfn_search::{Gate, OpenGate, Point, Teamwork, Threshold};
+pub use solving::{solve, solve_together};

@@ -1,0 +1,56 @@
+//! The search of a network, by divers whose splits are named by weighted degree.
+
+ghost use Rattle.std.specs.Prelude.{◌≡◌, ◌≤◌, All, length, IfOk};
+ghost use Rattle.cfn_model.specs.Certificate.{threshold};
+ghost use Rattle.cfn_model.specs.declared.limits.TheConstants.{GREATEST};
+ghost use Rattle.cfn_proof.specs.Certificates.{certificate_of};
+ghost use Rattle.cfn_proof.specs.Outcome.{IsOutcome};
+
+use cfn_dive::Divers;
+use cfn_explore::Problem;
+use cfn_net::{Network, Tables};
+use cfn_proof::Outcome;
+use cfn_search::{Gate, Teamwork};
+use std::alloc::{AllocError, Global};
+use std::sync::Wait;
+use std::thread::Threads;
+
+/// Searches a network on the caller's thread, making at most `budget` nodes, 0 to 2^63 - 1 (Allouche et al. 2015). An `Err` is
+/// want of memory before the search stands.
+pub fn solve(alloc: Global, network: &Network, budget: u64) -> Result<Outcome, AllocError>
+    requires { budget ≤ GREATEST }
+    ensures { IfOk result (IsOutcome network.now budget) }
+{
+    let tables = Tables::expand(alloc, network)?;
+    let divers = Divers::over(network, &tables);
+    let problem = Problem::of(network, &divers);
+    cfn_search::solve(alloc, &problem, budget)
+}
+
+/// Searches as `solve` does, by 1 to 64 workers, each in a thread of its own; a single one works on the caller's thread.
+///
+/// Which nodes are made depends on how the threads run, so two calls may answer different nodes, rows and assignments; each
+/// answer keeps the whole contract. A worker that is refused memory for a dive ends, and the others go on with its leaf.
+///
+/// The certificate's threshold is at most each threshold at which a worker made a piece.
+pub fn solve_together<R: Threads + Wait + Sync, G: Gate + Sync>(
+    rt: &R,
+    alloc: Global,
+    network: &Network,
+    workers: u32,
+    budget: u64,
+    gate: &G,
+) -> Result<Teamwork, AllocError>
+    requires some { 1 ≤ workers }
+    requires few { workers ≤ 64 }
+    requires budget { budget ≤ GREATEST }
+    ensures outcome { IfOk result (λ found. IsOutcome network.now budget found.outcome) }
+    ensures count { IfOk result (λ found. length found.thresholds.items ≡ workers) }
+    ensures most { IfOk result (λ found. All (λ k. k ≤ network.now.upper) found.thresholds.items) }
+    ensures least { IfOk result (λ found. All (λ k. threshold (certificate_of found.outcome.certificate) ≤ k) found.thresholds.items) }
+{
+    let tables = Tables::expand(alloc, network)?;
+    let divers = Divers::over(network, &tables);
+    let problem = Problem::of(network, &divers);
+    cfn_search::solve_together(rt, alloc, &problem, workers, budget, gate)
+}
