@@ -17,7 +17,7 @@ use Rattle.cfn_proof.specs.declared.outcome.Stop.{Stop}
 use Rattle.cfn_proof.specs.declared.outcome.Stop.TheVariants.{Done, Budget, Memory}
 use Rattle.cfn_proof.specs.Outcome.{IsSearched, HasCause}
 use Rattle.cfn_app.specs.Headline.{HasOptimum, HasNone, HasCauses, Promise}
-use Rattle.cfn_app.specs.Solving.{word_of, word_when_done}
+use Rattle.cfn_app.specs.Runs.Solving.{word_of, word_when_done}
 
 -- a tree without open leaves has the threshold as its bound, and one with an open leaf less
 bound_closed : (P : Network) (history : List Event) (tree : Tree) (k : ℕ) → open_leaves tree ≡ 0 → bound P history tree k ≡ k

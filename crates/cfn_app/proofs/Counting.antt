@@ -1,18 +1,33 @@
 -- The count of failed calls, and the file that is being written, at a run's end.
-use Rattle.std.proofs.Common.{◌≡◌, ℕ, suc, ◌<◌, ◌≤◌, List, sym, ap, ◌∙◌, subst, arith}
-use Rattle.cfn_desk.specs.Outside.{Call, IsIdle, faults, says, written}
+use Rattle.std.proofs.Common.{◌≡◌, ◌⊎◌, inl, inr, ℕ, suc, ◌<◌, ◌≤◌, List, refl, sym, ap, ◌∙◌, subst, arith}
+use Rattle.cfn_model.specs.Text.{memory_fault_text}
+use Rattle.cfn_desk.specs.Outside.{Outside, Call, IsIdle, faults, says, written}
 use Rattle.cfn_desk.proofs.CallerLemmas.{faults-says, faults-puts, written-says}
 use Rattle.cfn_line.specs.Appending.{IsCut}
 use Rattle.cfn_line.specs.declared.channel.Channel.TheVariants.{File, Screen}
 use Rattle.cfn_app.specs.declared.status.Status.{Status}
 use Rattle.cfn_app.specs.declared.status.Status.TheVariants.{Done, Nothing, BudgetSpent, Usage, Refused, Fault, NoMemory, Disproved}
-use Rattle.cfn_app.specs.Endings.{Ending, Ends, said, cut}
-use Rattle.cfn_app.specs.Statuses.{Counts}
+use Rattle.cfn_app.specs.Endings.{Ending, Ends, IsHindered, said, cut}
+use Rattle.cfn_app.specs.Saying.{Counts}
 
 -- what holds of the status that is due and of a fault holds of the status
 pub by : (F : Status → Type 0) (due : Ending) (now : List Call) (status : Status) → Ends due now status → (now ≡ says due.text due.calls → F due.status) → F Fault → F status
 by F due now status (said calls is) whole fault = subst F (sym is) (whole calls)
 by F due now status (cut part is) whole fault = subst F (sym is) fault
+
+-- what is due where memory is refused before the words are understood
+abbrev pub unheard : Outside → Ending
+unheard old = record { calls = old.calls; text = memory_fault_text; status = NoMemory }
+
+-- a run that ended so was hindered
+pub hindered : (old new : Outside) (status : Status) → Ends (unheard old) new.calls status → IsHindered status
+hindered old new status ends = by IsHindered _ new.calls status ends (λ calls. inr refl) (inl refl)
+
+pub by_due : (wanted : Status) (due : Ending) (now : List Call) (status : Status) → Ends due now status → (due.status ≡ wanted) ⊎ IsHindered due.status → (status ≡ wanted) ⊎ IsHindered status
+by_due wanted due now status ends is = by (λ s. (s ≡ wanted) ⊎ IsHindered s) due now status ends (λ calls. is) (inr (inl refl))
+
+pub one_more : (before : List Call) → faults before < suc (faults before)
+one_more before = omega arith
 
 same_count : (before middle now : List Call) (status : Status) → faults now ≡ faults middle → Counts before middle status → Counts before now status
 same_count before middle now Done same counts = same ∙ counts

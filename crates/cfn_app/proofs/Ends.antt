@@ -14,7 +14,10 @@ use Rattle.cfn_report.specs.Texts.{migrated_text, trial_text}
 use Rattle.cfn_desk.specs.Outside.{Outside, Call, Load, Open, Bytes, Discard, HasFile, after, says}
 use Rattle.cfn_line.specs.Appending.{Appends, IsCut}
 use Rattle.cfn_line.specs.declared.channel.Channel.TheVariants.{File, Screen}
-use Rattle.cfn_cli.specs.Request.{SolveRequest, CostRequest, NormalRequest, TrialRequest}
+use Rattle.cfn_cli.specs.Request.Solving.{SolveRequest}
+use Rattle.cfn_cli.specs.Request.Costing.{CostRequest}
+use Rattle.cfn_cli.specs.Request.Normalizing.{NormalRequest}
+use Rattle.cfn_cli.specs.Request.Trying.{TrialRequest}
 use Rattle.cfn_cli.specs.declared.format.Format.TheVariants.{Wcsp, Wcnf}
 use Rattle.cfn_wcnf.specs.Giving.{Fails}
 use Rattle.cfn_wcnf.specs.Reading.{in_words}
@@ -28,17 +31,17 @@ use Rattle.cfn_app.specs.Headline.{Promise}
 use Rattle.cfn_app.specs.Loading.{ReadsAs, RefusesAs, SaysUnread, read_as, Unloaded, Unread, loaded}
 use Rattle.cfn_app.specs.Loading as loading
 use Rattle.cfn_wcspwrite.specs.Canonical.{canonical}
-use Rattle.cfn_app.specs.Normalizing.{Normalizes}
-use Rattle.cfn_app.specs.Normalizing as normalizing
-use Rattle.cfn_app.specs.Costing.{Costs, Prices}
-use Rattle.cfn_app.specs.Costing as costing
-use Rattle.cfn_app.specs.Solving.{Solves, Searches, Outputs, Wrote, NotWritten, status_of}
-use Rattle.cfn_app.specs.Solving as solving
+use Rattle.cfn_app.specs.Runs.Normalizing.{Normalizes}
+use Rattle.cfn_app.specs.Runs.Normalizing as normalizing
+use Rattle.cfn_app.specs.Runs.Costing.{Costs, Prices}
+use Rattle.cfn_app.specs.Runs.Costing as costing
+use Rattle.cfn_app.specs.Runs.Solving.{Solves, Searches, Outputs, Wrote, NotWritten, status_of}
+use Rattle.cfn_app.specs.Runs.Solving as solving
 use Rattle.cfn_gen.specs.Generator.{instance}
-use Rattle.cfn_app.specs.Trying.{Tries, trial_text_of}
-use Rattle.cfn_app.specs.Trying as trying
-use Rattle.cfn_app.specs.Migrating.{Rewrites}
-use Rattle.cfn_app.specs.Migrating as migrating
+use Rattle.cfn_app.specs.Runs.Trying.{Tries, trial_text_of}
+use Rattle.cfn_app.specs.Runs.Trying as trying
+use Rattle.cfn_app.specs.Runs.Migrating.{Rewrites}
+use Rattle.cfn_app.specs.Runs.Migrating as migrating
 
 -- a text that is said last
 pub ends_saying : {T E : Type 0} (calls : List Call) (before now : Outside) (text : List ℕ) (result : Result T E) (due status : Status) → before.calls ≡ calls → Appends Screen before text result now → status ≡ (if is_ok result then due else Fault) → Ends (record { calls = calls; text = text; status = due }) now.calls status

@@ -5,7 +5,7 @@ use Rattle.cfn_model.specs.declared.report.Row.{Row}
 use Rattle.cfn_model.specs.Network.{Network, IsNetwork, Fits, Least, cost}
 use Rattle.cfn_model.specs.Certificate.{Solution, Certificate}
 use Rattle.cfn_app.specs.Headline.{Promise}
-use Rattle.cfn_app.specs.Solving.{word_when_done}
+use Rattle.cfn_app.specs.Runs.Solving.{word_when_done}
 
 -- the assignment of zeros
 zeros : List ℕ → List ℕ

@@ -1,14 +1,8 @@
 mod Causes
-mod CheckStating
-mod CostStating
 mod Counting
 mod Ends
 mod Files
 mod LeastCost
 mod Pairing
-mod MigrateStating
-mod NormalStating
-mod SolveStating
 mod Stating
-mod TrialStating
 mod Writing

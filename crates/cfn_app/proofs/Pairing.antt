@@ -11,8 +11,8 @@ use Rattle.cfn_app.specs.declared.status.Status.TheVariants.{Refused, Fault, NoM
 use Rattle.cfn_app.specs.Endings.{IsHindered}
 use Rattle.cfn_app.specs.Loading.{ReadsAs, RefusesAs, Unloaded, Unread, Paired, Unpaired, Tells, loaded, unread_text}
 use Rattle.cfn_app.specs.Loading as loading
-use Rattle.cfn_app.specs.Statuses.{Counts}
-use Rattle.cfn_app.proofs.Counting.{by, counted, ends_idle}
+use Rattle.cfn_app.specs.Saying.{Counts}
+use Rattle.cfn_app.proofs.Counting.{by, counted, ends_idle, one_more}
 use Rattle.cfn_app.proofs.Files.{same_bytes, read_refused}
 
 -- an end that is passed on
@@ -67,9 +67,6 @@ module _ (format : Format) (file certificate : List ℕ) (old : Outside) (now : 
   unpaired_hindered wanted bytes P told reads unpaired =
       unpaired_by (λ s. (s ≡ wanted) ⊎ IsHindered s) (inr (inl refl)) (λ calls is. inr (inr refl))
       (λ other text refusal has certified refuses is. absurd (read_refused format bytes other P refusal (sym (same_bytes old file other bytes told has)) reads refuses)) unpaired
-
-  one_more : (before : List Call) → faults before < suc (faults before)
-  one_more before = omega arith
 
   pub unpaired_counts : Unpaired format file certificate old now status → Counts old.calls now status
   unpaired_counts (loading.unloaded (loading.unread ends)) = counted old.calls _ now status ends (one_more old.calls)

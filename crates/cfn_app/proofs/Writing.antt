@@ -4,9 +4,9 @@ use Rattle.std.proofs.Common.{◌≡◌, ℕ, suc, ◌<◌, true, List, [], ◌�
 use Rattle.cfn_desk.specs.Outside.{Outside, Call, Open, Writing, IsIdle, Stored, faults, puts, written}
 use Rattle.cfn_desk.proofs.CallerLemmas.{written-puts, faults-puts}
 use Rattle.cfn_app.specs.declared.status.Status.{Status}
-use Rattle.cfn_app.specs.Solving.{Wrote, NotWritten, Outputs}
-use Rattle.cfn_app.specs.Solving as solving
-use Rattle.cfn_app.specs.Statuses.{Counts}
+use Rattle.cfn_app.specs.Runs.Solving.{Wrote, NotWritten, Outputs}
+use Rattle.cfn_app.specs.Runs.Solving as solving
+use Rattle.cfn_app.specs.Saying.{Counts}
 use Rattle.cfn_app.proofs.Counting.{counted, ends_idle, put_count}
 
 pub stored_at : (old new : Outside) (name text : List ℕ) (calls : List Call) (middle : Outside) → new.files ≡ middle.files → Stored old.files (written (puts text (Open name true ∷ calls))) middle.files → Stored old.files (Writing name text) new.files

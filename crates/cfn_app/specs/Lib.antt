@@ -1,11 +1,5 @@
-pub mod Checking
-pub mod Costing
 pub mod Endings
 pub mod Headline
 pub mod Loading
-pub mod Migrating
-pub mod Normalizing
 pub mod Runs
-pub mod Solving
-pub mod Statuses
-pub mod Trying
+pub mod Saying

@@ -1,18 +1,48 @@
--- How a run may end, in full: its calls in their order with their bytes and answers, what it says, the files, its status.
+-- How a run may end, in full: its calls in their order with their bytes and answers, what it says, the files, its status; and
+-- what each status says.
 use Rattle.std.specs.Prelude.{◌≡◌, Option, Some, None}
 use Rattle.cfn_model.specs.Text.{memory_fault_text}
 use Rattle.cfn_report.specs.Texts.{usage_text}
-use Rattle.cfn_desk.specs.Outside.{Outside}
-use Rattle.cfn_cli.specs.Request.{Request, solve, check, cost, normal, trial, migrate, SolveRequest, CheckRequest, CostRequest, NormalRequest, TrialRequest, MigrateRequest}
+use Rattle.cfn_desk.specs.Outside.{Outside, IsIdle}
+use Rattle.cfn_cli.specs.Request.{Request, solve, check, cost, normal, trial, migrate}
 use Rattle.cfn_app.specs.declared.status.Status.{Status}
-use Rattle.cfn_app.specs.declared.status.Status.TheVariants.{Usage, NoMemory}
+use Rattle.cfn_app.specs.declared.status.Status.TheVariants.{Done, Nothing, BudgetSpent, Usage, Refused, Fault, NoMemory, Disproved}
 use Rattle.cfn_app.specs.Endings.{Ends}
-use Rattle.cfn_app.specs.Solving.{Solves}
-use Rattle.cfn_app.specs.Checking.{Checks}
-use Rattle.cfn_app.specs.Costing.{Costs}
-use Rattle.cfn_app.specs.Migrating.{Migrates}
-use Rattle.cfn_app.specs.Normalizing.{Normalizes}
-use Rattle.cfn_app.specs.Trying.{Tries}
+use Rattle.cfn_app.specs.Saying.{Counts, Says, SaysNoMemory}
+use Rattle.cfn_app.specs.Runs.Solving.{Solves, SolveStatus}
+use Rattle.cfn_app.specs.Runs.Checking.{Checks, CheckStatus}
+use Rattle.cfn_app.specs.Runs.Costing.{Costs, CostStatus}
+use Rattle.cfn_app.specs.Runs.Migrating.{Migrates, MigrateStatus}
+use Rattle.cfn_app.specs.Runs.Normalizing.{Normalizes, NormalStatus}
+use Rattle.cfn_app.specs.Runs.Trying.{Tries, TrialStatus}
+pub mod Checking
+pub mod Costing
+pub mod Migrating
+pub mod Normalizing
+pub mod Solving
+pub mod Trying
+
+-- ---- the commands
+
+-- How a run may end that is asked this. Only `solve` and `migrate` write a file.
+abbrev pub RunsOf : Request → Outside → Outside → Status → Type 0
+RunsOf (solve ask) old new status = Solves ask old new status
+RunsOf (check ask) old new status = (new.files ≡ old.files) × Checks ask old new.calls status
+RunsOf (cost ask) old new status = (new.files ≡ old.files) × Costs ask old new.calls status
+RunsOf (normal ask) old new status = (new.files ≡ old.files) × Normalizes ask old new.calls status
+RunsOf (trial ask) old new status = (new.files ≡ old.files) × Tries ask old.calls new.calls status
+RunsOf (migrate ask) old new status = Migrates ask old new status
+
+-- What the status of a run says that is asked this.
+abbrev pub StatusOf : Request → Outside → Outside → Status → Type 0
+StatusOf (solve ask) old new status = SolveStatus ask old new status
+StatusOf (check ask) old new status = CheckStatus ask old new status
+StatusOf (cost ask) old new status = CostStatus ask old new status
+StatusOf (normal ask) old new status = NormalStatus ask old new status
+StatusOf (trial ask) old new status = TrialStatus ask old new status
+StatusOf (migrate ask) old new status = MigrateStatus ask old new status
+
+-- ---- all runs
 
 -- How a run may end, by what its words ask for.
 pub data Runs (request : Option Request) (old new : Outside) (status : Status) : Type 0 where
@@ -21,9 +51,23 @@ pub data Runs (request : Option Request) (old new : Outside) (status : Status) :
   -- the words are no command
   usage : request ≡ None → new.files ≡ old.files → Ends (record { calls = old.calls; text = usage_text; status = Usage }) new.calls status → Runs request old new status
   -- the words are a command
-  solves : (ask : SolveRequest) → request ≡ Some (solve ask) → Solves ask old new status → Runs request old new status
-  checks : (ask : CheckRequest) → request ≡ Some (check ask) → new.files ≡ old.files → Checks ask old new.calls status → Runs request old new status
-  costs : (ask : CostRequest) → request ≡ Some (cost ask) → new.files ≡ old.files → Costs ask old new.calls status → Runs request old new status
-  normalizes : (ask : NormalRequest) → request ≡ Some (normal ask) → new.files ≡ old.files → Normalizes ask old new.calls status → Runs request old new status
-  tries : (ask : TrialRequest) → request ≡ Some (trial ask) → new.files ≡ old.files → Tries ask old.calls new.calls status → Runs request old new status
-  migrates : (ask : MigrateRequest) → request ≡ Some (migrate ask) → Migrates ask old new status → Runs request old new status
+  does : (ask : Request) → request ≡ Some ask → RunsOf ask old new status → Runs request old new status
+
+-- Words that are no command end with the usage.
+abbrev pub UsageSays : Outside → Outside → Status → Type 0
+UsageSays old new Done = ⊥
+UsageSays old new Nothing = ⊥
+UsageSays old new BudgetSpent = ⊥
+UsageSays old new Usage = Says old old.calls usage_text new
+UsageSays old new Refused = ⊥
+UsageSays old new Fault = Unit {0}
+UsageSays old new NoMemory = SaysNoMemory old new
+UsageSays old new Disproved = ⊥
+
+-- What a status says, by what the words ask for; with which status the count of failed calls rose; and that no file is
+-- being written at the end, if none was before.
+pub record Statuses (request : Option Request) (old new : Outside) (status : Status) : Type 0 where
+  pub no_command : request ≡ None → UsageSays old new status
+  pub command : (ask : Request) → request ≡ Some ask → StatusOf ask old new status
+  pub counts : Counts old.calls new.calls status
+  pub idle : IsIdle old.calls → IsIdle new.calls

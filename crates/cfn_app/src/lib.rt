@@ -13,16 +13,11 @@
 //! - A `Gate` is what the workers of a search pass (`cfn_solve`).
 #![tactic(auto)]
 
-mod checking;
-mod costing;
+mod commands;
 mod loading;
-mod migrating;
-mod normalizing;
 mod output;
 mod program;
-mod solving;
 mod status;
-mod trying;
 
 pub use cfn_solve::{Gate, OpenGate, Point};
 pub use program::run;

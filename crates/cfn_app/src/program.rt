@@ -3,17 +3,11 @@
 ghost use Rattle.std.specs.Prelude.{◌≡◌, map};
 ghost use Rattle.cfn_desk.specs.Outside.{IsIdle};
 ghost use Rattle.cfn_cli.specs.Request.{request_of};
-ghost use Rattle.cfn_app.specs.Runs.{Runs};
-ghost use Rattle.cfn_app.specs.Statuses.{Statuses};
+ghost use Rattle.cfn_app.specs.Runs.{Runs, Statuses};
 
-use crate::checking::check_file;
-use crate::costing::cost_file;
-use crate::migrating::migrate_file;
-use crate::normalizing::normalize_file;
-use crate::solving::solve_file;
+use crate::commands::do_command;
 use crate::status::{Status, ending};
-use crate::trying::try_drawn;
-use cfn_cli::{CliFault, Command};
+use cfn_cli::CliFault;
 use cfn_desk::Desk;
 use cfn_solve::Gate;
 use std::alloc::Global;
@@ -55,12 +49,7 @@ fn end_of<R: Threads + Wait + Sync, D: Desk, G: Gate + Sync>(
         (D.outside desk.old) (D.outside desk.new) result }
 {
     match cfn_cli::parse(alloc, words) {
-        Ok(Command::Solve(ask)) => solve_file(rt, alloc, &ask, desk, gate),
-        Ok(Command::Check(ask)) => check_file(alloc, &ask, desk),
-        Ok(Command::Cost(ask)) => cost_file(alloc, &ask, desk),
-        Ok(Command::Normal(ask)) => normalize_file(alloc, &ask, desk),
-        Ok(Command::Trial(ask)) => try_drawn(rt, alloc, &ask, desk, gate),
-        Ok(Command::Migrate(ask)) => migrate_file(alloc, &ask, desk),
+        Ok(command) => do_command(rt, alloc, &command, desk, gate),
         Err(CliFault::Usage) => ending(cfn_report::write_usage(desk), Status::Usage),
         Err(CliFault::Memory) => ending(cfn_report::write_memory_fault(desk), Status::NoMemory),
     }

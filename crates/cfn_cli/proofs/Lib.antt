@@ -1,6 +1,6 @@
+pub mod Asking
 pub mod Building
-pub mod Found
 pub mod Numbers
-pub mod Requests
+pub mod Rows
 pub mod Taking
 pub mod Values

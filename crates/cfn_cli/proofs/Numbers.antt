@@ -5,7 +5,7 @@ use Rattle.clap.specs.Values.{IsUnsignedIn}
 use Rattle.clap.specs.ValueTests.{is_unsigned_in}
 use Rattle.clap.specs.declared.builder.value_parser.ValueParser.TheVariants as vp
 use Rattle.clap.proofs.ValueTestLemmas.{Accepts-accepts, accepts-Accepts}
-use Rattle.cfn_cli.specs.Request.{number_in}
+use Rattle.cfn_cli.specs.Arguments.{number_in}
 
 -- What `parse::<u64>` takes.
 abbrev pub IsU64 : List ℕ → Type 0

@@ -1,18 +1,9 @@
 -- What clap's answer says of the words.
 use Rattle.std.proofs.Common.{◌≡◌, ◌≢◌, ◌∙◌, List, [], ◌∷◌, Option, None, true, false, refl, sym, ap, inl, inr}
-use Rattle.clap.specs.Words.{App, HasKind, Kinds, Row, Text, fault_of, is_simple, is_simple_and_free, kind_of, subcommand_of}
+use Rattle.clap.specs.Words.{App, HasKind, Kinds, Row, Text, fault_of, kind_of, subcommand_of}
 use Rattle.clap.specs.declared.error.Error.{Error}
 use Rattle.clap.specs.declared.error.ErrorKind.TheVariants.{OutOfMemory}
-use Rattle.cfn_cli.specs.Line.{budget_rule, certificate_rule, check_app, command_line, cost_app, file_rule, migrate_app, normal_app, out_rule, seed_rule, size_rule, solve_app, trial_app, values_rule, wcnf_rule, workers_rule}
-use Rattle.cfn_cli.specs.Request.{entered_by, is_faultless, is_taken, request_from, request_of}
-
-pub line_is_simple : is_simple command_line ≡ true
-unfolding command_line solve_app check_app cost_app normal_app trial_app migrate_app file_rule certificate_rule out_rule seed_rule size_rule workers_rule budget_rule values_rule wcnf_rule
-line_is_simple = refl
-
-pub line_is_free : is_simple_and_free command_line ≡ true
-unfolding command_line solve_app check_app cost_app normal_app trial_app migrate_app file_rule certificate_rule out_rule seed_rule size_rule workers_rule budget_rule values_rule wcnf_rule
-line_is_free = refl
+use Rattle.cfn_cli.specs.Request.{command_line, entered_by, is_faultless, is_taken, request_from, request_of}
 
 pub taken : (app : App) (words : List Text) → app ≡ command_line → fault_of app words ≡ [] → is_taken words ≡ true
 unfolding is_taken

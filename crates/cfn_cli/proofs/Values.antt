@@ -7,7 +7,8 @@ use Rattle.std.specs.List.{All, list_all, slice_index_or}
 use Rattle.std.proofs.lemmas.List.{map-append, take_more, take_all}
 use Rattle.std.proofs.lemmas.List.Folds.{list_all-append}
 use Rattle.clap.specs.Words.{Text}
-use Rattle.cfn_cli.specs.Request.{is_value, number_in, value_of, values_of}
+use Rattle.cfn_cli.specs.Arguments.{number_in}
+use Rattle.cfn_cli.specs.Request.Costing.{is_value, value_of, values_of}
 
 abbrev pub texts : List (Bor Text) → List Text
 texts = map (λ t. t.now)

@@ -1,3 +1,3 @@
+pub mod Arguments
 pub mod Building
-pub mod Line
 pub mod Request

@@ -7,20 +7,21 @@
 //!     wcspsolve trial SEED SIZE [--workers W]
 //!     wcspsolve migrate FILE CERT OUT
 //!
-//! The crate `clap` says which word is which argument, by the command that `line` builds. `reading`
-//! reads the numbers of what clap found and holds them to their limits. What the words spell,
-//! `request_of` of `specs/Request.antt`, is a function of the words alone: clap's own function of
-//! the words, at that command, and then the reading.
+//! The crate `clap` says which word is which argument. `commands` is the list of the commands, each of which has a file of its
+//! own: what it is asked with, its part of the command line, and how that is read. `arguments` has the arguments that several
+//! of them take, and `found` reads what clap found and holds numbers to their limits. What the words spell, `request_of` of
+//! `specs/Request.antt`, is a function of the words alone: clap's own function of the words, at the command line, and then the
+//! reading.
 #![tactic(auto)]
 
-mod command;
+mod arguments;
+mod commands;
 mod fault;
 mod format;
-mod line;
+mod found;
 mod parsing;
-mod reading;
 
-pub use command::{
+pub use commands::{
     CheckArguments, Command, CostArguments, MigrateArguments, NormalArguments, SolveArguments,
     TrialArguments,
 };

@@ -4,8 +4,7 @@ use Rattle.cfn_desk.specs.Outside.{Outside}
 use Rattle.cfn_cli.specs.Request.{request_of}
 use Rattle.cfn_app.specs.declared.status.Status.{Status}
 use Rattle.cfn_app.specs.Endings.{code}
-use Rattle.cfn_app.specs.Runs.{Runs}
-use Rattle.cfn_app.specs.Statuses.{Statuses}
+use Rattle.cfn_app.specs.Runs.{Runs, Statuses}
 
 -- A run on some words, over a desk that no call was made of before, ended with this status.
 pub record Ran (status : Status) : Type 0 where

@@ -1,0 +1,72 @@
+//! The command `solve`.
+
+ghost use Rattle.std.specs.Prelude.{◌≡◌, ◌≤◌};
+ghost use Rattle.cfn_model.specs.declared.limits.TheConstants.{GREATEST};
+ghost use Rattle.cfn_desk.specs.Outside.{IsIdle};
+ghost use Rattle.cfn_cli.specs.Request.Solving.{spoken_solve};
+ghost use Rattle.cfn_app.specs.Runs.Solving.{Searches, Solves};
+
+use crate::loading::{load_bytes, read_bytes};
+use crate::output::put_out;
+use crate::status::{Status, ending};
+use cfn_cli::SolveArguments;
+use cfn_desk::Desk;
+use cfn_net::Network;
+use cfn_solve::{Gate, solve_together};
+use std::alloc::{AllocError, Global};
+use std::sync::Wait;
+use std::thread::Threads;
+
+/// Loads and reads the file that is asked for, opens the certificate's file, searches, writes the certificate and says
+/// the report. The first fault decides; where there is no certificate the file is dropped.
+pub fn solve_file<R: Threads + Wait + Sync, D: Desk, G: Gate + Sync>(
+    rt: &R,
+    alloc: Global,
+    ask: &SolveArguments,
+    desk: &mut D,
+    gate: &G,
+) -> Status
+    requires idle { IsIdle (D.outside desk.old).calls }
+    requires some { 1 ≤ ask.now.workers }
+    requires few { ask.now.workers ≤ 64 }
+    requires budget { ask.now.budget ≤ GREATEST }
+    ensures { Solves (spoken_solve ask.now) (D.outside desk.old) (D.outside desk.new) result }
+{
+    let bytes = match load_bytes(alloc, ask.file.as_str(), desk) {
+        Ok(bytes) => bytes,
+        Err(status) => return status,
+    };
+    match read_bytes(alloc, ask.format, &bytes, desk) {
+        Ok(network) => open_and_search(rt, alloc, &network, ask, desk, gate),
+        Err(status) => status,
+    }
+}
+
+/// Opens the certificate's file, and searches a network as is asked. A file that can't be written costs no search.
+fn open_and_search<R: Threads + Wait + Sync, D: Desk, G: Gate + Sync>(
+    rt: &R,
+    alloc: Global,
+    network: &Network,
+    ask: &SolveArguments,
+    desk: &mut D,
+    gate: &G,
+) -> Status
+    requires idle { IsIdle (D.outside desk.old).calls }
+    requires some { 1 ≤ ask.now.workers }
+    requires few { ask.now.workers ≤ 64 }
+    requires budget { ask.now.budget ≤ GREATEST }
+    ensures { Searches network.now (spoken_solve ask.now) (D.outside desk.old) (D.outside desk.new) result }
+{
+    if desk.open_out(ask.certificate.as_str()).is_err() {
+        return ending(cfn_report::write_write_fault(desk), Status::Fault);
+    }
+    network.limits();
+    let workers = u32::from(ask.workers);
+    match solve_together(rt, alloc, network, workers, ask.budget, gate) {
+        Ok(found) => put_out(&found.outcome, workers, desk),
+        Err(AllocError) => {
+            desk.discard_out();
+            ending(cfn_report::write_memory_fault(desk), Status::NoMemory)
+        }
+    }
+}

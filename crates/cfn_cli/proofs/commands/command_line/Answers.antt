@@ -1,0 +1,42 @@
+use Rattle.std.proofs.Common.{◌≡◌, ◌∙◌, ap, refl, true}
+use Rattle.std.proofs.lemmas.Result.{IfOk-weaker}
+use Rattle.clap.specs.Words.{is_simple, is_simple_and_free}
+use Rattle.clap.specs.declared.builder.Command.{Command}
+use Rattle.cfn_cli.specs.Arguments.{budget_rule, certificate_rule, file_rule, wcnf_rule, workers_rule}
+use Rattle.cfn_cli.specs.Building.{Builds}
+use Rattle.cfn_cli.specs.Request.{IsLine, command_line}
+use Rattle.cfn_cli.specs.Request.Checking.{check_app}
+use Rattle.cfn_cli.specs.Request.Costing.{cost_app, values_rule}
+use Rattle.cfn_cli.specs.Request.Migrating.{migrate_app, out_rule}
+use Rattle.cfn_cli.specs.Request.Normalizing.{normal_app}
+use Rattle.cfn_cli.specs.Request.Solving.{solve_app}
+use Rattle.cfn_cli.specs.Request.Trying.{seed_rule, size_rule, trial_app}
+use Rattle.cfn_cli.proofs.Building.{begun, command_required, under_added}
+use Rattle.cfn_cli.proofs.commands.command_line.Goals as goal
+
+line_is_simple : is_simple command_line ≡ true
+unfolding command_line solve_app check_app cost_app normal_app trial_app migrate_app file_rule certificate_rule out_rule seed_rule size_rule workers_rule budget_rule values_rule wcnf_rule
+line_is_simple = refl
+
+line_is_free : is_simple_and_free command_line ≡ true
+unfolding command_line solve_app check_app cost_app normal_app trial_app migrate_app file_rule certificate_rule out_rule seed_rule size_rule workers_rule budget_rule values_rule wcnf_rule
+line_is_free = refl
+
+is_line : (c : Command) → Builds command_line c → IsLine c
+is_line c built = record {
+  app = built.app;
+  simple = ap is_simple built.app ∙ line_is_simple;
+  free = ap is_simple_and_free built.app ∙ line_is_free;
+}
+
+pub returns : goal.returns
+unfolding command_line
+returns c =
+    let start = begun _ _ c.new.ensures.app c.new.ensures.local in
+    let required = command_required _ _ _ c.subcommand_required-line.ensures start in
+    let with_solve = under_added _ _ _ _ _ c.in_ok-line.ensures required c.line.ensures in
+    let with_check = under_added _ _ _ _ _ c.in_ok-line-2.ensures with_solve c.line-2.ensures in
+    let with_cost = under_added _ _ _ _ _ c.in_ok-line-3.ensures with_check c.line-3.ensures in
+    let with_normal = under_added _ _ _ _ _ c.in_ok-line-4.ensures with_cost c.line-4.ensures in
+    let with_trial = under_added _ _ _ _ _ c.in_ok-line-5.ensures with_normal c.line-5.ensures in
+    IfOk-weaker c.under-6.result _ _ (λ new adds. is_line new (under_added _ new _ _ _ adds with_trial c.line-6.ensures)) c.under-6.ensures

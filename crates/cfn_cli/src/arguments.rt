@@ -1,0 +1,61 @@
+//! The arguments that commands share, as clap has them. What one command alone takes stands in that command's file.
+
+ghost use Rattle.std.specs.Prelude.{◌≡◌, false};
+ghost use Rattle.clap.specs.Words.{rule_of};
+ghost use Rattle.cfn_cli.specs.Arguments.{budget_rule, certificate_rule, file_rule, wcnf_rule, workers_rule};
+
+use clap::{Arg, ArgAction, value_parser};
+use std::alloc::Global;
+
+/// FILE
+#[tactic(auto, unfolding(crate::specs::Arguments::file_rule))]
+pub(crate) fn file<'a>(alloc: Global) -> Arg<'a>
+    ensures rule { rule_of result ≡ file_rule }
+    ensures local { result.global ≡ false }
+{
+    Arg::new(alloc, "file").required(true)
+}
+
+/// CERT
+#[tactic(auto, unfolding(crate::specs::Arguments::certificate_rule))]
+pub(crate) fn certificate<'a>(alloc: Global) -> Arg<'a>
+    ensures rule { rule_of result ≡ certificate_rule }
+    ensures local { result.global ≡ false }
+{
+    Arg::new(alloc, "certificate").required(true)
+}
+
+/// `[--workers W]`, and 1 where it is left out
+#[tactic(auto, unfolding(crate::specs::Arguments::workers_rule))]
+pub(crate) fn workers<'a>(alloc: Global) -> Arg<'a>
+    ensures rule { rule_of result ≡ workers_rule }
+    ensures local { result.global ≡ false }
+{
+    Arg::new(alloc, "workers")
+        .long("workers")
+        .value_parser(value_parser!(u64))
+        .default_value("1")
+}
+
+/// `[--budget B]`, and 2^63 - 1 where it is left out
+#[tactic(auto, unfolding(crate::specs::Arguments::budget_rule))]
+pub(crate) fn budget<'a>(alloc: Global) -> Arg<'a>
+    ensures rule { rule_of result ≡ budget_rule }
+    ensures local { result.global ≡ false }
+{
+    Arg::new(alloc, "budget")
+        .long("budget")
+        .value_parser(value_parser!(u64))
+        .default_value("9223372036854775807")
+}
+
+/// `[--wcnf]`
+#[tactic(auto, unfolding(crate::specs::Arguments::wcnf_rule))]
+pub(crate) fn wcnf<'a>(alloc: Global) -> Arg<'a>
+    ensures rule { rule_of result ≡ wcnf_rule }
+    ensures local { result.global ≡ false }
+{
+    Arg::new(alloc, "wcnf")
+        .long("wcnf")
+        .action(ArgAction::SetTrue)
+}
