@@ -3,11 +3,11 @@
 //! `run` reads the words of the command line, loads and reads the file, and then solves it, writes the certificate and
 //! says the report; or judges the certificate that it loaded, and says its bounds or its first line that fails, or writes
 //! it in the second version; or says the cost of an assignment, or the file's network in its canonical text; or draws a
-//! network and says its least cost. How it may end, with each call of the desk, is defined in specs/Runs.antt; what each status
-//! says in specs/Statuses.antt; and what a report promises in specs/Headline.antt.
+//! network and says its least cost. How it may end, with each call of the desk, and what each status says is defined in
+//! specs/Runs.antt, with a file for each command below it, and what a report promises in specs/Headline.antt.
 //!
-//! - `program` has `run`, and `solving`, `checking`, `costing`, `normalizing`, `trying` and `migrating` have a command each,
-//!   as specs/ has.
+//! - `program` has `run`. `commands` is the list of the commands, each of which has a file of its own, as specs/Runs has and
+//!   proofs/Stating.
 //! - `loading` goes from the names of files to bytes and a network in a format, and `output` writes a certificate and
 //!   says its report. `status` has the statuses.
 //! - A `Gate` is what the workers of a search pass (`cfn_solve`).

@@ -9,33 +9,7 @@ use std::alloc::{AllocError, AllocGlobal};
 use std::sync::Wait;
 use std::sync::atomic::{AtomicU64, Ordering};
 use std::test::*;
-use std::thread;
 use std::thread::Threads;
-
-/// A gate that holds the second task of a run until a third is taken, for at most 100,000,000 turns.
-///
-/// Below the root of `tri` there are two leaves. Whoever takes the second task has the third in its lane, so the third is
-/// stolen.
-#[derive(Drop)]
-struct Meeting {
-    /// How many tasks were taken.
-    taken: AtomicU64,
-    /// How many tasks were held to the last turn.
-    missed: AtomicU64,
-}
-
-impl Gate for Meeting {
-    fn pass(&self, _worker: u32, point: Point) {
-        if point == Point::Taken && self.taken.fetch_add(1, Ordering::SeqCst) == 1 {
-            for _ in 0..100_000_000 {
-                if self.taken.load(Ordering::SeqCst) > 2 {
-                    return;
-                }
-            }
-            self.missed.store(1, Ordering::SeqCst);
-        }
-    }
-}
 
 /// A gate by which a worker is about to wait with a count of changes that has moved already.
 ///
@@ -82,30 +56,6 @@ impl Gate for Moving {
     }
 }
 
-/// A gate that holds one of four workers for some time, at one of the points or at each.
-#[derive(Drop)]
-struct Holding {
-    /// The worker is this modulo 4, and the point this by 4.
-    number: u32,
-}
-
-impl Gate for Holding {
-    fn pass(&self, worker: u32, point: Point) {
-        let held = match self.number / 4 {
-            0 => point == Point::Taken,
-            1 => point == Point::BeforeGive,
-            2 => point == Point::Waiting,
-            3 => point == Point::Ended,
-            _ => true,
-        };
-        if held && worker == self.number % 4 {
-            for _ in 0..10_000 {
-                thread::yield_now();
-            }
-        }
-    }
-}
-
 /// The least of some thresholds.
 fn least_of(thresholds: &[Threshold]) -> u64 {
     let mut least = u64::MAX;
@@ -137,24 +87,6 @@ fn together<R: AllocGlobal + Threads + Wait + Sync, G: Gate + Sync>(
     ))
 }
 
-/// Whether four workers prove the bound 1 of `tri` with an optimum of that cost, under a gate.
-fn agrees<R: AllocGlobal + Threads + Wait + Sync>(rt: &R, number: u32) -> Result<bool, AllocError> {
-    let gate = Holding { number };
-    Ok(together(rt, 4, &gate)? == (1, true))
-}
-
-/// What two workers find under a gate by which they meet, and how many tasks were held to the last turn.
-fn under_meeting<R: AllocGlobal + Threads + Wait + Sync>(
-    rt: &R,
-) -> Result<((u64, bool), u64), AllocError> {
-    let gate = Meeting {
-        taken: AtomicU64::new(0),
-        missed: AtomicU64::new(0),
-    };
-    let found = together(rt, 2, &gate)?;
-    Ok((found, gate.missed.load(Ordering::SeqCst)))
-}
-
 /// What two workers find where one is about to wait with a count that has moved, and how many were held to the last turn.
 fn under_moving<R: AllocGlobal + Threads + Wait + Sync>(
     rt: &R,
@@ -177,20 +109,6 @@ fn single_worker_finds_the_optimum(rt: HostRuntime) -> Result<(), Fail> {
 #[test]
 fn four_workers_find_the_optimum(rt: HostRuntime) -> Result<(), Fail> {
     assert!(rt; together(&rt, 4, &OpenGate)? == (1, true));
-    Ok(())
-}
-
-#[test]
-fn four_workers_agree_under_twenty_gates(rt: HostRuntime) -> Result<(), Fail> {
-    for number in 0..20 {
-        assert!(rt; agrees(&rt, number)?);
-    }
-    Ok(())
-}
-
-#[test]
-fn two_workers_are_at_work_at_once(rt: HostRuntime) -> Result<(), Fail> {
-    assert!(rt; under_meeting(&rt)? == ((1, true), 0));
     Ok(())
 }
 

@@ -1,6 +1,6 @@
 //! A whole run over a desk in memory, and questions about what it said and wrote.
 
-use cfn_app::{OpenGate, run};
+use cfn_app::{Gate, OpenGate, run};
 use cfn_desk::MemoryDesk;
 use std::alloc::{AllocError, AllocGlobal, Global};
 use std::sync::Wait;
@@ -51,6 +51,18 @@ impl Run {
         let mut desk = MemoryDesk::make(rt.alloc(), files, 2000, 400, failing)?;
         let status = run(rt, rt.alloc(), words, &mut desk, &OpenGate).code();
         Run::left(rt.alloc(), status, &desk, kept)
+    }
+
+    /// The run of these words over a desk whose file `in` has these bytes, in which workers pass a gate.
+    pub fn gated<R: AllocGlobal + Threads + Wait + Sync, G: Gate + Sync>(
+        rt: &R,
+        words: &[&str],
+        file: &[u8],
+        gate: &G,
+    ) -> Result<Run, AllocError> {
+        let mut desk = MemoryDesk::make(rt.alloc(), &[("in", file)], 2000, 400, &[])?;
+        let status = run(rt, rt.alloc(), words, &mut desk, gate).code();
+        Run::left(rt.alloc(), status, &desk, "out")
     }
 
     /// The run that ended with this status and left this desk.

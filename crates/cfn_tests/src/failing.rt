@@ -25,106 +25,90 @@ pub(crate) const WHOLE: [Whole; 5] = [
     (&SOLVE, TINY, &[5, 6], 5, b"", b""),
 ];
 
-/// Whether a run whose put fails says so, and drops the file that it began.
-fn drops_the_file<R: AllocGlobal + Threads + Wait + Sync>(rt: &R) -> Result<bool, AllocError> {
-    let run = Run::of(rt, &SOLVE, TINY, &[5])?;
-    Ok(
-        run.status == 5
-            && run.said() == b"error write\n".as_slice()
-            && run.begun == 0
-            && run.certificate().is_empty(),
-    )
-}
+/// A good certificate of `TINY`, of the first version.
+const GOOD: &[u8] =
+    b"wcspcert 1\nnetwork 1 1 10\nlower 1\nbest 1\nvalues 1\ntree\np 0 0 0 3\np 0 0 1 1\nu 0 1\nclosed\nend\n";
 
-/// The calls are the load, the opening, and then a put for each piece.
-#[test]
-fn failed_put_is_a_write_fault(rt: HostRuntime) -> Result<(), Fail> {
-    assert!(rt; drops_the_file(&rt)?);
-    Ok(())
-}
+/// What `out` has before each run.
+const EARLIER: &[u8] = b"earlier";
 
-/// Of the runs over an earlier certificate in which one call fails, that of 1 to 59, how many keep it with a status of 5,
-/// and whether the others leave what the run leaves in which none fails.
-fn keepers<R: AllocGlobal + Threads + Wait + Sync>(rt: &R) -> Result<(u64, bool), AllocError> {
-    let files = [("in", TINY), ("out", b"earlier".as_slice())];
-    let whole = Run::over(rt, &SOLVE, &files, &[], "out")?;
-    let mut kept = 0;
-    let mut others_are_whole = whole.certificate().starts_with(b"wcspcert 2\n");
-    for failing in 1..60 {
-        let run = Run::over(rt, &SOLVE, &files, &[failing], "out")?;
-        if run.certificate() == b"earlier".as_slice() && run.status == 5 {
-            kept = failing;
-        } else if run.certificate() != whole.certificate() {
-            others_are_whole = false;
-        }
-    }
-    Ok((kept, others_are_whole))
-}
+/// The words of a run over the files `in`, `cert` and `out`, how many of its calls load a file, and how many calls it makes.
+type Device = (&'static [&'static str], u64, u64);
 
-/// Whichever call fails, a certificate that was there before is as it was, or replaced by a whole one.
-#[test]
-fn earlier_certificate_survives_each_fault(rt: HostRuntime) -> Result<(), Fail> {
-    // the load, the opening, 32 puts and the closing
-    assert!(rt; keepers(&rt)? == (35, true));
-    Ok(())
-}
+const DEVICES: [Device; 7] = [
+    // the load, the opening, 32 puts, the closing, and the lines of the report
+    (&SOLVE, 1, 44),
+    (&["wcspsolve", "check", "in", "cert"], 2, 3),
+    (&["wcspsolve", "cost", "in", "1"], 1, 3),
+    (&["wcspsolve", "normal", "in"], 1, 6),
+    (&["wcspsolve", "trial", "7", "2"], 0, 3),
+    // two loads, the opening, the puts, the closing, and the line
+    (&["wcspsolve", "migrate", "in", "cert", "out"], 2, 7),
+    (&["wcspsolve"], 0, 1),
+];
 
 /// How a run ended in which one call was to fail.
 #[derive(Clone, Copy, PartialEq, Eq)]
 enum Fault {
-    /// There was no such call, so the run was done.
+    /// There was no such call: the run is as it is where none fails.
     None,
-    /// The status was 5, and what was said and left is in order; how many bytes were said.
-    Said(usize),
+    /// The status was 5, and what was said and left is in order.
+    Said,
     /// Something was not in order.
     Wrong,
 }
 
-/// How a run ended whose call with this ordinal was to fail, beside the run in which none fails.
-fn fault_at(whole: &Run, run: &Run, failing: u64) -> Fault {
-    if run.status == 0 {
+/// How a run ended whose call with this ordinal was to fail, beside the run in which none fails: after a failed load or put the
+/// fault is said, and `out` is what it was; else a front of the text is said, and `out` is whole. No file is being written.
+fn fault_at(whole: &Run, run: &Run, loads: u64, failing: u64) -> Fault {
+    let said = run.said();
+    let is_whole = run.certificate() == whole.certificate();
+    if run.status == whole.status && said == whole.said() && is_whole {
         return Fault::None;
     }
-    let said = run.said();
-    let in_order = if said == b"error read\n".as_slice() {
-        failing == 1
+    let is_earlier = run.certificate() == EARLIER;
+    let in_order = if failing <= loads {
+        said == b"error read\n".as_slice() && is_earlier
     } else if said == b"error write\n".as_slice() {
-        failing > 1 && run.certificate().is_empty()
+        is_earlier
     } else {
-        whole.said().starts_with(said) && run.certificate() == whole.certificate()
+        whole.said().starts_with(said) && said.len() < whole.said().len() && is_whole
     };
-    if run.status == 5 && in_order {
-        Fault::Said(said.len())
+    if run.status == 5 && run.begun == 0 && in_order {
+        Fault::Said
     } else {
         Fault::Wrong
     }
 }
 
-/// The last call that can fail, and how many bytes are said where it does, or `None` where a run was not in order; and how
-/// many bytes are said where none fails.
-fn last_fault<R: AllocGlobal + Threads + Wait + Sync>(
+/// How many calls of a run fail in order, one in each run, from the first on up to the first that is not there; or `None` where
+/// a run was not in order.
+fn faults_of<R: AllocGlobal + Threads + Wait + Sync>(
     rt: &R,
-) -> Result<(Option<(u64, usize)>, usize), AllocError> {
-    let whole = Run::of(rt, &SOLVE, TINY, &[])?;
-    let mut last = (0, 0);
+    words: &[&str],
+    loads: u64,
+) -> Result<Option<u64>, AllocError> {
+    let files = [("in", TINY), ("cert", GOOD), ("out", EARLIER)];
+    let whole = Run::over(rt, words, &files, &[], "out")?;
     for failing in 1..200 {
-        let run = Run::of(rt, &SOLVE, TINY, &[failing])?;
-        match fault_at(&whole, &run, failing) {
-            Fault::None => break,
-            Fault::Said(said) => last = (failing, said),
-            Fault::Wrong => return Ok((None, whole.said().len())),
+        let run = Run::over(rt, words, &files, &[failing], "out")?;
+        match fault_at(&whole, &run, loads, failing) {
+            Fault::None => return Ok(Some(failing - 1)),
+            Fault::Said => {}
+            Fault::Wrong => return Ok(None),
         }
     }
-    Ok((Some(last), whole.said().len()))
+    Ok(None)
 }
 
-/// Whichever call fails, the status is 5, and nothing more is said; the first ordinal that no call has ends it.
+/// Whichever call of a command fails, the status is 5, and a file that was there before is as it was, or whole.
 #[test]
 fn each_failing_call_is_a_fault(rt: HostRuntime) -> Result<(), Fail> {
-    let (last, whole) = last_fault(&rt)?;
-    let (calls, said) = last.unwrap_or((0, 0));
-    // the last call says the end of the report
-    assert!(rt; calls > 5 && calls < 199);
-    assert!(rt; said > 0 && said < whole);
+    for (place, (words, loads, calls)) in DEVICES.iter().enumerate() {
+        assert!(rt;
+            faults_of(&rt, words, *loads)? == Some(*calls),
+            "command {place}"
+        );
+    }
     Ok(())
 }

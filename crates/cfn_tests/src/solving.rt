@@ -177,11 +177,9 @@ const BEST: [&[u8]; 6] = [
     b"values 1 1 0",
 ];
 
-/// How many of those values `solve` of `TRI` says, how many of these it certifies, and whether its certificate has a split.
-fn best_values<R: AllocGlobal + Threads + Wait + Sync>(
-    rt: &R,
-) -> Result<(u32, u32, bool), AllocError> {
-    let run = Run::solve(rt, TRI)?;
+/// How many of those values a run of `solve` on `TRI` says, how many of these it certifies, and whether its certificate has a
+/// split.
+pub(crate) fn best_values(run: &Run) -> (u32, u32, bool) {
     let mut said: u32 = 0;
     let mut certified: u32 = 0;
     for values in BEST {
@@ -192,11 +190,18 @@ fn best_values<R: AllocGlobal + Threads + Wait + Sync>(
             }
         }
     }
-    Ok((said, certified, has_front(run.certificate(), b"split ")))
+    (said, certified, has_front(run.certificate(), b"split "))
+}
+
+/// Those of a run by one worker.
+fn best_values_of_one<R: AllocGlobal + Threads + Wait + Sync>(
+    rt: &R,
+) -> Result<(u32, u32, bool), AllocError> {
+    Ok(best_values(&Run::solve(rt, TRI)?))
 }
 
 #[test]
 fn disagreeing_values_are_split_for(rt: HostRuntime) -> Result<(), Fail> {
-    assert!(rt; best_values(&rt)? == (1, 1, true));
+    assert!(rt; best_values_of_one(&rt)? == (1, 1, true));
     Ok(())
 }
