@@ -1,6 +1,6 @@
 //! Writing a certificate and saying its report.
 
-ghost use Rattle.std.specs.Prelude.{◌≡◌, OnOk, OnErr};
+ghost use Rattle.std.specs.Prelude.{◌≡◌, length, OnOk, OnErr};
 ghost use Rattle.cfn_model.specs.Text.{report, spelling};
 ghost use Rattle.cfn_desk.specs.Outside.{IsWriting};
 ghost use Rattle.cfn_proof.specs.Certificates.{certificate_of, solution_of};
@@ -11,17 +11,20 @@ use cfn_desk::{Desk, Failed};
 use cfn_model::ResultWord;
 use cfn_proof::{Certificate, Outcome, Stop};
 use cfn_report::Report;
+use cfn_solve::Teamwork;
 
-/// Writes the certificate of an outcome into the file that was opened, and then says its report. It takes no memory.
-/// The status is the result's, or that of a fault.
-pub fn put_out<D: Desk>(outcome: &Outcome, workers: u32, desk: &mut D) -> Status
-    requires { IsWriting (D.outside desk.old).calls }
-    ensures { Outputs (spelling (certificate_of outcome.now.certificate))
-        (report workers (certificate_of outcome.now.certificate) outcome.now.rows.items outcome.now.nodes
-        (word_of outcome.now.stop (solution_of outcome.now.certificate.best)))
-        (status_of (word_of outcome.now.stop (solution_of outcome.now.certificate.best)))
+/// Writes the certificate that a search found into the file that was opened, and then says its report. It takes no memory.
+/// The status is the result's, or that of a fault. The workers that the report tells are those of whom each told a threshold.
+pub fn put_out<D: Desk>(found: &Teamwork, workers: u32, desk: &mut D) -> Status
+    requires workers { length found.now.thresholds.items ≡ workers }
+    requires writing { IsWriting (D.outside desk.old).calls }
+    ensures { Outputs (spelling (certificate_of found.now.outcome.certificate))
+        (report workers (certificate_of found.now.outcome.certificate) found.now.outcome.rows.items found.now.outcome.nodes
+        (word_of found.now.outcome.stop (solution_of found.now.outcome.certificate.best)))
+        (status_of (word_of found.now.outcome.stop (solution_of found.now.outcome.certificate.best)))
         (D.outside desk.old) (D.outside desk.new) result }
 {
+    let outcome = &found.outcome;
     if save(&outcome.certificate, desk).is_err() {
         return ending(cfn_report::write_write_fault(desk), Status::Fault);
     }

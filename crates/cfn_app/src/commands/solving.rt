@@ -63,7 +63,7 @@ fn open_and_search<R: Threads + Wait + Sync, D: Desk, G: Gate + Sync>(
     network.limits();
     let workers = u32::from(ask.workers);
     match solve_together(rt, alloc, network, workers, ask.budget, gate) {
-        Ok(found) => put_out(&found.outcome, workers, desk),
+        Ok(found) => put_out(&found, workers, desk),
         Err(AllocError) => {
             desk.discard_out();
             ending(cfn_report::write_memory_fault(desk), Status::NoMemory)
