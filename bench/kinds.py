@@ -2,113 +2,23 @@
 
 Each kind is a problem in its own words, with what an assignment costs said from these directly; its cost functions and
 rules are said beside that, and the self-test of solving.py compares the two on the tiny size. No instance is anyone's
-data: the sources that are named say what a kind is after.
+data: the sources that are named say what a kind is after. problems.py has what all kinds share, more_kinds.py has kinds
+that the list at the end includes.
 """
 
 from __future__ import annotations
 
 import itertools
 import math
-import random
-from abc import ABC, abstractmethod
-from collections.abc import Iterator, Mapping, Sequence
+from collections.abc import Iterator
 from dataclasses import dataclass
-from typing import ClassVar, Self, TypeVar
+from typing import ClassVar, Self
 
-from networks import Function, Network, Values, tabulate
+from more_kinds import JobShops, Magic, Pedigrees, Photographs, Queens, Rosters, Threading
+from networks import Function, Values, tabulate
+from problems import Draws, Edge, Problem, Rule, Shape, distance, nearest
 
 SIZES = ("tiny", "small", "medium", "large")
-Item = TypeVar("Item")
-Edge = tuple[int, int]
-Site = tuple[int, ...]
-Shape = Mapping[str, int]
-
-
-class Draws:
-    """Numbers drawn from a seed. Of Python's generator only random() is used, which every version keeps as it is."""
-
-    def __init__(self, seed: str) -> None:
-        self._random = random.Random(seed).random
-
-    def below(self, bound: int) -> int:
-        return int(self._random() * bound)
-
-    def between(self, least: int, most: int) -> int:
-        return least + self.below(most - least + 1)
-
-    def pick(self, items: Sequence[Item]) -> Item:
-        return items[self.below(len(items))]
-
-    def subset(self, items: Sequence[Item], count: int) -> list[Item]:
-        """So many of the items, each at most once, in their order."""
-        places = list(range(len(items)))
-        for place in range(count):
-            other = self.between(place, len(places) - 1)
-            places[place], places[other] = places[other], places[place]
-        return [items[place] for place in sorted(places[:count])]
-
-    def edges(self, vertices: int, count: int) -> list[Edge]:
-        return self.subset(list(itertools.combinations(range(vertices), 2)), count)
-
-    def site(self, *bounds: int) -> Site:
-        return tuple(self.below(bound) for bound in bounds)
-
-    def signs(self, count: int) -> Values:
-        return tuple(self.below(2) for _ in range(count))
-
-
-def distance(site: Site, other: Site) -> int:
-    """The whole part of the distance in space, the same on every machine."""
-    return math.isqrt(sum((a - b) ** 2 for a, b in zip(site, other)))
-
-
-def nearest(sites: Sequence[Site], count: int) -> list[Edge]:
-    """So many pairs of sites, the nearest ones."""
-    pairs = itertools.combinations(range(len(sites)), 2)
-    return sorted(sorted(pairs, key=lambda pair: distance(sites[pair[0]], sites[pair[1]]))[:count])
-
-
-@dataclass(frozen=True)
-class Rule:
-    """Tuples of values of some variables that are forbidden."""
-
-    scope: Values
-    broken: Sequence[Values]
-
-
-class Problem(ABC):
-    """One instance of a kind. A class without further abstract parts is a kind, and its docstring describes it."""
-
-    name: ClassVar[str]
-    shapes: ClassVar[Mapping[str, Shape]]
-
-    @classmethod
-    @abstractmethod
-    def draw(cls, draws: Draws, shape: Shape) -> Self:
-        """The instance of a shape that these draws give."""
-
-    @abstractmethod
-    def sizes(self) -> list[int]:
-        """How many values each variable has."""
-
-    @abstractmethod
-    def functions(self) -> Iterator[Function]:
-        """What is paid, where no rule is broken."""
-
-    def rules(self) -> Iterator[Rule]:
-        """What must hold."""
-        return iter(())
-
-    @abstractmethod
-    def cost(self, values: Values) -> int | None:
-        """What an assignment costs by the problem's own words, or None where it breaks a rule."""
-
-    def network(self, name: str) -> Network:
-        """The problem as a network. Its upper bound is one more than all that may be paid; a broken rule costs it."""
-        functions = list(self.functions())
-        top = 1 + sum(function.greatest() for function in functions)
-        functions += (Function(rule.scope, 0, dict.fromkeys(rule.broken, top)) for rule in self.rules())
-        return Network(name, tuple(self.sizes()), functions, top)
 
 
 def instance(kind: type[Problem], size: str, seed: int) -> Problem:
@@ -220,6 +130,20 @@ class Warehouse(Problem):
             return None
         delivered = sum(costs[warehouse] for costs, warehouse in zip(self.delivery, chosen))
         return delivered + sum(cost for cost, value in zip(self.opening, is_open) if value)
+
+
+class Warehouse150(Warehouse):
+    """Warehouse location, large ones with 150 stores. The smaller sizes have the shapes of the kind above."""
+
+    name: ClassVar = "warehouse-150"
+    shapes: ClassVar = Warehouse.shapes | {"large": {"warehouses": 50, "stores": 150}}
+
+
+class Warehouse270(Warehouse):
+    """Warehouse location, large ones with 270 stores. The smaller sizes have the shapes of the kind above."""
+
+    name: ClassVar = "warehouse-270"
+    shapes: ClassVar = Warehouse.shapes | {"large": {"warehouses": 90, "stores": 270}}
 
 
 @dataclass(frozen=True)
@@ -610,5 +534,14 @@ KINDS: dict[str, type[Problem]] = {
         SideChains,
         Chain,
         Picture,
+        Warehouse150,
+        Warehouse270,
+        Photographs,
+        Pedigrees,
+        Magic,
+        JobShops,
+        Queens,
+        Rosters,
+        Threading,
     )
 }

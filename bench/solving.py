@@ -49,7 +49,7 @@ NEAR = "-nopre -e: -dee: -k=4 -A=1 -b -c: -q: -d: -solr: -V:".split()
 # Processor seconds beyond its limit in which toulbar2 may write what it has.
 GRACE = 5
 # Of the texts of all tiny and small instances of seed 1, in the order of KINDS.
-DIGEST = "1a193e37d70ff21c273a24e950e6262ec721c5c804ffb335a2afb18d944a3b01"
+DIGEST = "7117d58e5590cbadfbe09bebd97a2090b5f51191454be06bc509accab185df5f"
 
 
 # Running a command
