@@ -112,7 +112,7 @@ gathered_skip P history x places pairs n g none = record {
 }
 
 -- what is found at a place is the one pair there
-other_at : (P : Network) (history : List Event) (p : Place) (pair : Pair) (j : ℕ) → IsArmAt P history p pair → HasOpenPair P history p.function p.place j → j ≡ pair.other
+pub other_at : (P : Network) (history : List Event) (p : Place) (pair : Pair) (j : ℕ) → IsArmAt P history p pair → HasOpenPair P history p.function p.place j → j ≡ pair.other
 other_at P history p pair j is open_pair =
     let mine : HasOpenPair P history p.function p.place pair.other = subst (λ i. HasOpenPair P history p.function i pair.other) is.place (subst (λ f. HasOpenPair P history f pair.place pair.other) is.function is.both) in
     elim (which p.place pair.other) [

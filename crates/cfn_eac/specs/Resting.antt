@@ -1,11 +1,10 @@
--- A value that lacks no full support in a function of two variables.
-use Rattle.std.specs.Prelude.{◌≡◌, ℕ, ◌-◌, List, IsTrue}
+-- A value that lacks no full support in a function with regard to the other open variable, where there is one other.
+use Rattle.std.specs.Prelude.{ℕ, List}
 use Rattle.cfn_model.specs.declared.step.Event.{Event}
-use Rattle.cfn_model.specs.Network.{Network, arity, variable_at}
-use Rattle.cfn_consistency.specs.Openness.{is_open}
+use Rattle.cfn_model.specs.Network.{Network}
+use Rattle.cfn_consistency.specs.Openness.{HasOpenPair}
 use Rattle.cfn_consistency.specs.Consistency.{HasFullSupport}
 use Rattle.cfn_incidence.specs.declared.incidence.Place.{Place}
 
-pub record RestsOn (P : Network) (history : List Event) (p : Place) (a : ℕ) : Type 0 where
-  pub two : arity P p.function ≡ 2
-  pub full : IsTrue (is_open P history (variable_at P p.function (1 - p.place))) → HasFullSupport P history p.function p.place (1 - p.place) a
+abbrev pub RestsOn : Network → List Event → Place → ℕ → Type 0
+RestsOn P history p a = (j : ℕ) → HasOpenPair P history p.function p.place j → HasFullSupport P history p.function p.place j a

@@ -131,7 +131,7 @@ fn arm_at(store: &Store<'_>, place: Place, x: u32) -> Option<Pair>
 }
 
 /// The open pair of a place's function with that place first, where there is one, for any number of variables.
-fn wide_arm_at(store: &Store<'_>, place: Place) -> Option<Pair>
+pub(crate) fn wide_arm_at(store: &Store<'_>, place: Place) -> Option<Pair>
     requires { StandsAt store.now.network (variable_at store.now.network place.function place.place) place }
     ensures { MatchOption result (HasNoArm store.now.network (history store.now) place) (IsArmAt store.now.network (history store.now) place) }
 {

@@ -1,12 +1,12 @@
 //! A quick look whether a variable is existential: whether a value of it has unary cost 0 and a full support in each function
-//! of the variable and another open one, of which none has more than two variables.
+//! of the variable and one other open variable.
 //!
 //! Where the value that asked nothing last still does so, this is known without gathering the variable's arms; only the
 //! functions are looked at in which steps made since may have ended it, and of those in which the variable is the lower one
 //! only such as wait for directional arc consistency.
 
 ghost use Rattle.std.specs.Prelude.{◌≡◌, ◌-◌, ◌<◌, ◌≤◌, length, slice_index, true, IsTrue};
-ghost use Rattle.cfn_model.specs.Network.{arity};
+ghost use Rattle.cfn_model.specs.Network.{arity, variable_at};
 ghost use Rattle.cfn_model.specs.Steps.{IsPlace};
 ghost use Rattle.cfn_model.specs.Sums.{is_live};
 ghost use Rattle.cfn_consistency.specs.Openness.{HasOpenPair};
@@ -19,6 +19,7 @@ ghost use Rattle.cfn_due.specs.Dues.{HasSizes, Holds};
 ghost use Rattle.cfn_rest.specs.Resting.{AreSure};
 ghost use Rattle.cfn_eac.specs.Resting.{RestsOn};
 
+use crate::arms::wide_arm_at;
 use cfn_dac::{Pair, least_total};
 use cfn_due::Due;
 use cfn_incidence::{Incidence, Place};
@@ -26,7 +27,7 @@ use cfn_rest::Rests;
 use cfn_store::Store;
 
 /// Whether the value that may rest is live, has the unary cost 0, and, where its variable is open, has a full support in each
-/// function of the variable and another open one, all of which have two: then the variable is existential.
+/// function of the variable and one other open variable: then the variable is existential.
 pub(crate) fn is_at_rest(
     rests: &mut Rests,
     due: &Due,
@@ -59,8 +60,8 @@ pub(crate) fn is_at_rest(
     true
 }
 
-/// Whether a place's function has two variables, and the live value of the open variable `x` at the place has a full support in
-/// it if the other variable is open. What is seen is remembered.
+/// Whether the live value of the open variable `x` at a place has a full support in the place's function with regard to the other
+/// open variable, where there is one other. What is seen of a function of two variables is remembered.
 fn rests_on(
     rests: &mut Rests,
     due: &Due,
@@ -82,14 +83,31 @@ fn rests_on(
     ensures values { rests.new.values ≡ rests.old.values }
 {
     store.network().limits();
+    if place.other == x {
+        return rests_on_wide(store, place, value);
+    }
     if store.count(place.other) < 2 || rests.is_sure(place) {
         return true;
     }
-    if place.other == x || !has_full_support(due, store, place, x, value) {
+    if !has_full_support(due, store, place, x, value) {
         return false;
     }
     rests.rely(place);
     true
+}
+
+/// The same of a function of one variable, or of three or more, which is looked at each time: it asks nothing where it has no
+/// other open variable, or more than one.
+fn rests_on_wide(store: &Store<'_>, place: Place, value: u32) -> bool
+    requires stands { StandsAt store.now.network (variable_at store.now.network place.function place.place) place }
+    requires place { IsPlace store.now.network place.function place.place value }
+    requires live { IsTrue (is_live (history store.now) (variable_at store.now.network place.function place.place) value) }
+    ensures { result ≡ true → RestsOn store.now.network (history store.now) place value }
+{
+    match wide_arm_at(store, place) {
+        Some(pair) => has_full_support_at(store, place, pair.other, value),
+        None => true,
+    }
 }
 
 /// Whether a live value of `x` is seen to have a full support with regard to the other variable: each value of the lower one has
@@ -108,10 +126,21 @@ fn has_full_support(due: &Due, store: &Store<'_>, place: Place, x: u32, value: u
     if x < place.other && due.is_directed(place.function) {
         return true;
     }
+    has_full_support_at(store, place, 1 - place.place, value)
+}
+
+/// Whether a live value at a place has a full support with regard to the other open place.
+fn has_full_support_at(store: &Store<'_>, place: Place, other: u32, value: u32) -> bool
+    requires open { HasOpenPair store.now.network (history store.now) place.function place.place other }
+    requires place { IsPlace store.now.network place.function place.place value }
+    requires live { IsTrue (is_live (history store.now) (variable_at store.now.network place.function place.place) value) }
+    ensures { result ≡ true → HasFullSupport store.now.network (history store.now) place.function place.place other value }
+{
+    store.network().limits();
     let pair = Pair {
         function: place.function,
         place: place.place,
-        other: 1 - place.place,
+        other,
     };
     least_total(store, pair, value) == 0
 }

@@ -22,13 +22,7 @@ all_supports : (P : Network) (h : List Event) (x a : ℕ) (places : List Place) 
 all_supports P h x a places n are whole rests f i j pair at =
     let there = place_found P x f i places are pair.one.0 at in
     let l = there.1 in
-    let rest = subst (λ p. RestsOn P h p a) there.2 (rests there.0 (omega (arith, l, whole))) in
-    let two = rest.two in
-    let one = pair.one.0 in
-    let other = pair.other.0 in
-    let apart = pair.different in
-    let e : 1 - i ≡ j = omega (arith, two, one, other, apart) in
-    subst (λ k. HasFullSupport P h f i k a) e (rest.full (subst (λ k. IsTrue (is_open P h (variable_at P f k))) (sym e) pair.other.1))
+    subst (λ p. RestsOn P h p a) there.2 (rests there.0 (omega (arith, l, whole))) j pair
 
 pub loop-place-preserved : goal.loop-place-preserved
 loop-place-preserved c = record {

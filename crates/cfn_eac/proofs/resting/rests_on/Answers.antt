@@ -1,7 +1,9 @@
-use Rattle.std.proofs.Common.{◌≡◌, ℕ, ◌-◌, ◌<◌, ◌≤◌, true≢false, sym, ap, ◌∙◌, subst, arith}
-use Rattle.std.specs.Prelude.{slice_index}
-use Rattle.cfn_model.specs.Network.{arity}
+use Rattle.std.proofs.Common.{◌≡◌, ℕ, ◌-◌, ◌<◌, ◌≤◌, List, true≢false, sym, ap, ◌∙◌, subst, arith}
+use Rattle.std.specs.Prelude.{slice_index, IsTrue}
+use Rattle.cfn_model.specs.declared.step.Event.{Event}
+use Rattle.cfn_model.specs.Network.{Network, arity, variable_at}
 use Rattle.cfn_live.specs.Sets.{live_count}
+use Rattle.cfn_consistency.specs.Openness.{HasOpenPair, is_open}
 use Rattle.cfn_consistency.specs.Consistency.{HasFullSupport}
 use Rattle.cfn_store.specs.Rooms.{sets_of}
 use Rattle.cfn_store.specs.Standing.{Standing, history}
@@ -13,12 +15,18 @@ use Rattle.cfn_eac.proofs.Beside.{both_open, other_closed}
 use Rattle.cfn_eac.proofs.resting.rests_on.Goals.{then-count-lt2-via-then-count-lt2, then-count-lt2-via-else-count-lt2+then-is_sure}
 use Rattle.cfn_eac.proofs.resting.rests_on.Goals as goal
 
+-- of two variables the other one is the only one to ask
+of_two : (P : Network) (h : List Event) (p : Place) (a : ℕ) → arity P p.function ≡ 2 → (IsTrue (is_open P h (variable_at P p.function (1 - p.place))) → HasFullSupport P h p.function p.place (1 - p.place) a) → RestsOn P h p a
+of_two P h p a two full = λ j pair.
+    (let one = pair.one.0 in
+    let other = pair.other.0 in
+    let apart = pair.different in
+    let e : 1 - p.place ≡ j = omega (arith, two, one, other, apart) in
+    subst (λ k. HasFullSupport P h p.function p.place k a) e (full (subst (λ k. IsTrue (is_open P h (variable_at P p.function k))) (sym e) pair.other.1)))
+
 -- the other variable is not open, as that at the place is: so there is one, and nothing is asked
 closed_rests : (s : Standing) (x a count : ℕ) (p : Place) → StandsAt s.network x p → 2 ≤ live_count (sets_of s) x → count ≡ live_count (sets_of s) p.other → count < 2 → RestsOn s.network (history s) p a
-closed_rests s x a count p at many is few = record {
-  two = two;
-  full = λ now. absurd (true≢false (sym now ∙ other_closed s x count p at two is few));
-}
+closed_rests s x a count p at many is few = of_two s.network (history s) p a two (λ now. absurd (true≢false (sym now ∙ other_closed s x count p at two is few)))
   where
     two : arity s.network p.function ≡ 2
     two = two_there s.network x p at (λ e. (let same = ap (live_count (sets_of s)) e in omega (arith, same, is, few, many)))
@@ -31,7 +39,7 @@ returns-then-count-lt2-clause-rests c = λ yes.
       | then-count-lt2-via-else-count-lt2+then-is_sure w ↦ (let sure = w.is_sure.ensures w.if-is_sure.true in
           let was = c.requires.sure.rests p.function p.place sure.0 sure.1 in
           let is = c.requires.value ∙ sym (ap (slice_index c.args.rests.now.values) c.requires.stands.is) in
-          record { two = was.two; full = λ now. subst (HasFullSupport s.network (history s) p.function p.place (1 - p.place)) (sym is) was.full })
+          of_two s.network (history s) p c.args.value was.two (λ now. subst (HasFullSupport s.network (history s) p.function p.place (1 - p.place)) (sym is) was.full))
     ])
 
 pub has_full_support-requires-clause-open : goal.has_full_support-requires-clause-open
@@ -40,10 +48,9 @@ has_full_support-requires-clause-open c =
     both_open c.args.store.now c.args.x c.count.result c.args.place c.requires.stands c.if-place-x.false c.requires.open c.count.ensures (omega (arith, many))
 
 pub returns-clause-rests : goal.returns-clause-rests
-returns-clause-rests c = λ yes. record {
-  two = two_there c.args.store.now.network c.args.x c.args.place c.requires.stands c.if-place-x.false;
-  full = λ is. c.has_full_support.ensures c.if-not-has_full_support.false;
-}
+returns-clause-rests c = λ yes.
+    of_two c.args.store.now.network (history c.args.store.now) c.args.place c.args.value (two_there c.args.store.now.network c.args.x c.args.place c.requires.stands c.if-place-x.false)
+    (λ is. c.has_full_support.ensures c.if-not-has_full_support.false)
 
 pub returns-clause-sure : goal.returns-clause-sure
 returns-clause-sure c =
