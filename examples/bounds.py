@@ -9,6 +9,7 @@ import sys
 
 WIDTH, HEIGHT = 640, 320
 LEFT, RIGHT, TOP, BOTTOM = 84, 20, 44, 48
+UPPER, LOWER = "#c0392b", "#2060a0"
 STYLE = "font-family='sans-serif' font-size='12'"
 
 
@@ -83,13 +84,18 @@ class Picture:
         yield f"<text x='{(left + WIDTH - RIGHT) / 2}' y='{HEIGHT - 10}' text-anchor='middle' {STYLE}>row of the report</text>"
         yield f"<text x='16' y='{TOP - 12}' {STYLE}>cost</text>"
 
+    def names(self):
+        for x, name, colour in ((WIDTH - RIGHT - 100, "upper bound", UPPER), (WIDTH - RIGHT, "lower bound", LOWER)):
+            yield f"<text x='{x}' y='{TOP - 12}' text-anchor='end' fill='{colour}' {STYLE}>{name}</text>"
+
     def text(self):
         yield f"<svg xmlns='http://www.w3.org/2000/svg' width='{WIDTH}' height='{HEIGHT}' viewBox='0 0 {WIDTH} {HEIGHT}'>"
         yield f"<rect width='{WIDTH}' height='{HEIGHT}' fill='white'/>"
         yield f"<text x='{WIDTH / 2}' y='20' text-anchor='middle' font-family='sans-serif' font-size='14'>{self.title()}</text>"
         yield from self.axes()
-        yield self.line(1, "#c0392b")
-        yield self.line(0, "#2060a0")
+        yield from self.names()
+        yield self.line(1, UPPER)
+        yield self.line(0, LOWER)
         yield "</svg>"
 
 
