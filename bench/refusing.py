@@ -1,13 +1,15 @@
 #!/usr/bin/env python3
-"""What the program answers where memory is refused: each of its allocations in turn, on one run of each command, and on
-`solve` by several workers.
+"""What the program answers where memory is refused: each of its allocations in turn, on one run of each command, on `check` of
+a certificate with 100,000 nested splits, and on `solve` by several workers.
 
 A library that cc compiles from refusing.c stands between the program and the C library, and refuses one allocation.
 It prints the statuses by ranges of allocations, and whether a run that ends with 0 says what the whole run says; for several
 workers, whose allocations come in another order each time, how often each status came, and whether each certificate that a
-report stands for was judged good. Twice as many allocations are refused there as the whole run asked for.
+report stands for was judged good. Twice as many allocations are refused there as the whole run asked for. It ends with 1 where a
+status is none of 0 and 6.
 """
 
+import argparse
 import collections
 import os
 import subprocess
@@ -16,8 +18,8 @@ import tempfile
 
 BENCH = os.path.dirname(os.path.abspath(__file__))
 TOP = os.path.dirname(BENCH)
-PROGRAM = os.path.join(TOP, "crates", "wcspsolve", "out", "wcspsolve")
 NETWORK = os.path.join(TOP, "examples", "tiny.wcsp")
+SPLITS = 100_000
 
 
 def asked(count):
@@ -26,62 +28,101 @@ def asked(count):
         return int.from_bytes(file.read(), sys.byteorder)
 
 
-def run(library, words, refused, count):
-    environment = {"LD_PRELOAD": library, "REFUSE": str(refused), "REFUSE_COUNT": count}
-    done = subprocess.run([PROGRAM, *words], env=environment, stdout=subprocess.PIPE, check=False, timeout=60)
-    return done.returncode, done.stdout
+def write_deep(path):
+    """A good certificate of the network in which each split stands in the first child of the one before."""
+    with open(path, "w", encoding="ascii") as file:
+        file.write("wcspcert 2\nnetwork 1 1 10\nlower 0\nbest none\ntree\n")
+        file.write("split 0 1\n" * SPLITS + "open\n" * (SPLITS + 1) + "end\n")
 
 
-def answers(library, words, count):
-    """The status of the whole run, the number of its allocations, and the answer where each of them is refused."""
-    status, said = run(library, words, 0, count)
-    allocations = asked(count)
-    each = []
-    for refused in range(1, allocations + 1):
-        other, text = run(library, words, refused, count)
-        each.append((other, "as the whole run" if text == said else text.decode().split("\n")[-2:-1]))
-    return status, allocations, each
+class Runs:
+    """Runs of a program of which an allocation is refused."""
+
+    def __init__(self, program, scratch):
+        self.program, self.scratch = program, scratch
+        self.library, self.count = self.file("refusing.so"), self.file("count")
+        source = os.path.join(BENCH, "refusing.c")
+        subprocess.run(["cc", "-O1", "-shared", "-fPIC", source, "-o", self.library, "-ldl"], check=True)
+
+    def file(self, name):
+        return os.path.join(self.scratch, name)
+
+    def run(self, words, refused):
+        environment = {"LD_PRELOAD": self.library, "REFUSE": str(refused), "REFUSE_COUNT": self.count}
+        done = subprocess.run([self.program, *words], env=environment, stdout=subprocess.PIPE, check=False, timeout=60)
+        return done.returncode, done.stdout
+
+    def answers(self, words):
+        """The status of the whole run, the number of its allocations, and the answer where each of them is refused."""
+        status, said = self.run(words, 0)
+        allocations = asked(self.count)
+        each = []
+        for refused in range(1, allocations + 1):
+            other, text = self.run(words, refused)
+            each.append((other, "as the whole run" if text == said else text.decode().split("\n")[-2:-1]))
+        return status, allocations, each
+
+    def together(self, network, certificate, workers):
+        """How often each status and last line came where one allocation was refused, and whether the certificate was good."""
+        words = ["solve", network, certificate, "--workers", str(workers)]
+        self.run(words, 0)
+        tally = collections.Counter()
+        for refused in range(1, 2 * asked(self.count) + 1):
+            if os.path.exists(certificate):
+                os.remove(certificate)
+            status, said = self.run(words, refused)
+            last = said.decode().split("\n")[-2] if said else "nothing"
+            if last.startswith("result"):
+                judged = subprocess.run([self.program, "check", network, certificate], stdout=subprocess.PIPE, check=False)
+                last += ", " + judged.stdout.decode().split(" ")[0]
+            tally[status, last] += 1
+        return tally
 
 
-def together(library, network, certificate, workers, count):
-    """How often each status and last line came where one allocation was refused, and whether the certificate was good."""
-    words = ["solve", network, certificate, "--workers", str(workers)]
-    run(library, words, 0, count)
-    tally = collections.Counter()
-    for refused in range(1, 2 * asked(count) + 1):
-        if os.path.exists(certificate):
-            os.remove(certificate)
-        status, said = run(library, words, refused, count)
-        last = said.decode().split("\n")[-2] if said else "nothing"
-        if last.startswith("result"):
-            judged = subprocess.run([PROGRAM, "check", network, certificate], stdout=subprocess.PIPE, check=False)
-            last += ", " + judged.stdout.decode().split(" ")[0]
-        tally[status, last] += 1
-    return tally
+def tell(name, status, allocations, each):
+    """Prints the answers of one command by ranges, and answers whether each status is right."""
+    print(f"{name}: status {status}, {allocations} allocations")
+    first = 0
+    for place in range(1, allocations + 1):
+        if place == allocations or each[place] != each[first]:
+            print(f"  {first + 1} to {place} refused: status {each[first][0]}, last line {each[first][1]}")
+            first = place
+    return all(other in (0, 6) for other, _ in each)
+
+
+def measured(program):
+    with tempfile.TemporaryDirectory() as scratch:
+        runs = Runs(program, scratch)
+        certificate, deep, written = runs.file("certificate"), runs.file("deep"), runs.file("written")
+        subprocess.run([program, "solve", NETWORK, certificate], stdout=subprocess.DEVNULL, check=False)
+        write_deep(deep)
+        commands = {
+            "solve": ["solve", NETWORK, written],
+            "check": ["check", NETWORK, certificate],
+            "check of nested splits": ["check", NETWORK, deep],
+            "cost": ["cost", NETWORK, "1"],
+            "normal": ["normal", NETWORK],
+            "trial": ["trial", "7", "3"],
+            "migrate": ["migrate", NETWORK, certificate, written],
+        }
+        right = [tell(name, *runs.answers(words)) for name, words in commands.items()]
+        for workers in (2, 4):
+            tally = runs.together(os.path.join(TOP, "examples", "tri.wcsp"), written, workers)
+            for (status, last), times in sorted(tally.items()):
+                print(f"solve by {workers} workers: status {status}, last line {last}: {times} times")
+            right.append(all(status in (0, 6) for status, _ in tally))
+    return all(right)
 
 
 def main():
-    subprocess.run([os.path.join(TOP, "wcspsolve")], stdout=subprocess.DEVNULL, check=False)
-    with tempfile.TemporaryDirectory() as scratch:
-        library = os.path.join(scratch, "refusing.so")
-        source = os.path.join(BENCH, "refusing.c")
-        subprocess.run(["cc", "-O1", "-shared", "-fPIC", source, "-o", library, "-ldl"], check=True)
-        certificate, count = os.path.join(scratch, "certificate"), os.path.join(scratch, "count")
-        subprocess.run([PROGRAM, "solve", NETWORK, certificate], stdout=subprocess.DEVNULL, check=False)
-        written = os.path.join(scratch, "written")
-        for words in (["solve", NETWORK, written], ["check", NETWORK, certificate], ["cost", NETWORK, "1"]):
-            status, allocations, each = answers(library, words, count)
-            print(f"{words[0]}: status {status}, {allocations} allocations")
-            first = 0
-            for place in range(1, allocations + 1):
-                if place == allocations or each[place] != each[first]:
-                    print(f"  {first + 1} to {place} refused: status {each[first][0]}, last line {each[first][1]}")
-                    first = place
-        for workers in (2, 4):
-            tally = together(library, os.path.join(TOP, "examples", "tri.wcsp"), written, workers, count)
-            for (status, last), times in sorted(tally.items()):
-                print(f"solve by {workers} workers: status {status}, last line {last}: {times} times")
+    parser = argparse.ArgumentParser(description="Refuses each allocation of the program in turn.")
+    parser.add_argument("--wcspsolve", metavar="PATH", help="the program (built by the script at the top)")
+    program = parser.parse_args().wcspsolve
+    if program is None:
+        subprocess.run([os.path.join(TOP, "wcspsolve")], stdout=subprocess.DEVNULL, check=False)
+        program = os.path.join(TOP, "crates", "wcspsolve", "out", "wcspsolve")
+    return 0 if measured(os.path.abspath(program)) else 1
 
 
 if __name__ == "__main__":
-    main()
+    sys.exit(main())
