@@ -36,14 +36,15 @@ const EARLIER: &[u8] = b"earlier";
 type Device = (&'static [&'static str], u64, u64);
 
 const DEVICES: [Device; 7] = [
-    // the load, the opening, 32 puts, the closing, and the lines of the report
-    (&SOLVE, 1, 44),
+    // the load, the opening, 32 puts, the closing, and the eleven lines of the report
+    (&SOLVE, 1, 46),
     (&["wcspsolve", "check", "in", "cert"], 2, 3),
-    (&["wcspsolve", "cost", "in", "1"], 1, 3),
-    (&["wcspsolve", "normal", "in"], 1, 6),
+    (&["wcspsolve", "cost", "in", "1"], 1, 2),
+    (&["wcspsolve", "normal", "in"], 1, 2),
+    // three lines
     (&["wcspsolve", "trial", "7", "2"], 0, 3),
-    // two loads, the opening, the puts, the closing, and the line
-    (&["wcspsolve", "migrate", "in", "cert", "out"], 2, 7),
+    // two loads, the opening, three puts, the closing, and the line
+    (&["wcspsolve", "migrate", "in", "cert", "out"], 2, 8),
     (&["wcspsolve"], 0, 1),
 ];
 
@@ -105,10 +106,8 @@ fn faults_of<R: AllocGlobal + Threads + Wait + Sync>(
 #[test]
 fn each_failing_call_is_a_fault(rt: HostRuntime) -> Result<(), Fail> {
     for (place, (words, loads, calls)) in DEVICES.iter().enumerate() {
-        assert!(rt;
-            faults_of(&rt, words, *loads)? == Some(*calls),
-            "command {place}"
-        );
+        let found = faults_of(&rt, words, *loads)?.unwrap_or(0);
+        assert!(rt; found == *calls, "command {place}: {found} calls");
     }
     Ok(())
 }
