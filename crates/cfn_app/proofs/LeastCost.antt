@@ -1,8 +1,8 @@
 -- The least cost of a network that a search is done with.
-use Rattle.std.proofs.Common.{◌≡◌, ℕ, zero, suc, ◌<◌, List, [], ◌∷◌, length, map, refl, sym, ap, ◌∙◌, subst, arith}
+use Rattle.std.proofs.Common.{◌≡◌, ℕ, suc, ◌<◌, List, [], ◌∷◌, length, refl, sym, subst, arith}
 use Rattle.std.specs.Prelude.{Option, Some, None, IsSomeAnd, slice_index}
 use Rattle.cfn_model.specs.declared.report.Row.{Row}
-use Rattle.cfn_model.specs.Network.{Network, IsNetwork, Fits, Least, cost}
+use Rattle.cfn_model.specs.Network.{Network, Fits, Least, cost}
 use Rattle.cfn_model.specs.Certificate.{Solution, Certificate}
 use Rattle.cfn_app.specs.Headline.{Promise}
 use Rattle.cfn_app.specs.Runs.Solving.{word_when_done}

@@ -1,5 +1,5 @@
 -- Two files that were loaded, and a run that ends where they were not.
-use Rattle.std.proofs.Common.{◌≡◌, ◌⊎◌, inl, inr, ℕ, suc, ◌<◌, List, ◌∷◌, refl, sym, ap, ◌∙◌, subst, arith}
+use Rattle.std.proofs.Common.{◌≡◌, ◌⊎◌, inl, inr, ℕ, List, ◌∷◌, refl, sym, ap, ◌∙◌, subst}
 use Rattle.std.specs.Prelude.{Result, Ok, Err, IfErr, IsErrAnd}
 use Rattle.cfn_wcnf.specs.declared.fault.Unread.{Unread as FirstUnread}
 use Rattle.cfn_model.specs.Network.{Network}

@@ -11,7 +11,7 @@ use Rattle.cfn_desk.specs.Outside.{Outside, Call, IsIdle, written}
 use Rattle.cfn_cli.specs.Request.Checking.{CheckRequest}
 use Rattle.cfn_app.specs.declared.status.Status.{Status}
 use Rattle.cfn_app.specs.declared.status.Status.TheVariants.{Done, Refused, Disproved}
-use Rattle.cfn_app.specs.Endings.{Ending, Ends, IsHindered}
+use Rattle.cfn_app.specs.Endings.{Ends, IsHindered}
 use Rattle.cfn_app.specs.Loading.{ReadsAs, RefusesAs, Paired, Tells}
 use Rattle.cfn_app.specs.Runs.Checking.{Checks, Judges}
 use Rattle.cfn_app.specs.Runs.Checking as checking

@@ -1,12 +1,12 @@
 -- What each status of `cost` says, from how a run of it ends.
-use Rattle.std.proofs.Common.{◌≡◌, ◌⊎◌, inl, inr, ℕ, suc, ◌<◌, List, refl, sym, subst, arith}
+use Rattle.std.proofs.Common.{◌≡◌, ◌⊎◌, inl, inr, ℕ, List, refl, sym, subst}
 use Rattle.cfn_wcnf.specs.declared.fault.Unread.{Unread as FirstUnread}
 use Rattle.cfn_model.specs.Network.{Network, Fits}
-use Rattle.cfn_desk.specs.Outside.{Outside, Call, HasFile, IsIdle, faults}
+use Rattle.cfn_desk.specs.Outside.{Outside, Call, HasFile, IsIdle}
 use Rattle.cfn_cli.specs.Request.Costing.{CostRequest}
 use Rattle.cfn_app.specs.declared.status.Status.{Status}
 use Rattle.cfn_app.specs.declared.status.Status.TheVariants.{Done, Refused}
-use Rattle.cfn_app.specs.Endings.{Ending, Ends, IsHindered}
+use Rattle.cfn_app.specs.Endings.{Ends, IsHindered}
 use Rattle.cfn_app.specs.Loading.{ReadsAs, RefusesAs, Tells, loaded}
 use Rattle.cfn_app.specs.Loading as loading
 use Rattle.cfn_app.specs.Runs.Costing.{Costs, Prices}

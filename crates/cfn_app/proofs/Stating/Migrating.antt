@@ -14,7 +14,7 @@ use Rattle.cfn_cli.specs.Request.Migrating.{MigrateRequest}
 use Rattle.cfn_cli.specs.declared.format.Format.TheVariants.{Wcsp}
 use Rattle.cfn_app.specs.declared.status.Status.{Status}
 use Rattle.cfn_app.specs.declared.status.Status.TheVariants.{Done, Refused, Disproved}
-use Rattle.cfn_app.specs.Endings.{Ending, Ends, IsHindered}
+use Rattle.cfn_app.specs.Endings.{Ends, IsHindered}
 use Rattle.cfn_app.specs.Loading.{ReadsAs, RefusesAs, Paired, Tells}
 use Rattle.cfn_app.specs.Runs.Checking.{Verifies}
 use Rattle.cfn_app.specs.Runs.Solving as solving

@@ -1,12 +1,12 @@
 -- What each status of `normal` says, from how a run of it ends.
-use Rattle.std.proofs.Common.{◌≡◌, ◌⊎◌, inl, inr, ℕ, suc, ◌<◌, List, refl, sym, arith}
+use Rattle.std.proofs.Common.{◌≡◌, ◌⊎◌, inl, inr, ℕ, List, refl, sym}
 use Rattle.cfn_wcnf.specs.declared.fault.Unread.{Unread as FirstUnread}
 use Rattle.cfn_model.specs.Network.{Network}
-use Rattle.cfn_desk.specs.Outside.{Outside, Call, IsIdle, faults}
+use Rattle.cfn_desk.specs.Outside.{Outside, IsIdle}
 use Rattle.cfn_cli.specs.Request.Normalizing.{NormalRequest}
 use Rattle.cfn_app.specs.declared.status.Status.{Status}
 use Rattle.cfn_app.specs.declared.status.Status.TheVariants.{Done, Refused}
-use Rattle.cfn_app.specs.Endings.{Ending, Ends, IsHindered}
+use Rattle.cfn_app.specs.Endings.{Ends, IsHindered}
 use Rattle.cfn_app.specs.Loading.{ReadsAs, RefusesAs, Tells, loaded}
 use Rattle.cfn_app.specs.Loading as loading
 use Rattle.cfn_app.specs.Runs.Normalizing.{Normalizes}

@@ -4,7 +4,7 @@ use Rattle.cfn_desk.specs.Outside.{Outside, IsIdle}
 use Rattle.cfn_cli.specs.Request.Trying.{TrialRequest}
 use Rattle.cfn_app.specs.declared.status.Status.{Status}
 use Rattle.cfn_app.specs.declared.status.Status.TheVariants.{Done}
-use Rattle.cfn_app.specs.Endings.{IsHindered}
+use Rattle.cfn_app.specs.Endings.{Ends, IsHindered}
 use Rattle.cfn_app.specs.Runs.Trying.{Tries}
 use Rattle.cfn_app.specs.Runs.Trying as trying
 use Rattle.cfn_app.specs.Saying.{Counts}

@@ -1,4 +1,4 @@
-use Rattle.std.proofs.Common.{◌∙◌, sym, subst}
+use Rattle.std.proofs.Common.{subst}
 use Rattle.cfn_proof.specs.Certificates.{certificate_of}
 use Rattle.cfn_proof.specs.Outcome.{IsSearched}
 use Rattle.cfn_proof.specs.declared.outcome.Stop.TheVariants.{Done}

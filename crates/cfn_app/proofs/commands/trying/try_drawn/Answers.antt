@@ -1,4 +1,3 @@
-use Rattle.std.proofs.Common.{◌∙◌}
 use Rattle.cfn_cli.specs.Request.Trying.{spoken_trial}
 use Rattle.cfn_app.proofs.Ends.{tried}
 use Rattle.cfn_app.proofs.commands.trying.try_drawn.Goals as goal
