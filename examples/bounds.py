@@ -1,26 +1,47 @@
 """Draws the bounds of a run as a picture.
 
+    ./wcspsolve solve FILE CERT --progress 2> >(python3 examples/bounds.py > bounds.svg)
     ./wcspsolve solve FILE CERT | tee report | python3 examples/bounds.py > bounds.svg
 
-reads a report from standard input, or from a file that is named, and writes an SVG: the lower and the upper bound as steps, row
-by row. A row is noted where one of the bounds changed, so the axis below counts rows and not seconds.
+reads lines of progress, or a report, from standard input or from a file that is named, and writes an SVG: the lower and the
+upper bound as steps. Lines of progress are drawn over seconds, with the nodes as a second axis. The rows of a report are drawn
+in their order: a row is noted where a bound changed, so that axis counts rows and not seconds.
 """
 import sys
 
 WIDTH, HEIGHT = 640, 320
-LEFT, RIGHT, TOP, BOTTOM = 84, 20, 44, 48
-UPPER, LOWER = "#c0392b", "#2060a0"
+LEFT, RIGHT, TOP, BOTTOM = 84, 84, 44, 48
+UPPER, LOWER, NODES = "#c0392b", "#2060a0", "#999999"
 STYLE = "font-family='sans-serif' font-size='12'"
 
 
-def read_rows(lines):
-    """The rows of a report: a lower bound, and an upper one or None."""
-    rows = []
+class Point:
+    """Bounds at a moment: where it stands on the axis below, the lower bound, the upper one or None, nodes or None."""
+
+    def __init__(self, x, lower, upper, nodes=None):
+        self.x, self.lower, self.nodes = float(x), int(lower), nodes if nodes is None else int(nodes)
+        self.upper = None if upper == "none" else int(upper)
+
+
+def progress_of(words):
+    """The point of a line of progress, `progress SECONDS lower L upper U nodes N open M`, or None."""
+    if len(words) == 10 and words[0] == "progress" and words[2::2] == ["lower", "upper", "nodes", "open"]:
+        return Point(words[1], words[3], words[5], words[7])
+    return None
+
+
+def read_points(lines):
+    """The points that are told, and whether they are rows of a report."""
+    told, rows = [], []
     for line in lines:
-        words = line.split()
-        if len(words) == 3 and words[0] == "row":
-            rows.append((int(words[1]), None if words[2] == "none" else int(words[2])))
-    return rows
+        for part in line.replace("\x1b[K", "").split("\r"):
+            words = part.split()
+            point = progress_of(words)
+            if point is not None:
+                told.append(point)
+            elif len(words) == 3 and words[0] == "row":
+                rows.append(Point(len(rows), words[1], words[2]))
+    return (told, False) if told else (rows, True)
 
 
 def steps_of(points):
@@ -46,56 +67,87 @@ def ticks_of(least, most):
 
 
 class Picture:
-    """A picture whose points are rows and costs."""
+    """A picture of bounds, over rows or over seconds."""
 
-    def __init__(self, rows):
-        costs = [cost for row in rows for cost in row if cost is not None]
-        self.rows, self.least, self.most = rows, min(costs), max(max(costs), min(costs) + 1)
+    def __init__(self, points, are_rows):
+        costs = [cost for point in points for cost in (point.lower, point.upper) if cost is not None]
+        self.points, self.are_rows = points, are_rows
+        self.least, self.most = min(costs), max(max(costs), min(costs) + 1)
+        self.end = len(points) if are_rows else max(points[-1].x, 0.1)
+        self.nodes = 0 if are_rows else max(point.nodes for point in points)
 
-    def place(self, x, y):
-        """Where a row and a cost stand, in pixels."""
-        across = (WIDTH - LEFT - RIGHT) * x / max(len(self.rows), 1)
-        up = (HEIGHT - TOP - BOTTOM) * (y - self.least) / (self.most - self.least)
+    def place(self, x, y, least=None, most=None):
+        """Where a place on the axis below and a cost, or a number from `least` to `most`, stand in pixels."""
+        least, most = self.least if least is None else least, self.most if most is None else most
+        across = (WIDTH - LEFT - RIGHT) * x / self.end
+        up = (HEIGHT - TOP - BOTTOM) * (y - least) / (most - least)
         return LEFT + across, HEIGHT - BOTTOM - up
 
-    def line(self, side, colour):
-        points = [(x, row[side]) for x, row in enumerate(self.rows)]
-        points.append((len(self.rows), self.rows[-1][side]))
-        text = " ".join("%.1f,%.1f" % self.place(x, y) for x, y in steps_of(points))
-        return f"<polyline points='{text}' fill='none' stroke='{colour}' stroke-width='2'/>" if text else ""
+    def polyline(self, places, colour, width):
+        text = " ".join("%.1f,%.1f" % place for place in places)
+        return f"<polyline points='{text}' fill='none' stroke='{colour}' stroke-width='{width}'/>" if text else ""
+
+    def bound_line(self, bound_of, colour):
+        corners = [(point.x, bound_of(point)) for point in self.points]
+        corners.append((self.end, bound_of(self.points[-1])))
+        return self.polyline([self.place(x, y) for x, y in steps_of(corners)], colour, 2)
+
+    def node_line(self):
+        if self.nodes == 0:
+            return ""
+        places = [self.place(point.x, point.nodes, 0, self.nodes) for point in self.points]
+        return self.polyline(places, NODES, 1)
 
     def title(self):
-        lower, upper = self.rows[-1]
-        if upper is None:
-            return f"lower bound {lower}, no assignment yet"
-        return f"lower bound {lower}, upper bound {upper}, gap {upper - lower}"
+        last = self.points[-1]
+        if last.upper is None:
+            return f"lower bound {last.lower}, no assignment yet"
+        return f"lower bound {last.lower}, upper bound {last.upper}, gap {last.upper - last.lower}"
 
-    def axes(self):
-        left, bottom = LEFT, HEIGHT - BOTTOM
-        yield f"<path d='M{left} {TOP}V{bottom}H{WIDTH - RIGHT}' fill='none' stroke='black'/>"
+    def cost_axis(self):
+        yield f"<path d='M{LEFT} {TOP}V{HEIGHT - BOTTOM}H{WIDTH - RIGHT}' fill='none' stroke='black'/>"
         for cost in ticks_of(self.least, self.most):
             _, y = self.place(0, cost)
-            yield f"<path d='M{left - 4} {y:.1f}H{left}' stroke='black'/>"
-            yield f"<text x='{left - 8}' y='{y + 4:.1f}' text-anchor='end' {STYLE}>{cost}</text>"
-        for row in ticks_of(0, len(self.rows)):
-            x, _ = self.place(row, self.least)
-            yield f"<path d='M{x:.1f} {bottom}V{bottom + 4}' stroke='black'/>"
-            yield f"<text x='{x:.1f}' y='{bottom + 18}' text-anchor='middle' {STYLE}>{row}</text>"
-        yield f"<text x='{(left + WIDTH - RIGHT) / 2}' y='{HEIGHT - 10}' text-anchor='middle' {STYLE}>row of the report</text>"
+            yield f"<path d='M{LEFT - 4} {y:.1f}H{LEFT}' stroke='black'/>"
+            yield f"<text x='{LEFT - 8}' y='{y + 4:.1f}' text-anchor='end' {STYLE}>{cost}</text>"
         yield f"<text x='16' y='{TOP - 12}' {STYLE}>cost</text>"
 
+    def axis_below(self):
+        bottom = HEIGHT - BOTTOM
+        scale = 1 if self.end >= 4 else 10
+        for tick in ticks_of(0, int(self.end * scale)):
+            x, _ = self.place(tick / scale, self.least)
+            yield f"<path d='M{x:.1f} {bottom}V{bottom + 4}' stroke='black'/>"
+            yield f"<text x='{x:.1f}' y='{bottom + 18}' text-anchor='middle' {STYLE}>{tick / scale:g}</text>"
+        name = "row of the report" if self.are_rows else "seconds"
+        yield f"<text x='{(LEFT + WIDTH - RIGHT) / 2}' y='{HEIGHT - 10}' text-anchor='middle' {STYLE}>{name}</text>"
+
+    def node_axis(self):
+        if self.nodes == 0:
+            return
+        right = WIDTH - RIGHT
+        yield f"<path d='M{right} {TOP}V{HEIGHT - BOTTOM}' stroke='{NODES}'/>"
+        for nodes in ticks_of(0, self.nodes):
+            _, y = self.place(0, nodes, 0, self.nodes)
+            yield f"<path d='M{right} {y:.1f}H{right + 4}' stroke='{NODES}'/>"
+            yield f"<text x='{right + 8}' y='{y + 4:.1f}' fill='{NODES}' {STYLE}>{nodes}</text>"
+        yield f"<text x='{WIDTH - 16}' y='{TOP - 12}' text-anchor='end' fill='{NODES}' {STYLE}>nodes</text>"
+
     def names(self):
-        for x, name, colour in ((WIDTH - RIGHT - 100, "upper bound", UPPER), (WIDTH - RIGHT, "lower bound", LOWER)):
+        for x, name, colour in ((WIDTH / 2 - 6, "upper bound", UPPER), (WIDTH / 2 + 90, "lower bound", LOWER)):
             yield f"<text x='{x}' y='{TOP - 12}' text-anchor='end' fill='{colour}' {STYLE}>{name}</text>"
 
     def text(self):
         yield f"<svg xmlns='http://www.w3.org/2000/svg' width='{WIDTH}' height='{HEIGHT}' viewBox='0 0 {WIDTH} {HEIGHT}'>"
         yield f"<rect width='{WIDTH}' height='{HEIGHT}' fill='white'/>"
         yield f"<text x='{WIDTH / 2}' y='20' text-anchor='middle' font-family='sans-serif' font-size='14'>{self.title()}</text>"
-        yield from self.axes()
+        yield from self.cost_axis()
+        yield from self.axis_below()
+        yield from self.node_axis()
         yield from self.names()
-        yield self.line(1, UPPER)
-        yield self.line(0, LOWER)
+        yield self.node_line()
+        yield self.bound_line(lambda point: point.upper, UPPER)
+        yield self.bound_line(lambda point: point.lower, LOWER)
         yield "</svg>"
 
 
@@ -103,13 +155,13 @@ def main(words):
     if len(words) > 1:
         sys.exit(__doc__)
     if words:
-        with open(words[0], encoding="ascii") as file:
-            rows = read_rows(file)
+        with open(words[0], encoding="utf-8", errors="replace") as file:
+            points, are_rows = read_points(file)
     else:
-        rows = read_rows(sys.stdin)
-    if not rows:
-        sys.exit("bounds.py: no rows: this is no report of solve")
-    print("\n".join(line for line in Picture(rows).text() if line))
+        points, are_rows = read_points(sys.stdin)
+    if not points:
+        sys.exit("bounds.py: neither lines of progress nor rows of a report")
+    print("\n".join(line for line in Picture(points, are_rows).text() if line))
 
 
 if __name__ == "__main__":

@@ -35,7 +35,9 @@ use Rattle.cfn_app.specs.Runs.Normalizing.{Normalizes}
 use Rattle.cfn_app.specs.Runs.Normalizing as normalizing
 use Rattle.cfn_app.specs.Runs.Costing.{Costs, Prices}
 use Rattle.cfn_app.specs.Runs.Costing as costing
-use Rattle.cfn_app.specs.Runs.Solving.{Solves, Searches, Outputs, Wrote, NotWritten, status_of}
+use Rattle.cfn_app.specs.Endings.{Outputs, Wrote, NotWritten}
+use Rattle.cfn_app.specs.Endings as endings
+use Rattle.cfn_app.specs.Runs.Solving.{Solves, Searches, status_of}
 use Rattle.cfn_app.specs.Runs.Solving as solving
 use Rattle.cfn_gen.specs.Generator.{instance}
 use Rattle.cfn_app.specs.Runs.Trying.{Tries, trial_text_of}
@@ -52,7 +54,7 @@ ends_saying calls before now text (Err e) due status same one is = cut (subst (�
 pub not_written : {T E : Type 0} (text : List ℕ) (old mid new : Outside) (result : Result T E) → IsErr result → Appends File old text result mid → new ≡ after Discard mid → NotWritten text old new
 not_written text old mid new (Ok x) failed one at = absurd (let no : false ≡ true = failed in cc)
 not_written text old mid new (Err e) failed one at =
-    solving.dropped mid.calls one.cut (at ∙ ap (λ files. record { calls = Discard ∷ mid.calls; files = files }) one.files)
+    endings.dropped mid.calls one.cut (at ∙ ap (λ files. record { calls = Discard ∷ mid.calls; files = files }) one.files)
 
 -- bytes that the reader does not take
 refuses_as : (format : Format) (bytes : List ℕ) (refusal : FirstUnread) → read_as format bytes ≡ Err refusal → RefusesAs format bytes refusal
@@ -84,11 +86,11 @@ reads_as Wcnf bytes P reads = reads
 pub outputs_unwritten : {T E U F : Type 0} (text said_text : List ℕ) (due : Status) (old middle new : Outside) (result : Result T E) (said : Result U F) (status : Status) → is_err result ≡ true → OnErr result (NotWritten text old middle) → Appends Screen middle write_fault_text said new → status ≡ (if is_ok said then Fault else Fault) → Outputs text said_text due old new status
 outputs_unwritten text said_text due old middle new (Ok x) spoken status failed not one is = absurd (let no : false ≡ true = failed in cc)
 outputs_unwritten text said_text due old middle new (Err e) spoken status failed not one is =
-    solving.unwritten middle not one.files (ends_saying middle.calls middle new write_fault_text spoken Fault status refl one is)
+    endings.unwritten middle not one.files (ends_saying middle.calls middle new write_fault_text spoken Fault status refl one is)
 
 pub outputs_written : {T E U F : Type 0} (text said_text : List ℕ) (due : Status) (old middle new : Outside) (result : Result T E) (said : Result U F) (status : Status) → is_err result ≡ false → OnOk result (Wrote text old middle) → Appends Screen middle said_text said new → status ≡ (if is_ok said then due else Fault) → Outputs text said_text due old new status
 outputs_written text said_text due old middle new (Ok x) spoken status fine wrote one is =
-    solving.wrote middle wrote one.files (ends_saying middle.calls middle new said_text spoken due status refl one is)
+    endings.wrote middle wrote one.files (ends_saying middle.calls middle new said_text spoken due status refl one is)
 outputs_written text said_text due old middle new (Err e) spoken status fine wrote one is = absurd (let no : true ≡ false = fine in cc)
 
 -- a search behind a file that was opened

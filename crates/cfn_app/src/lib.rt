@@ -9,16 +9,17 @@
 //! - `program` has `run`. `commands` is the list of the commands, each of which has a file of its own, as specs/Runs has and
 //!   proofs/Stating.
 //! - `loading` goes from the names of files to bytes and a network in a format, and `output` writes a certificate and
-//!   says its report. `status` has the statuses.
-//! - A `Gate` is what the workers of a search pass (`cfn_solve`).
+//!   says its report. `searching` is the search, with its gate told before and behind. `status` has the statuses.
+//! - A `Gate` is what the workers of a search pass, and what is told how far it is (`cfn_gate`).
 #![tactic(auto)]
 
 mod commands;
 mod loading;
 mod output;
 mod program;
+mod searching;
 mod status;
 
-pub use cfn_solve::{Gate, OpenGate, Point};
+pub use cfn_solve::{Gate, News, OpenGate, Point};
 pub use program::run;
 pub use status::Status;

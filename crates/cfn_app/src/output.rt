@@ -4,7 +4,8 @@ ghost use Rattle.std.specs.Prelude.{◌≡◌, length, OnOk, OnErr};
 ghost use Rattle.cfn_model.specs.Text.{report, spelling};
 ghost use Rattle.cfn_desk.specs.Outside.{IsWriting};
 ghost use Rattle.cfn_proof.specs.Certificates.{certificate_of, solution_of};
-ghost use Rattle.cfn_app.specs.Runs.Solving.{Outputs, Wrote, NotWritten, status_of, word_of};
+ghost use Rattle.cfn_app.specs.Endings.{Outputs, Wrote, NotWritten};
+ghost use Rattle.cfn_app.specs.Runs.Solving.{status_of, word_of};
 
 use crate::status::{Status, ending};
 use cfn_desk::{Desk, Failed};

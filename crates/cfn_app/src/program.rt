@@ -17,7 +17,7 @@ use std::thread::Threads;
 /// Does all that the program does, and answers the status that it ends with.
 ///
 /// `words` begins with the program's name. `rt` is the runtime, in whose threads workers search, and `gate` is what these
-/// pass.
+/// pass, and what is told how far a search is. Such bounds hold, and the gate is told of nothing else (`cfn_gate`).
 pub fn run<R: Threads + Wait + Sync, D: Desk, G: Gate + Sync>(
     rt: &R,
     alloc: Global,

@@ -1,5 +1,5 @@
 -- The arguments that commands share: what clap reads of them, and what it found under their names.
-use Rattle.std.specs.Prelude.{ℕ, true, List, [], ◌∷◌, Option, Some, None}
+use Rattle.std.specs.Prelude.{ℕ, Bool, true, false, List, [], ◌∷◌, Option, Some, None}
 use Rattle.std.specs.Prelude.{option_and_then, if◌then◌else◌, codes}
 use Rattle.std.specs.Str.{bytes_eq}
 use Rattle.std.specs.Str.Parse.{digits_value, without_leading_plus}
@@ -48,6 +48,13 @@ wcnf_rule = record (new_rule (codes "wcnf")) {
   action = Some SetTrue;
 }
 
+-- [--progress]
+unfoldable pub progress_rule : Rule
+progress_rule = record (new_rule (codes "progress")) {
+  long = Some (codes "progress");
+  action = Some SetTrue;
+}
+
 -- ---- what clap found under a name
 
 -- The number that the text is, by `u64`'s own reading, if it lies within the bounds.
@@ -66,3 +73,11 @@ format_in (Some text) = if bytes_eq text (codes "true") then Wcnf else Wcsp
 
 abbrev pub format_of : List Row → Format
 format_of rows = format_in (first_of (codes "wcnf") rows)
+
+-- Whether a flag is set: clap puts `true` under its name where the words have the option.
+abbrev pub flag_in : Option Text → Bool
+flag_in None = false
+flag_in (Some text) = bytes_eq text (codes "true")
+
+abbrev pub flag_of : Text → List Row → Bool
+flag_of id rows = flag_in (first_of id rows)

@@ -2,7 +2,7 @@
 
 ghost use Rattle.std.specs.Prelude.{◌≡◌, false};
 ghost use Rattle.clap.specs.Words.{rule_of};
-ghost use Rattle.cfn_cli.specs.Arguments.{budget_rule, certificate_rule, file_rule, wcnf_rule, workers_rule};
+ghost use Rattle.cfn_cli.specs.Arguments.{budget_rule, certificate_rule, file_rule, progress_rule, wcnf_rule, workers_rule};
 
 use clap::{Arg, ArgAction, value_parser};
 use std::alloc::Global;
@@ -57,5 +57,16 @@ pub(crate) fn wcnf<'a>(alloc: Global) -> Arg<'a>
 {
     Arg::new(alloc, "wcnf")
         .long("wcnf")
+        .action(ArgAction::SetTrue)
+}
+
+/// `[--progress]`
+#[tactic(auto, unfolding(crate::specs::Arguments::progress_rule))]
+pub(crate) fn progress<'a>(alloc: Global) -> Arg<'a>
+    ensures rule { rule_of result ≡ progress_rule }
+    ensures local { result.global ≡ false }
+{
+    Arg::new(alloc, "progress")
+        .long("progress")
         .action(ArgAction::SetTrue)
 }

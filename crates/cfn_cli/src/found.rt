@@ -1,8 +1,8 @@
-//! What clap found of a command's arguments: texts, numbers within their limits, and the format of the file.
+//! What clap found of a command's arguments: texts, numbers within their limits, flags, and the format of the file.
 
 ghost use Rattle.std.specs.Prelude.{◌≡◌, ◌≤◌, Some, None, IfErr, IfOk, IfSome};
 ghost use Rattle.clap.specs.Words.{first_of, found_of, rows_of};
-ghost use Rattle.cfn_cli.specs.Arguments.{format_in, format_of, number_in, number_of};
+ghost use Rattle.cfn_cli.specs.Arguments.{flag_of, format_in, format_of, number_in, number_of};
 
 use crate::fault::CliFault;
 use crate::format::Format;
@@ -29,6 +29,16 @@ fn format_flagged(flag: &str) -> Format
         Format::Wcnf
     } else {
         Format::Wcsp
+    }
+}
+
+/// Whether a flag is set.
+pub(crate) fn flag(found: &ArgMatches<'_>, id: &str) -> bool
+    ensures { result ≡ flag_of id.now (rows_of (found_of found.now)) }
+{
+    match found.get_str(id) {
+        Some(text) => text == "true",
+        None => false,
     }
 }
 

@@ -1,6 +1,6 @@
 //! The command line of the program `wcspsolve`: which command its words spell.
 //!
-//!     wcspsolve solve FILE CERT [--workers W] [--budget B] [--wcnf]
+//!     wcspsolve solve FILE CERT [--workers W] [--budget B] [--wcnf] [--progress]
 //!     wcspsolve check FILE CERT [--wcnf]
 //!     wcspsolve cost FILE VALUES.. [--wcnf]
 //!     wcspsolve normal FILE [--wcnf]
@@ -15,16 +15,13 @@
 #![tactic(auto)]
 
 mod arguments;
-mod commands;
+pub mod commands;
 mod fault;
 mod format;
 mod found;
 mod parsing;
 
-pub use commands::{
-    CheckArguments, Command, CostArguments, MigrateArguments, NormalArguments, SolveArguments,
-    TrialArguments,
-};
+pub use commands::Command;
 pub use fault::CliFault;
 pub use format::Format;
 pub use parsing::parse;

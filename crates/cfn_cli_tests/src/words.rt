@@ -23,6 +23,13 @@ fn solves(alloc: Global, words: &[&str], workers: u8, budget: u64) -> bool {
     }
 }
 
+fn asks_progress(alloc: Global, words: &[&str]) -> Option<bool> {
+    match parse(alloc, words) {
+        Ok(Command::Solve(asked)) => Some(asked.progress),
+        _ => None,
+    }
+}
+
 fn checks(alloc: Global, words: &[&str]) -> bool {
     match parse(alloc, words) {
         Ok(Command::Check(asked)) => {
@@ -98,6 +105,16 @@ fn format_is_read(rt: HostRuntime) {
     ] {
         assert!(rt; format(alloc, words) == Some(Format::Wcnf), "{words:?}");
     }
+}
+
+#[test]
+fn progress_is_asked_for(rt: HostRuntime) {
+    let alloc = rt.alloc();
+    assert!(rt; asks_progress(alloc, &["w", "solve", "a", "b"]) == Some(false));
+    assert!(rt; asks_progress(alloc, &["w", "solve", "a", "b", "--progress"]) == Some(true));
+    assert!(rt;
+        asks_progress(alloc, &["w", "solve", "--progress", "a", "--wcnf", "b"]) == Some(true)
+    );
 }
 
 #[test]
@@ -190,6 +207,8 @@ fn other_words_are_usage(rt: HostRuntime) {
         &["w", "solve", "a", "--budget", "1", "a"],
         &["w", "solve", "a", "b", "c"],
         &["w", "solve", "a", "b", "--help"],
+        &["w", "solve", "a", "b", "--progress=true"],
+        &["w", "check", "a", "b", "--progress"],
         &["w", "solve", "a", "b", "--workers", "65"],
         &["w", "solve", "a", "b", "--workers", "0"],
         &["w", "solve", "a", "b", "--workers", "8", "--workers", "8"],

@@ -1,15 +1,14 @@
 -- What the pool's calls answer, each by a step of the pool.
-use Rattle.std.specs.Prelude.{◌≡◌, ℕ, ◌≤◌}
+use Rattle.std.specs.Prelude.{◌≡◌, ℕ, ◌≤◌, ◌⊎◌, length}
 use Rattle.cfn_model.specs.Network.{Network}
 use Rattle.cfn_task.specs.Values.{PieceValue, piece_of}
 use Rattle.cfn_machine.specs.Pool.{Pool, price}
 use Rattle.cfn_machine.specs.Word.{all_shares}
-use Rattle.cfn_machine.specs.Steps.{PoolTakes, PoolGives, PoolSweeps, IsOut, HasNone, NoneOpen, AllSpent, AllOut}
+use Rattle.cfn_machine.specs.Steps.{PoolTakes, PoolGives, PoolSweeps, PoolNotes, IsOut, HasNone, NoneOpen, AllSpent, AllOut}
 use Rattle.cfn_leaves.specs.declared.taking.Taken.{Taken}
 use Rattle.cfn_leaves.specs.declared.taking.Taken.TheVariants.{Given, Empty, Spent, Again, Memory as NoMemory}
 use Rattle.cfn_pool.specs.Views.{Held, pool}
 use Rattle.cfn_pool.specs.declared.steps.Handed.{Handed}
-use Rattle.cfn_pool.specs.Views.{Held, pool}
 use Rattle.cfn_pool.specs.declared.steps.Handed.TheVariants.{Done, Gone, Memory}
 
 -- A task of the network is handed out, or there is none for one reason; where there is no memory for the path nothing
@@ -43,3 +42,7 @@ pub record Sweeps (P : Network) (old new : Pool) : Type 0 where
   pub below : word ≤ price P old.view.best
   pub whole : old.view.shares ≡ all_shares → word ≡ price P old.view.best
   pub sweeps : PoolSweeps P old word new
+
+-- The pool notes a row of bounds; or nothing changes, where there are 128 rows already.
+abbrev pub NotesOrWaits : Network → Pool → Pool → Type 0
+NotesOrWaits P old new = PoolNotes P old new ⊎ ((new ≡ old) × (128 ≤ length old.rows))

@@ -21,6 +21,8 @@ use std::marker::Model;
 pub struct Pool<M: Incumbent> {
     pub(crate) leaves: Leaves,
     pub(crate) holder: Holder<M>,
+    /// From how many nodes on it is looked for a row of bounds, once there are many.
+    pub(crate) due: u64,
 }
 
 impl<M: Incumbent> Model for Pool<M> {
@@ -66,7 +68,11 @@ impl<M: Incumbent> Pool<M> {
             return Err(holder);
         };
         match Leaves::start(alloc, network, tree, holder.seen(), budget) {
-            Ok(leaves) => Ok(Pool { leaves, holder }),
+            Ok(leaves) => Ok(Pool {
+                leaves,
+                holder,
+                due: 0,
+            }),
             Err(AllocError) => Err(holder),
         }
     }
@@ -78,7 +84,11 @@ impl<M: Incumbent> Pool<M> {
         ensures rows { result.rows.items ≡ (pool self).rows }
         ensures nodes { result.nodes ≡ (pool self).nodes }
     {
-        let Pool { leaves, holder } = self;
+        let Pool {
+            leaves,
+            holder,
+            due: _,
+        } = self;
         let nodes = leaves.nodes();
         let (tree, rows) = leaves.finish();
         Finished {

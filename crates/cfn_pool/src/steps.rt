@@ -1,10 +1,10 @@
 //! The pool's steps.
 
-ghost use Rattle.std.specs.Prelude.{◌≡◌, ◌+◌, ◌≤◌, IsTrue, IsFalse};
+ghost use Rattle.std.specs.Prelude.{◌≡◌, ◌+◌, ◌≤◌, length, IsTrue, IsFalse};
 ghost use Rattle.cfn_machine.specs.Steps.{PoolRecalls, PoolReturns, PoolMeets, PoolNotes, IsNotOut};
 ghost use Rattle.cfn_machine.specs.Word.{all_shares};
 ghost use Rattle.cfn_pool.specs.Views.{pool, view_of};
-ghost use Rattle.cfn_pool.specs.Answers.{Takes, Gives, Sweeps};
+ghost use Rattle.cfn_pool.specs.Answers.{Takes, Gives, Sweeps, NotesOrWaits};
 
 use crate::pool::Pool;
 use cfn_leaves as leaves;
@@ -12,6 +12,9 @@ use cfn_leaves::Taken;
 use cfn_low::{Holder, Incumbent, Low, Note};
 use cfn_net::Network;
 use cfn_task::{Piece, Task};
+
+/// How many rows of bounds are noted as they come.
+const CLOSE_ROWS: usize = 128;
 
 /// The answer to a piece that is given.
 #[derive(Drop)]
@@ -97,14 +100,34 @@ impl<M: Incumbent> Pool<M> {
         low.meet(&mut self.holder, other);
     }
 
-    /// Notes a row of the bounds that hold now, where it differs from the last one and there are fewer than 256. It takes no
-    /// memory.
+    /// Notes a row of the bounds that hold now, where it differs from the last one and there are fewer than 256. Once there are
+    /// 128, it looks for one only where the nodes have grown by an eighth since the last look, so that rows are left for a long
+    /// search. It takes no memory.
     pub fn note(&mut self, network: &Network)
+        requires own { network.now ≡ M.network }
+        ensures { NotesOrWaits M.network (pool self.old) (pool self.new) }
+    {
+        if self.is_due() {
+            self.note_now(network);
+        }
+    }
+
+    /// Whether it is looked for a row of bounds.
+    fn is_due(&self) -> bool
+        ensures { IsFalse result → 128 ≤ length (pool self.now).rows }
+    {
+        self.leaves.rows().len() < CLOSE_ROWS || self.leaves.nodes() >= self.due
+    }
+
+    /// Notes a row of the bounds that hold now, where it differs from the last one and there are fewer than 256.
+    fn note_now(&mut self, network: &Network)
         requires own { network.now ≡ M.network }
         ensures { PoolNotes M.network (pool self.old) (pool self.new) }
     {
         network.limits();
         self.holder.kept();
         self.leaves.note(network, self.holder.seen());
+        let nodes = self.leaves.nodes();
+        self.due = nodes.saturating_add(nodes / 8);
     }
 }

@@ -25,11 +25,11 @@ module _ {X : Type 0} (P : X → Type 0) where
 
 -- each item has one more, up to a place
 module _ {X R : Type 0} (f : X → List R) (r : R) where
-  pub hired_more : (old new : List X) (i : ℕ) (e y : X) → i < length new → f y ≡ f (get_or new i e) ++ r ∷ [] →
+  pub thieves_more : (old new : List X) (i : ℕ) (e y : X) → i < length new → f y ≡ f (get_or new i e) ++ r ∷ [] →
       ((k : ℕ) (d : X) → k < i → f (get_or new k d) ≡ f (get_or old k d) ++ r ∷ []) →
       ((k : ℕ) (d : X) → i ≤ k → get_or new k d ≡ get_or old k d) →
       (k : ℕ) (d : X) → k < i + 1 → f (get_or (set new i y) k d) ≡ f (get_or old k d) ++ r ∷ []
-  hired_more old new i e y there more done others k d h = elim (cases_eq k i) [
+  thieves_more old new i e y there more done others k d h = elim (cases_eq k i) [
     | inl same ↦
         let is : get_or new i e ≡ get_or old k d = get_or_default new i e d there ∙ others i d (omega arith) ∙ ap (λ j. get_or old j d) (sym same) in
         ap (λ j. f (get_or (set new i y) j d)) same ∙ ap f (get_or-set_same new i y d there) ∙ more ∙ ap (λ z. f z ++ r ∷ []) is
@@ -43,12 +43,12 @@ module _ {X : Type 0} where
 
 -- all items have the lanes so far, after one more
 module _ {X A R : Type 0} (f : X → List R) (lane : A → R) where
-  pub hired_all : (old new : List X) (lanes more : List A) (made : A) (r : R) → length new ≡ length old → more ≡ lanes ++ made ∷ [] → lane made ≡ r →
+  pub thieves_all : (old new : List X) (lanes more : List A) (made : A) (r : R) → length new ≡ length old → more ≡ lanes ++ made ∷ [] → lane made ≡ r →
       ((k : ℕ) (d : X) → k < length old → f (get_or new k d) ≡ f (get_or old k d) ++ r ∷ []) →
       All (λ x. f x ≡ map lane lanes) old → All (λ x. f x ≡ map lane more) new
-  hired_all old new lanes more made r count is same hired all k d h =
+  thieves_all old new lanes more made r count is same known all k d h =
       let there : k < length old = omega (arith, h, count) in
-      hired k d there ∙ ap (λ known. known ++ r ∷ []) (all k d there) ∙ ap (λ last. map lane lanes ++ last ∷ []) (sym same) ∙ sym (map_push lane lanes made) ∙ ap (map lane) (sym is)
+      known k d there ∙ ap (λ known. known ++ r ∷ []) (all k d there) ∙ ap (λ last. map lane lanes ++ last ∷ []) (sym same) ∙ sym (map_push lane lanes made) ∙ ap (map lane) (sym is)
 
 -- the own lanes of the workers that were dealt with, behind those that are left
 module _ {A B : Type 0} (f : A → RowsId) (g : B → Access) where

@@ -179,19 +179,19 @@ fn lanes<T: Drop, K: Kind<T>>(
     ensures count { IfOk result (λ all. length all.items ≡ length thieves.old) }
     ensures new { IfOk result (λ all. All (IsNew room) all.items) }
     ensures parts { IfOk result (λ all. All (λ lane. lane.parts + length thieves.old ≡ 128) all.items) }
-    ensures hired { IfOk result (λ all. All (λ theirs. lanes_of theirs.items ≡ map (λ lane. lane.lane) all.items) thieves.new) }
+    ensures known { IfOk result (λ all. All (λ theirs. lanes_of theirs.items ≡ map (λ lane. lane.lane) all.items) thieves.new) }
 {
     let mut all = Vec::with_capacity(alloc, thieves.len())?;
     for _ in 0..thieves.len() {
         let mut lane = Lane::make(alloc, room)?;
-        hire(&mut lane, thieves)?;
+        add_thieves(&mut lane, thieves)?;
         all.push_reserved(lane);
     }
     Ok(all)
 }
 
 /// An end that steals from a new lane, for each worker.
-fn hire<T: Drop, K: Kind<T>>(
+fn add_thieves<T: Drop, K: Kind<T>>(
     lane: &mut Lane<T, K>,
     thieves: &mut [Vec<Thief<T, K>>],
 ) -> Result<(), AllocError>
@@ -200,7 +200,7 @@ fn hire<T: Drop, K: Kind<T>>(
     ensures thieves { length thieves.new ≡ length thieves.old }
     ensures lane { lane.new ≡ record lane.old { parts = lane.new.parts } }
     ensures parts { IfOk result (λ none. lane.new.parts + length thieves.old ≡ 128) }
-    ensures hired { IfOk result (λ none. (k : ℕ) → (d : _) → k < length thieves.old → lanes_of (slice_index_or thieves.new k d).items ≡ lanes_of (slice_index_or thieves.old k d).items ++ lane.old.lane ∷ []) }
+    ensures known { IfOk result (λ none. (k : ℕ) → (d : _) → k < length thieves.old → lanes_of (slice_index_or thieves.new k d).items ≡ lanes_of (slice_index_or thieves.old k d).items ++ lane.old.lane ∷ []) }
 {
     for theirs in thieves.iter_mut() {
         theirs.push(lane.thief()?)?;

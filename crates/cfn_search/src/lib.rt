@@ -15,6 +15,7 @@ mod outcome;
 mod search;
 mod team;
 
-pub use cfn_worker::{Gate, OpenGate, Point, Threshold};
+pub use cfn_gate::{Gate, News, OpenGate, Point};
+pub use cfn_worker::Threshold;
 pub use search::solve;
 pub use team::{Teamwork, solve_together};

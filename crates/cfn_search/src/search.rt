@@ -12,11 +12,14 @@ ghost use Rattle.cfn_worker.specs.Granting.{IsLimit};
 
 use crate::outcome::{conclude, meet, wind_up};
 use cfn_explore::{Explore, Explorers, Problem};
+use cfn_gate::{Gate, OpenGate};
 use cfn_low::{Holder, Incumbent, Low, Unnamed};
 use cfn_net::{Network, Scored};
 use cfn_pool::Pool;
 use cfn_proof::Outcome;
-use cfn_worker::{Account, Asked, FEWEST_BACKTRACKS, Threshold, hand_in, sweep, take, wanted};
+use cfn_worker::{
+    Account, Asked, FEWEST_BACKTRACKS, Threshold, hand_in, news, sweep, take, wanted,
+};
 use std::alloc::{AllocError, Global};
 use std::marker::Brand;
 
@@ -36,15 +39,17 @@ pub fn solve<X: Explorers>(
     requires { budget ≤ GREATEST }
     ensures { IfOk result (IsOutcome network.now budget) }
 {
-    let (outcome, _) = solve_alone(alloc, network, budget)?;
+    let (outcome, _) = solve_alone(alloc, network, budget, &OpenGate)?;
     Ok(outcome)
 }
 
-/// Searches so, and tells the least threshold at which a piece was made too.
-pub(crate) fn solve_alone<X: Explorers>(
+/// Searches so, and tells the least threshold at which a piece was made too. A gate that asks for it is told how far the search
+/// is.
+pub(crate) fn solve_alone<X: Explorers, G: Gate>(
     alloc: Global,
     network: &Problem<'_, X>,
     budget: u64,
+    gate: &G,
 ) -> Result<(Outcome, Threshold), AllocError>
     requires { budget ≤ GREATEST }
     ensures outcome { IfOk result (λ found. IsOutcome network.now budget found.0) }
@@ -54,17 +59,18 @@ pub(crate) fn solve_alone<X: Explorers>(
     let (network, explorers) = (network.network(), network.explorers());
     let unnamed = Unnamed::make(alloc, network)?;
     let empty = Scored::empty(alloc, network)?;
-    search::<Brand, X>(alloc, network, explorers, unnamed, empty, budget)
+    search::<Brand, X, G>(alloc, network, explorers, unnamed, empty, budget, gate)
 }
 
 /// The search, over a word by its name.
-fn search<M: Incumbent, X: Explorers>(
+fn search<M: Incumbent, X: Explorers, G: Gate>(
     alloc: Global,
     network: &Network,
     explorers: &X,
     unnamed: Unnamed,
     empty: Scored,
     budget: u64,
+    gate: &G,
 ) -> Result<(Outcome, Threshold), AllocError>
     requires table { M.table ≡ unnamed.table }
     requires network { M.network ≡ unnamed.network }
@@ -78,7 +84,15 @@ fn search<M: Incumbent, X: Explorers>(
     let (low, mut holder) = unnamed.named::<M>();
     let mut account = Account::open(low.split(&mut holder, empty));
     let mut held = open(alloc, network, &low, holder, budget)?;
-    work(alloc, network, explorers, &low, &mut held, &mut account)?;
+    work(
+        alloc,
+        network,
+        explorers,
+        &low,
+        &mut held,
+        &mut account,
+        gate,
+    );
     Ok(ended(network, low, held, account))
 }
 
@@ -125,16 +139,16 @@ fn ended<M: Incumbent>(
     (conclude(network, low, held), threshold)
 }
 
-/// Makes its explorer, and dives until there is no leaf to take, or memory is refused. An `Err` is want of memory before the
-/// first dive.
-fn work<M: Incumbent, X: Explorers>(
+/// Makes its explorer, and dives until there is no leaf to take, or memory is refused, be it for the explorer.
+fn work<M: Incumbent, X: Explorers, G: Gate>(
     alloc: Global,
     network: &Network,
     explorers: &X,
     low: &Low<M>,
     held: &mut Pool<M>,
     account: &mut Account<M>,
-) -> Result<(), AllocError>
+    gate: &G,
+)
     requires own { network.now ≡ M.network }
     requires explorers { X.network explorers.now ≡ M.network }
     requires search { IsSearch M.network (pool held.old) }
@@ -142,20 +156,22 @@ fn work<M: Incumbent, X: Explorers>(
     ensures shares { account.new.part.shares ≡ account.old.part.shares }
     ensures falls { account.new.least ≤ account.old.least }
 {
-    let mut explorer = explorers.make(alloc)?;
-    dive_all(alloc, network, low, held, account, &mut explorer);
-    drop(explorer);
-    Ok(())
+    held.kept();
+    if let Ok(mut explorer) = explorers.make(alloc) {
+        dive_all(alloc, network, low, held, account, &mut explorer, gate);
+        drop(explorer);
+    }
 }
 
 /// Dives until there is no leaf to take, or memory is refused.
-fn dive_all<M: Incumbent, E: Explore>(
+fn dive_all<M: Incumbent, E: Explore, G: Gate>(
     alloc: Global,
     network: &Network,
     low: &Low<M>,
     held: &mut Pool<M>,
     account: &mut Account<M>,
     explorer: &mut E,
+    gate: &G,
 )
     requires own { network.now ≡ M.network }
     requires explorer { E.made_of explorer.old ≡ M.network }
@@ -166,13 +182,13 @@ fn dive_all<M: Incumbent, E: Explore>(
 {
     held.kept();
     let mut limit = FEWEST_BACKTRACKS;
-    while let Some(next) = dive(alloc, network, low, held, account, explorer, limit) {
+    while let Some(next) = dive(alloc, network, low, held, account, explorer, limit, gate) {
         limit = next;
     }
 }
 
 /// One dive, of at most `limit` backtracks, and how many the next one may make; `None` where the search ends.
-fn dive<M: Incumbent, E: Explore>(
+fn dive<M: Incumbent, E: Explore, G: Gate>(
     alloc: Global,
     network: &Network,
     low: &Low<M>,
@@ -180,6 +196,7 @@ fn dive<M: Incumbent, E: Explore>(
     account: &mut Account<M>,
     explorer: &mut E,
     limit: u64,
+    gate: &G,
 ) -> Option<u64>
     requires own { network.now ≡ M.network }
     requires explorer { E.made_of explorer.old ≡ M.network }
@@ -196,13 +213,30 @@ fn dive<M: Incumbent, E: Explore>(
     let want = wanted(held.nodes() == 0, known, limit, network.variables());
     let task = match take(network, held, WORKER, want) {
         Asked::Task { task } => task,
-        Asked::Later | Asked::Over => return None,
+        Asked::Later | Asked::Done | Asked::Spent | Asked::Memory => return None,
     };
     match task.dive(alloc, network, explorer, low, account, limit) {
-        Ok(made) => hand_in(network, low, held, account, made, limit),
+        Ok(made) => {
+            let before = held.seen();
+            let handed = hand_in(network, low, held, account, made, limit);
+            tell(network, held, gate, before);
+            match handed {
+                Ok(next) => Some(next),
+                Err(_) => None,
+            }
+        }
         Err(task) => {
             task.back(held);
             None
         }
+    }
+}
+
+/// Tells a gate how far the search is, where it asks for it; before the last piece was handed in, the pool had seen `before`.
+fn tell<M: Incumbent, G: Gate>(network: &Network, held: &Pool<M>, gate: &G, before: u64)
+    requires own { network.now ≡ M.network }
+{
+    if let Some(news) = news(network, held, gate, before) {
+        gate.tell(network, news);
     }
 }

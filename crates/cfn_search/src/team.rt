@@ -15,13 +15,14 @@ ghost use Rattle.cfn_worker.specs.Searching.{IsSearch};
 use crate::outcome::{conclude, meet, wind_up};
 use crate::search::{open, solve_alone};
 use cfn_explore::{Explorers, Problem};
+use cfn_gate::Gate;
 use cfn_low::{Holder, Incumbent, Low, Unnamed};
 use cfn_net::{Network, Scored};
 use cfn_pool::Pool;
 use cfn_proof::Outcome;
 use cfn_rota::{Ends, deal};
 use cfn_task::Task;
-use cfn_worker::{Board, Errand, Errands, Gate, ROOM, Shared, Squad, Threshold, Worker};
+use cfn_worker::{Board, Crew, LaneTasks, Lanes, ROOM, Shared, Threshold, Worker};
 use std::alloc::{AllocError, Global};
 use std::marker::Brand;
 use std::sync::{Condvar, Mutex, Wait};
@@ -39,7 +40,8 @@ pub struct Teamwork {
 /// Searches as `solve` does, by 1 to 64 workers, each in a thread of its own; a single one works on the caller's thread.
 ///
 /// Which nodes are made depends on how the threads run, so two calls may answer different nodes, rows and assignments; each
-/// answer keeps the whole contract. A worker that is refused memory for a dive ends, and the others go on with its leaf.
+/// answer keeps the whole contract. A worker that is refused memory for a dive ends, and the others go on with its leaf. A gate
+/// that asks for it is told, after each piece, how far the search is.
 ///
 /// The certificate's threshold is at most each threshold at which a worker made a piece.
 pub fn solve_together<X: Explorers + Sync, R: Threads + Wait + Sync, G: Gate + Sync>(
@@ -59,7 +61,7 @@ pub fn solve_together<X: Explorers + Sync, R: Threads + Wait + Sync, G: Gate + S
     ensures least { IfOk result (λ found. All (λ k. threshold (certificate_of found.outcome.certificate) ≤ k) found.thresholds.items) }
 {
     if workers == 1 {
-        return solve_single(alloc, network, budget);
+        return solve_single(alloc, network, budget, gate);
     }
     let (network, explorers) = (network.network(), network.explorers());
     let unnamed = Unnamed::make(alloc, network)?;
@@ -69,10 +71,11 @@ pub fn solve_together<X: Explorers + Sync, R: Threads + Wait + Sync, G: Gate + S
 }
 
 /// The search by a single worker.
-fn solve_single<X: Explorers>(
+fn solve_single<X: Explorers, G: Gate>(
     alloc: Global,
     network: &Problem<'_, X>,
     budget: u64,
+    gate: &G,
 ) -> Result<Teamwork, AllocError>
     requires { budget ≤ GREATEST }
     ensures outcome { IfOk result (λ found. IsOutcome network.now budget found.outcome) }
@@ -81,7 +84,7 @@ fn solve_single<X: Explorers>(
     ensures least { IfOk result (λ found. All (λ k. threshold (certificate_of found.outcome.certificate) ≤ k) found.thresholds.items) }
 {
     let mut thresholds = Vec::with_capacity(alloc, 1)?;
-    let (outcome, own) = solve_alone(alloc, network, budget)?;
+    let (outcome, own) = solve_alone(alloc, network, budget, gate)?;
     thresholds.push_reserved(own);
     Ok(Teamwork {
         outcome,
@@ -91,7 +94,7 @@ fn solve_single<X: Explorers>(
 
 /// The search, over a word by its name.
 fn search<
-    M: Incumbent + Squad + Send + Sync,
+    M: Incumbent + Crew + Send + Sync,
     X: Explorers + Sync,
     R: Threads + Wait + Sync,
     G: Gate + Sync,
@@ -110,7 +113,7 @@ fn search<
     requires own { network.now ≡ unnamed.network }
     requires explorers { X.network explorers.now ≡ unnamed.network }
     requires budget { M.budget ≡ budget }
-    requires crew { M.crew ≡ workers }
+    requires crew { M.workers ≡ workers }
     requires some { 1 ≤ workers }
     requires few { workers ≤ 64 }
     ensures outcome { IfOk result (λ found. IsOutcome network.now budget found.outcome) }
@@ -121,15 +124,19 @@ fn search<
     let thresholds = Vec::with_capacity(alloc, workers as usize)?;
     let (low, mut holder) = unnamed.named::<M>();
     let (parts, ends) = supplies(alloc, network, &low, &mut holder, workers)?;
-    let held = open(alloc, network, &low, holder, budget)?;
-    let crew = recruit(alloc, parts, ends)?;
+    let crew: Vec<Worker<M>> = Vec::with_capacity(alloc, workers as usize)?;
+    let Ok(held) = open(alloc, network, &low, holder, budget) else {
+        crew.destroy_empty();
+        return Err(AllocError);
+    };
+    let crew = start_workers(crew, parts, ends);
     let (held, crew) = run(rt, alloc, network, explorers, &low, held, crew, gate);
     Ok(end_all(network, low, held, crew, thresholds))
 }
 
 /// The pool and the workers once there is no leaf to take.
 fn run<
-    M: Incumbent + Squad + Send + Sync,
+    M: Incumbent + Crew + Send + Sync,
     X: Explorers + Sync,
     R: Threads + Wait + Sync,
     G: Gate + Sync,
@@ -145,8 +152,8 @@ fn run<
 ) -> (Pool<M>, Vec<Worker<M>>)
     requires own { network.now ≡ M.network }
     requires explorers { X.network explorers.now ≡ M.network }
-    requires board { IsBoard M.network M.budget M.crew held }
-    ensures board { IsBoard M.network M.budget M.crew result.0 }
+    requires board { IsBoard M.network M.budget M.workers held }
+    ensures board { IsBoard M.network M.budget M.workers result.0 }
     ensures count { length result.1.items ≡ length crew.items }
     ensures same { map reach result.1.items ≡ map reach crew.items }
 {
@@ -174,7 +181,7 @@ fn end_all<M: Incumbent>(
     ensures most { All (λ k. k ≤ network.now.upper) result.thresholds.items }
     ensures least { All (λ k. threshold (certificate_of result.outcome.certificate) ≤ k) result.thresholds.items }
 {
-    let thresholds = disband(&low, &mut held, crew, thresholds);
+    let thresholds = end_workers(&low, &mut held, crew, thresholds);
     wind_up(&low, &mut held);
     let outcome = conclude(network, low, held);
     Teamwork {
@@ -190,7 +197,7 @@ fn supplies<M: Incumbent>(
     low: &Low<M>,
     holder: &mut Holder<M>,
     workers: u32,
-) -> Result<(Vec<Holder<M>>, Vec<Ends<Task, Errand<M>>>), AllocError>
+) -> Result<(Vec<Holder<M>>, Vec<Ends<Task, LaneTasks<M>>>), AllocError>
     requires own { network.now ≡ M.network }
     requires all { holder.old.shares ≡ all_shares }
     requires few { workers ≤ 64 }
@@ -232,31 +239,32 @@ fn split<M: Incumbent>(
     Ok(parts)
 }
 
-/// Workers in the order of their numbers, each with one share of the word and its ends of all lanes. An `Err`, want of memory,
-/// comes before there is a worker.
-fn recruit<M: Incumbent>(
-    alloc: Global,
+/// Workers in the order of their numbers, each with one share of the word and its ends of all lanes. `crew` is empty, with room
+/// for them. It takes no memory.
+fn start_workers<M: Incumbent>(
+    mut crew: Vec<Worker<M>>,
     mut parts: Vec<Holder<M>>,
-    mut ends: Vec<Ends<Task, Errand<M>>>,
-) -> Result<Vec<Worker<M>>, AllocError>
+    mut ends: Vec<Ends<Task, LaneTasks<M>>>,
+) -> Vec<Worker<M>>
+    requires none { crew.items ≡ [] }
+    requires room { length parts.items ≤ vec_capacity crew }
     requires few { length parts.items ≤ 64 }
     requires count { length ends.items ≡ length parts.items }
     requires ones { All (λ part. part.shares ≡ 1) parts.items }
     requires all { AreAll (reverse (map access ends.items)) }
-    ensures crew { IfOk result (λ crew. length crew.items ≡ length parts.items) }
-    ensures all { IfOk result (λ crew. AreAll (map reach crew.items)) }
+    ensures count { length result.items ≡ length parts.items }
+    ensures all { AreAll (map reach result.items) }
 {
-    let mut crew = Vec::with_capacity(alloc, parts.len())?;
     while let (Some(part), Some(own)) = (parts.pop(), ends.pop()) {
         let number = crew.len() as u32;
-        crew.push_reserved(Worker::new(number, part, Errands::of(own)));
+        crew.push_reserved(Worker::new(number, part, Lanes::of(own)));
     }
-    Ok(crew)
+    crew
 }
 
 /// Lets all workers work until there is no leaf to take.
 fn work_all<
-    M: Incumbent + Squad + Send + Sync,
+    M: Incumbent + Crew + Send + Sync,
     X: Explorers + Sync,
     R: Threads + Wait + Sync,
     G: Gate + Sync,
@@ -290,7 +298,7 @@ fn work_all<
 
 /// Lets each worker work in a thread of its own.
 fn work_each<
-    M: Incumbent + Squad + Send + Sync,
+    M: Incumbent + Crew + Send + Sync,
     X: Explorers + Sync,
     R: Threads + Wait + Sync,
     G: Gate + Sync,
@@ -317,7 +325,7 @@ fn work_each<
 
 /// Ends the workers once their threads have ended: gives back what is left in their lanes, and joins their parts of the word
 /// into the pool's, which has then seen at most the threshold of each. `thresholds` is empty, with room for these.
-fn disband<M: Incumbent>(
+fn end_workers<M: Incumbent>(
     low: &Low<M>,
     held: &mut Pool<M>,
     mut crew: Vec<Worker<M>>,
@@ -367,7 +375,7 @@ fn end<M: Incumbent>(
 {
     worker.gather(others);
     worker.give_left(held);
-    let (part, threshold) = worker.retire();
+    let (part, threshold) = worker.close();
     meet(low, held, part);
     threshold
 }

@@ -6,5 +6,6 @@
 
 mod solving;
 
-pub use cfn_search::{Gate, OpenGate, Point, Teamwork, Threshold};
+pub use cfn_gate::{Gate, News, OpenGate, Point};
+pub use cfn_search::{Teamwork, Threshold};
 pub use solving::{solve, solve_together};

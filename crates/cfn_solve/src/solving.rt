@@ -8,9 +8,10 @@ ghost use Rattle.cfn_proof.specs.Outcome.{IsOutcome};
 
 use cfn_dive::Divers;
 use cfn_explore::Problem;
+use cfn_gate::Gate;
 use cfn_net::{Network, Tables};
 use cfn_proof::Outcome;
-use cfn_search::{Gate, Teamwork};
+use cfn_search::Teamwork;
 use std::alloc::{AllocError, Global};
 use std::sync::Wait;
 use std::thread::Threads;
@@ -30,7 +31,8 @@ pub fn solve(alloc: Global, network: &Network, budget: u64) -> Result<Outcome, A
 /// Searches as `solve` does, by 1 to 64 workers, each in a thread of its own; a single one works on the caller's thread.
 ///
 /// Which nodes are made depends on how the threads run, so two calls may answer different nodes, rows and assignments; each
-/// answer keeps the whole contract. A worker that is refused memory for a dive ends, and the others go on with its leaf.
+/// answer keeps the whole contract. A worker that is refused memory for a dive ends, and the others go on with its leaf. A gate
+/// that asks for it is told, after each piece, how far the search is.
 ///
 /// The certificate's threshold is at most each threshold at which a worker made a piece.
 pub fn solve_together<R: Threads + Wait + Sync, G: Gate + Sync>(

@@ -2,7 +2,7 @@
 //!
 //! `solving`, `asking`, `reading`, `failing` and `migrating` judge what is found, what the words of a command line ask for,
 //! which files are refused, what a fault of the outside leaves, and what becomes of a certificate of the first version; `rows`
-//! walks the runs that these list. `workers` has runs of several workers.
+//! walks the runs that these list. `workers` has runs of several workers, and `telling` what a gate is told of a run.
 #![tactic(auto)]
 
 #[cfg(test)]
@@ -17,5 +17,7 @@ mod reading;
 mod rows;
 #[cfg(test)]
 mod solving;
+#[cfg(test)]
+mod telling;
 #[cfg(test)]
 mod workers;

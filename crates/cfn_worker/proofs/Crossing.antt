@@ -17,11 +17,11 @@ use Rattle.cfn_pool.specs.contracts.pool.Pool as Pool
 use Rattle.cfn_task.specs.contracts.task.Task as Task
 use Rattle.cfn_rota.specs.contracts.ends.Ends as Ends
 use Rattle.cfn_rota.proofs.CallerLemmas.{ends_send}
-use Rattle.cfn_worker.specs.declared.board.Squad as squad
+use Rattle.cfn_worker.specs.declared.board.Crew as crew
 use Rattle.cfn_worker.specs.contracts.account.Account as Account
-use Rattle.cfn_worker.specs.contracts.errands.Errand as Errand
-use Rattle.cfn_worker.specs.contracts.errands.Errands as Errands
-use Rattle.cfn_worker.specs.contracts.errands.ErrandKindTask.TheImpl as errand
+use Rattle.cfn_worker.specs.contracts.lanes.LaneTasks as LaneTasks
+use Rattle.cfn_worker.specs.contracts.lanes.Lanes as Lanes
+use Rattle.cfn_worker.specs.contracts.lanes.LaneTasksKindTask.TheImpl as lane_tasks
 use Rattle.cfn_worker.specs.contracts.worker.Worker as Worker
 use Rattle.cfn_worker.specs.contracts.worker.Shared as Shared
 use Rattle.cfn_worker.specs.contracts.board.Board as Board
@@ -49,22 +49,22 @@ module _ (M : RattleType) (g : word.Ghosts M.Denot) where
   pool_send : IsSend (Pool.the_row M g)
   pool_send = search (sendable, crosses, of_holder, block_send, snapshot_send) depth 40
 
-  lanes_send : IsSend (Ends.the_row Task.the_row (Errand.the_row M) (errand.ghosts M g errand.no_dict))
-  lanes_send = ends_send Task.the_row (Errand.the_row M) (errand.ghosts M g errand.no_dict) task_send
+  lanes_send : IsSend (Ends.the_row Task.the_row (LaneTasks.the_row M) (lane_tasks.ghosts M g lane_tasks.no_dict))
+  lanes_send = ends_send Task.the_row (LaneTasks.the_row M) (lane_tasks.ghosts M g lane_tasks.no_dict) task_send
 
-  errands_send : IsSend (Errands.the_row M g)
-  errands_send = search (sendable, lanes_send) depth 40
+  worker_lanes_send : IsSend (Lanes.the_row M g)
+  worker_lanes_send = search (sendable, lanes_send) depth 40
 
   account_send : IsSend (Account.the_row M g)
   account_send = search (sendable, of_holder) depth 40
 
   inside_send : IsSend (Worker.TheInside.the_row M g)
-  inside_send = declared_send (Worker.TheInside.the_type M g) (as_row_send u32-field (search sendable), (as_row_send u64-field (search sendable), (as_row_send (Account.the_field M g) account_send, (as_row_send (Errands.the_field M g) errands_send, tt))))
+  inside_send = declared_send (Worker.TheInside.the_type M g) (as_row_send u32-field (search sendable), (as_row_send u64-field (search sendable), (as_row_send (Account.the_field M g) account_send, (as_row_send (Lanes.the_field M g) worker_lanes_send, tt))))
 
   pub worker_send : IsSend (Worker.the_row M g)
   worker_send = view_send (Worker.TheInside.the_row M g) _ _ _ _ inside_send
 
-  module _ (h : squad.Ghosts M.Denot) where
+  module _ (h : crew.Ghosts M.Denot) where
     board_send : IsSend (Board.the_row M g h)
     board_send = search (sendable, pool_send) depth 40
 

@@ -1,9 +1,10 @@
--- A row that is noted leaves the search as it was.
-use Rattle.std.proofs.Common.{◌≡◌, List, [], ◌∷◌, ◌++◌, length, refl, sym, ap, ◌∙◌, subst, Bool, true, false, nat_lt, if◌then◌else◌, le_refl}
+-- A row that is noted, or is not, leaves the search as it was.
+use Rattle.std.proofs.Common.{◌≡◌, List, [], ◌∷◌, ◌++◌, length, refl, sym, ap, ◌∙◌, subst, inl, inr, Bool, true, false, nat_lt, if◌then◌else◌, le_refl}
 use Rattle.cfn_model.specs.declared.report.Row.{Row}
 use Rattle.cfn_model.specs.Network.{Network}
 use Rattle.cfn_machine.specs.Pool.{Pool, row_of, tree_of}
-use Rattle.cfn_machine.specs.Steps.{PoolNotes, is_last}
+use Rattle.cfn_machine.specs.Steps.{is_last}
+use Rattle.cfn_pool.specs.Answers.{NotesOrWaits}
 use Rattle.cfn_worker.specs.Searching.{IsSearch, GoesOn}
 
 goes_by : (P : Network) (pool : Pool) (a b : Bool) (row : Row) → IsSearch P pool → GoesOn P pool (if a then (if b then pool else record pool { rows = pool.rows ++ row ∷ [] }) else pool)
@@ -16,17 +17,19 @@ goes_by P pool true false row search = record {
 }
 goes_by P pool false b row search = record { search = search; budget_is = refl; shares_are = refl; falls = le_refl pool.view.seen }
 
-pub noted : (P : Network) (pool new : Pool) → PoolNotes P pool new → IsSearch P pool → GoesOn P pool new
-noted P pool new is search =
+pub noted : (P : Network) (pool new : Pool) → NotesOrWaits P pool new → IsSearch P pool → GoesOn P pool new
+noted P pool new (inl is) search =
     let row = row_of P (tree_of pool.tree) pool.view.seen in
     subst (GoesOn P pool) (sym is) (goes_by P pool (nat_lt (length pool.rows) 256) (is_last row pool.rows) row search)
+noted P pool new (inr waits) search = subst (GoesOn P pool) (sym waits.0) (record { search = search; budget_is = refl; shares_are = refl; falls = le_refl pool.view.seen })
 
 same_by : (pool : Pool) (a b : Bool) (row : Row) → (if a then (if b then pool else record pool { rows = pool.rows ++ row ∷ [] }) else pool).nodes ≡ pool.nodes
 same_by pool true true row = refl
 same_by pool true false row = refl
 same_by pool false b row = refl
 
-pub noted_nodes : (P : Network) (pool new : Pool) → PoolNotes P pool new → new.nodes ≡ pool.nodes
-noted_nodes P pool new is =
+pub noted_nodes : (P : Network) (pool new : Pool) → NotesOrWaits P pool new → new.nodes ≡ pool.nodes
+noted_nodes P pool new (inl is) =
     let row = row_of P (tree_of pool.tree) pool.view.seen in
     ap (λ (p : Pool). p.nodes) is ∙ same_by pool (nat_lt (length pool.rows) 256) (is_last row pool.rows) row
+noted_nodes P pool new (inr waits) = ap (λ (p : Pool). p.nodes) waits.0

@@ -1,7 +1,8 @@
 //! What lies under the lock: the pool, a count of its changes, and whether the search has to stop.
 
-ghost use Rattle.std.specs.Prelude.{◌≡◌, ◌+◌, ◌≤◌, IfSome};
+ghost use Rattle.std.specs.Prelude.{◌≡◌, ◌+◌, ◌≤◌, IfOk, IfSome};
 ghost use Rattle.cfn_machine.specs.Word.{all_shares};
+ghost use Rattle.cfn_gate.specs.Telling.{AreBounds};
 ghost use Rattle.cfn_pool.specs.Views.{pool};
 ghost use Rattle.cfn_rota.specs.Values.{access};
 ghost use Rattle.cfn_worker.specs.Searching.{IsSearch};
@@ -9,30 +10,31 @@ ghost use Rattle.cfn_worker.specs.Granting.{IsLimit};
 ghost use Rattle.cfn_worker.specs.Boards.{IsBoard, IsOffered};
 
 use crate::account::Account;
-use crate::errands::Errands;
 use crate::grants::wanted;
-use crate::hand::{InHand, Made};
-use crate::steps::{Asked, hand_in, take};
+use crate::hand::{InHand, Made, Unplaced};
+use crate::lanes::Lanes;
+use crate::steps::{Asked, hand_in, news, take};
+use cfn_gate::{Gate, News};
 use cfn_low::{Incumbent, Low};
 use cfn_net::Network;
 use cfn_pool::Pool;
 use std::marker::{Brand, Model};
 
 /// Which search it is: how many nodes may be made, and how many shares of the word its workers have. No value of it is made.
-pub trait Squad {
+pub trait Crew {
     ghost use Rattle.std.specs.Prelude.{ℕ};
 
     ghost budget: { ℕ };
 
-    ghost crew: { ℕ };
+    ghost workers: { ℕ };
 }
 
 /// The name that one call picks for a search: at such a call the members are those that the caller says, and these are never
 /// read.
-impl Squad for Brand {
+impl Crew for Brand {
     ghost budget = { 0 };
 
-    ghost crew = { 0 };
+    ghost workers = { 0 };
 }
 
 /// How many tasks a worker takes for its lane beside the one that it begins with.
@@ -40,7 +42,7 @@ const MORE_TASKS: u32 = 3;
 
 /// The pool of a search, for all its workers.
 #[derive(Drop)]
-pub struct Board<M: Incumbent + Squad> {
+pub struct Board<M: Incumbent + Crew> {
     held: Pool<M>,
     /// How often it changed so that there may be a leaf to take, modulo 2^64.
     changes: u64,
@@ -48,14 +50,14 @@ pub struct Board<M: Incumbent + Squad> {
     stopped: bool,
 }
 
-impl<M: Incumbent + Squad> Model for Board<M> {
+impl<M: Incumbent + Crew> Model for Board<M> {
     ghost use Rattle.cfn_worker.specs.Boards.{IsBoard};
 
     ghost Value = { Unit {0} };
 
     ghost view = { λ b. tt };
 
-    ghost invariant = { λ b. IsBoard M.network M.budget M.crew b.held };
+    ghost invariant = { λ b. IsBoard M.network M.budget M.workers b.held };
 }
 
 /// The answer to a worker that asks for a leaf.
@@ -68,10 +70,19 @@ pub(crate) enum Offer {
     Over,
 }
 
-impl<M: Incumbent + Squad> Board<M> {
+/// What a worker has of a piece that it gave.
+#[derive(Clone, Copy)]
+pub(crate) struct Given {
+    /// How many backtracks its next dive may make. `None` where the search has stopped.
+    pub next: Option<u64>,
+    /// How far the search is, where the gate asked for it.
+    pub news: Option<News>,
+}
+
+impl<M: Incumbent + Crew> Board<M> {
     /// A pool at the beginning of a search.
     pub fn new(held: Pool<M>) -> Board<M>
-        requires { IsBoard M.network M.budget M.crew held }
+        requires { IsBoard M.network M.budget M.workers held }
     {
         Board {
             held,
@@ -82,7 +93,7 @@ impl<M: Incumbent + Squad> Board<M> {
 
     /// The pool again.
     pub fn into_pool(self) -> Pool<M>
-        ensures { IsBoard M.network M.budget M.crew result }
+        ensures { IsBoard M.network M.budget M.workers result }
     {
         let Board { held, .. } = self;
         held
@@ -105,12 +116,12 @@ impl<M: Incumbent + Squad> Board<M> {
         worker: u32,
         known: bool,
         limit: u64,
-        errands: &mut Errands<M>,
+        lanes: &mut Lanes<M>,
     ) -> Offer
         requires own { network.now ≡ M.network }
         requires limit { IsLimit limit }
         ensures offer { IsOffered M.network result }
-        ensures same { access errands.new ≡ access errands.old }
+        ensures same { access lanes.new ≡ access lanes.old }
     {
         if self.stopped {
             return Offer::Over;
@@ -118,27 +129,27 @@ impl<M: Incumbent + Squad> Board<M> {
         let want = wanted(self.held.nodes() == 0, known, limit, network.variables());
         match take(network, &mut self.held, worker, want) {
             Asked::Task { task } => {
-                let more = self.fill(network, worker, want, errands);
+                let more = self.fill(network, worker, want, lanes);
                 Offer::Task { task, more }
             }
             Asked::Later => Offer::Later {
                 changes: self.changes,
             },
-            Asked::Over => Offer::Over,
+            Asked::Done | Asked::Spent | Asked::Memory => Offer::Over,
         }
     }
 
     /// Takes more leaves for a worker's lane, up to three and up to the first answer other than a task; whether there were some.
-    fn fill(&mut self, network: &Network, worker: u32, want: u64, errands: &mut Errands<M>) -> bool
+    fn fill(&mut self, network: &Network, worker: u32, want: u64, lanes: &mut Lanes<M>) -> bool
         requires own { network.now ≡ M.network }
         requires wants { 1 ≤ want }
-        ensures same { access errands.new ≡ access errands.old }
+        ensures same { access lanes.new ≡ access lanes.old }
     {
         let mut more = false;
         for _ in 0..MORE_TASKS {
             let laid = match take(network, &mut self.held, worker, want) {
-                Asked::Task { task } => task.lay(errands),
-                Asked::Later | Asked::Over => break,
+                Asked::Task { task } => task.lay(lanes),
+                Asked::Later | Asked::Done | Asked::Spent | Asked::Memory => break,
             };
             if let Err(task) = laid {
                 self.back(task);
@@ -152,32 +163,53 @@ impl<M: Incumbent + Squad> Board<M> {
         more
     }
 
-    /// Puts a piece in its leaf's place, and answers how many backtracks the next dive may make. Where it can't, the search
-    /// stops. The answer is `None` where the search has stopped.
-    pub(crate) fn give(
+    /// Puts a piece in its leaf's place. Where there is no memory for it, the search stops; where its leaf is not out any more, it
+    /// is let go. A gate that asks for it gets to know how far the search is.
+    pub(crate) fn give<G: Gate>(
         &mut self,
         network: &Network,
         low: &Low<M>,
         account: &mut Account<M>,
         made: Made,
         limit: u64,
-    ) -> Option<u64>
+        gate: &G,
+    ) -> Given
         requires network { network.now ≡ M.network }
         requires own { made.network ≡ M.network }
         requires least { account.old.least ≤ made.threshold }
         requires limit { IsLimit limit }
         ensures account { account.new ≡ account.old }
-        ensures next { IfSome result IsLimit }
+        ensures next { IfSome result.next IsLimit }
+        ensures news { IfSome result.news (λ news. AreBounds M.network news.bounds) }
     {
         self.tell();
-        let next = hand_in(network, low, &mut self.held, account, made, limit);
+        let before = self.held.seen();
+        let handed = hand_in(network, low, &mut self.held, account, made, limit);
+        let next = next_limit(handed, limit);
         self.stopped = self.stopped || next.is_none();
-        if self.stopped { None } else { next }
+        Given {
+            next: if self.stopped { None } else { next },
+            news: news(network, &self.held, gate, before),
+        }
     }
 
     /// Frees the leaf of a task whose worker ends before it has dived there, for another worker.
     pub(crate) fn back(&mut self, task: InHand) {
         self.tell();
         task.back(&mut self.held);
+    }
+}
+
+/// How many backtracks the next dive may make once a piece was handed in: as many as before where it came too late. `None` where
+/// memory was refused for it.
+fn next_limit(handed: Result<u64, Unplaced>, limit: u64) -> Option<u64>
+    requires handed { IfOk handed IsLimit }
+    requires limit { IsLimit limit }
+    ensures { IfSome result IsLimit }
+{
+    match handed {
+        Ok(next) => Some(next),
+        Err(Unplaced::Late) => Some(limit),
+        Err(Unplaced::Memory) => None,
     }
 }

@@ -4,14 +4,15 @@
 //! its field. The ways out are those of this module: a task is laid in the worker's own lane, dived with or given back, and a
 //! piece is given to the pool.
 
-ghost use Rattle.std.specs.Prelude.{◌≡◌, [], ◌∷◌, ◌++◌, ◌<◌, ◌≤◌, min, length, IfOk, IfErr, IsTrue, IsFalse};
+ghost use Rattle.std.specs.Prelude.{◌≡◌, [], ◌∷◌, ◌++◌, ◌<◌, ◌≤◌, min, length, IfOk, IfErr, OnOk};
 ghost use Rattle.cfn_explore.specs.Falling.{HasFallen};
+ghost use Rattle.cfn_pool.specs.Answers.{IsGiven};
 ghost use Rattle.cfn_pool.specs.Views.{pool};
 ghost use Rattle.cfn_task.specs.Values.{IsTaskOf};
-ghost use Rattle.cfn_worker.specs.Searching.{IsSearch, GoesOn, IsMadeOf, IsReturned, IsLeft};
+ghost use Rattle.cfn_worker.specs.Searching.{IsSearch, GoesOn, IsMadeOf, IsReturned, IsUnplaced};
 
 use crate::account::Account;
-use crate::errands::Errands;
+use crate::lanes::Lanes;
 use cfn_explore::Explore;
 use cfn_low::{Incumbent, Low};
 use cfn_net::Network;
@@ -43,14 +44,14 @@ impl InHand {
 
     /// Lays it in the worker's own lane. An `Err` gives it back, with the lane as it was, and comes only after as many pushes as
     /// the lane has room for.
-    pub(crate) fn lay<M: Incumbent>(self, errands: &mut Errands<M>) -> Result<(), InHand>
+    pub(crate) fn lay<M: Incumbent>(self, lanes: &mut Lanes<M>) -> Result<(), InHand>
         requires own { IsTaskOf M.network self }
-        ensures laid { IfOk result (λ none. errands.new ≡ record errands.old { lane = record errands.old.lane { pushed = errands.old.lane.pushed ++ self ∷ [] } }) }
-        ensures back { IfErr result (λ given. (given ≡ self) × (errands.new ≡ errands.old)) }
-        ensures room { IfErr result (λ given. errands.old.lane.room ≤ length errands.old.lane.pushed) }
+        ensures laid { IfOk result (λ none. lanes.new ≡ record lanes.old { lane = record lanes.old.lane { pushed = lanes.old.lane.pushed ++ self ∷ [] } }) }
+        ensures back { IfErr result (λ given. (given ≡ self) × (lanes.new ≡ lanes.old)) }
+        ensures room { IfErr result (λ given. lanes.old.lane.room ≤ length lanes.old.lane.pushed) }
     {
         let InHand { task } = self;
-        errands.push(task).map_err(InHand::of)
+        lanes.push(task).map_err(InHand::of)
     }
 
     /// Dives below its leaf, with at most `backtracks`, at least 1, and lowers the account's least threshold to the piece's. An
@@ -93,6 +94,15 @@ impl InHand {
     }
 }
 
+/// Why a piece is not in its leaf's place.
+#[derive(Clone, Copy, PartialEq, Eq)]
+pub enum Unplaced {
+    /// Its leaf was not out any more, and the piece was let go.
+    Late,
+    /// There was no memory for it, and its leaf is free again.
+    Memory,
+}
+
 /// A piece that a worker made of a task.
 pub struct Made {
     piece: Piece,
@@ -107,33 +117,36 @@ impl Model for Made {
 }
 
 impl Made {
-    /// Gives it to the pool with an account whose least threshold is at most its own, and answers whether it is in its leaf's
-    /// place: then there are more nodes than before, and the pool has seen no more than the threshold at which it was made.
-    /// Where there is no memory for it, its leaf is free again, if it was out to the task's worker.
+    /// Gives it to the pool with an account whose least threshold is at most its own. Where it is in its leaf's place, there are
+    /// more nodes than before, and the pool has seen no more than the threshold at which it was made.
+    ///
+    /// An `Err` tells why it is not: its leaf was not out at the end of its task's path, and nothing changes; or there was no memory
+    /// for it, and its leaf is free again, if it was out to the task's worker.
     pub(crate) fn give<M: Incumbent>(
         self,
         low: &Low<M>,
         held: &mut Pool<M>,
         account: &mut Account<M>,
-    ) -> bool
+    ) -> Result<(), Unplaced>
         requires own { self.network ≡ M.network }
         requires least { account.old.least ≤ self.threshold }
         requires search { IsSearch M.network (pool held.old) }
         ensures goes { GoesOn M.network (pool held.old) (pool held.new) }
-        ensures more { IsTrue result → (pool held.old).nodes < (pool held.new).nodes }
-        ensures seen { IsTrue result → (pool held.new).view.seen ≤ self.threshold }
-        ensures left { IsFalse result → IsLeft held.old self.task held.new }
+        ensures gives { OnOk result (IsGiven (pool held.old) self account.old.part.seen (pool held.new)) }
+        ensures more { OnOk result ((pool held.old).nodes < (pool held.new).nodes) }
+        ensures seen { OnOk result ((pool held.new).view.seen ≤ self.threshold) }
+        ensures unplaced { IfErr result (λ why. IsUnplaced held.old self.task why held.new) }
         ensures account { account.new ≡ account.old }
     {
         let Made { piece } = self;
         piece.kept();
         let note = account.note(low);
         match held.give(low, piece, note) {
-            Handed::Done => true,
-            Handed::Gone { .. } => false,
+            Handed::Done => Ok(()),
+            Handed::Gone { .. } => Err(Unplaced::Late),
             Handed::Memory { piece, note: _ } => {
                 held.back(piece.task());
-                false
+                Err(Unplaced::Memory)
             }
         }
     }

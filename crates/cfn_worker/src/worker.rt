@@ -4,6 +4,7 @@
 ghost use Rattle.std.specs.Prelude.{◌≡◌, ◌≤◌, [], ◌∷◌, ◌++◌, map, length, IfSome, MatchOption};
 ghost use Rattle.cfn_rota.specs.Balances.{AreWhole, AreWithin};
 ghost use Rattle.cfn_rota.specs.Values.{AreAll, EndsWith, Meets, lanes_of};
+ghost use Rattle.cfn_gate.specs.Telling.{AreBounds};
 ghost use Rattle.cfn_pool.specs.Views.{pool};
 ghost use Rattle.cfn_task.specs.Values.{IsTaskOf};
 ghost use Rattle.cfn_worker.specs.Accounts.{least_of, reach};
@@ -11,12 +12,12 @@ ghost use Rattle.cfn_worker.specs.Boards.{IsOffered};
 ghost use Rattle.cfn_worker.specs.Searching.{IsSearch, GoesOn};
 
 use crate::account::{Account, Threshold};
-use crate::board::{Board, Offer, Squad};
-use crate::errands::Errands;
-use crate::gate::{Gate, Point};
+use crate::board::{Board, Crew, Given, Offer};
 use crate::grants::FEWEST_BACKTRACKS;
 use crate::hand::InHand;
+use crate::lanes::Lanes;
 use cfn_explore::{Explore, Explorers};
+use cfn_gate::{Gate, News, Point};
 use cfn_low::{Holder, Incumbent, Low};
 use cfn_net::Network;
 use cfn_pool::Pool;
@@ -27,12 +28,12 @@ use std::sync::{Condvar, Mutex, Wait};
 /// A worker: its number, how many backtracks its next dive may make, its account of the word, whose part has one share, and
 /// its ends of the lanes of tasks. Contracts see these ends, and the least threshold at which it made a piece.
 ///
-/// It is not `Drop`, so no worker can be let go but by `retire`, once nothing is left in its lane.
+/// It is not `Drop`, so no worker can be let go but by `close`, once nothing is left in its lane.
 pub struct Worker<M: Incumbent> {
     number: u32,
     limit: u64,
     account: Account<M>,
-    errands: Errands<M>,
+    lanes: Lanes<M>,
 }
 
 impl<M: Incumbent> Model for Worker<M> {
@@ -42,14 +43,14 @@ impl<M: Incumbent> Model for Worker<M> {
 
     ghost Value = { WorkerValue };
 
-    ghost view = { λ w. record { ends = w.errands; least = w.account.least } };
+    ghost view = { λ w. record { ends = w.lanes; least = w.account.least } };
 
     ghost invariant = { λ w. (w.account.part.shares ≡ 1) × IsLimit w.limit };
 }
 
 /// What all workers share.
 #[derive(Drop)]
-pub struct Shared<'a, M: Incumbent + Squad, X, G> {
+pub struct Shared<'a, M: Incumbent + Crew, X, G> {
     pub network: &'a Network,
     /// What makes explorers for the network.
     pub explorers: &'a X,
@@ -62,15 +63,15 @@ pub struct Shared<'a, M: Incumbent + Squad, X, G> {
 
 impl<M: Incumbent> Worker<M> {
     /// A worker that has not dived.
-    pub fn new(number: u32, part: Holder<M>, errands: Errands<M>) -> Worker<M>
+    pub fn new(number: u32, part: Holder<M>, lanes: Lanes<M>) -> Worker<M>
         requires { part.shares ≡ 1 }
-        ensures { result ≡ record { ends = errands; least = part.seen } }
+        ensures { result ≡ record { ends = lanes; least = part.seen } }
     {
         Worker {
             number,
             limit: FEWEST_BACKTRACKS,
             account: Account::open(part),
-            errands,
+            lanes,
         }
     }
 
@@ -83,7 +84,7 @@ impl<M: Incumbent> Worker<M> {
         ensures least { self.new.least ≡ self.old.least }
         ensures leasts { map least_of others.new ≡ map least_of others.old }
     {
-        self.errands.absorb_own();
+        self.lanes.absorb_own();
         let mut left = others.len();
         while left > 0 {
             left -= 1;
@@ -100,7 +101,7 @@ impl<M: Incumbent> Worker<M> {
         ensures least { self.new.least ≡ self.old.least }
         ensures other_least { other.new.least ≡ other.old.least }
     {
-        self.errands.exchange(&mut other.errands);
+        self.lanes.exchange(&mut other.lanes);
     }
 
     /// Gives back all that is left in its whole lane.
@@ -123,12 +124,12 @@ impl<M: Incumbent> Worker<M> {
             ((self.new ≡ self.old) × (self.old.ends.lane.parts ≡ 128 → AreWhole self.old.ends.lane.pushed self.old.ends.lane.taken []))
             (λ task. (self.new ≡ record self.old { ends = record self.old.ends { lane = record self.old.ends.lane { taken = self.old.ends.lane.taken ++ task ∷ [] } } }) × (task.network ≡ M.network) × (self.old.ends.lane.parts ≡ 128 → AreWithin self.new.ends.lane.taken self.old.ends.lane.pushed)) }
     {
-        self.errands.pop()
+        self.lanes.pop()
     }
 
     /// Its part of the word, and the least threshold at which it made a piece, where its lane is whole and all that was pushed
     /// there was taken.
-    pub fn retire(self) -> (Holder<M>, Threshold)
+    pub fn close(self) -> (Holder<M>, Threshold)
         requires whole { self.ends.lane.parts ≡ 128 }
         requires empty { AreWhole self.ends.lane.pushed self.ends.lane.taken [] }
         ensures share { result.0.shares ≡ 1 }
@@ -140,13 +141,13 @@ impl<M: Incumbent> Worker<M> {
             number: _,
             limit: _,
             account,
-            errands: _,
+            lanes: _,
         } = self;
         account.close()
     }
 }
 
-impl<M: Incumbent + Squad> Worker<M> {
+impl<M: Incumbent + Crew> Worker<M> {
     /// Takes leaves and dives until there is no leaf to take, or memory is refused, and gives back what its lane holds then.
     /// Its explorer it makes itself, so that its memory is its own thread's.
     pub fn work<X: Explorers, R: Wait, G: Gate>(
@@ -202,7 +203,7 @@ impl<M: Incumbent + Squad> Worker<M> {
         ensures least { self.new.least ≡ self.old.least }
     {
         for _ in rt.forever() {
-            if let Some(task) = self.errands.find() {
+            if let Some(task) = self.lanes.find() {
                 return Some(task);
             }
             match self.ask_board(rt, shared) {
@@ -213,7 +214,7 @@ impl<M: Incumbent + Squad> Worker<M> {
                     return Some(task);
                 }
                 Offer::Later { changes } => {
-                    if let Some(task) = self.errands.steal() {
+                    if let Some(task) = self.lanes.steal() {
                         return Some(task);
                     }
                     self.wait(rt, shared, changes);
@@ -237,7 +238,7 @@ impl<M: Incumbent + Squad> Worker<M> {
             self.number,
             known,
             self.limit,
-            &mut self.errands,
+            &mut self.lanes,
         )
     }
 
@@ -256,7 +257,7 @@ impl<M: Incumbent + Squad> Worker<M> {
         ensures least { self.new.least ≡ self.old.least }
     {
         for _ in rt.forever() {
-            let Some(task) = self.errands.pop() else {
+            let Some(task) = self.lanes.pop() else {
                 break;
             };
             shared.board.lock(rt).back(task);
@@ -288,26 +289,41 @@ impl<M: Incumbent + Squad> Worker<M> {
             self.limit,
         );
         shared.gate.pass(self.number, Point::BeforeGive);
-        let next = match dived {
+        let given = match dived {
             Ok(made) => shared.board.lock(rt).give(
                 shared.network,
                 shared.low,
                 &mut self.account,
                 made,
                 self.limit,
+                shared.gate,
             ),
             Err(task) => {
                 shared.board.lock(rt).back(task);
-                None
+                Given {
+                    next: None,
+                    news: None,
+                }
             }
         };
         shared.changed.notify_all();
-        match next {
+        tell(shared, given.news);
+        match given.next {
             Some(limit) => {
                 self.limit = limit;
                 true
             }
             None => false,
         }
+    }
+}
+
+/// Tells the gate how far the search is, where it asked for it.
+fn tell<M: Incumbent + Crew, X, G: Gate>(shared: &Shared<'_, M, X, G>, news: Option<News>)
+    requires network { shared.now.network.now ≡ M.network }
+    requires hold { IfSome news (λ news. AreBounds M.network news.bounds) }
+{
+    if let Some(news) = news {
+        shared.gate.tell(shared.network, news);
     }
 }

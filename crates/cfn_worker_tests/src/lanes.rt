@@ -1,4 +1,4 @@
-//! Whether what lies in a worker's lane is given back to the pool once the worker ends.
+//! What becomes of the tasks in a worker's lane: they are dived with, or given back to the pool once the worker ends.
 
 ghost use Rattle.std.specs.Prelude.{◌≡◌, [], ◌∷◌, None, IfOk, IfSome};
 ghost use Rattle.cfn_pool.specs.Views.{pool};
@@ -8,13 +8,15 @@ ghost use Rattle.cfn_worker.specs.Accounts.{reach};
 ghost use Rattle.cfn_worker.specs.Boards.{IsBoard};
 ghost use Rattle.cfn_worker.specs.Searching.{IsSearch, GoesOn};
 
-use cfn_dive::Divers;
+use cfn_dive::{Diver, Divers};
+use cfn_explore::Explorers;
+use cfn_gate::OpenGate;
 use cfn_low::{Holder, Incumbent, Low, Unnamed};
 use cfn_net::{Builder, Network, Scored, Tables};
 use cfn_pool::{Pool, Taken};
 use cfn_rota::{Ends, deal};
 use cfn_task::Task;
-use cfn_worker::{Asked, Board, Errand, Errands, OpenGate, ROOM, Shared, Squad, Worker, take};
+use cfn_worker::{Asked, Board, Crew, LaneTasks, Lanes, ROOM, Shared, Worker, take};
 use std::alloc::{AllocError, AllocGlobal, Global};
 use std::marker::Brand;
 use std::sync::{Condvar, Mutex, Wait};
@@ -27,6 +29,26 @@ const BUDGET: u64 = 1_000;
 const WORKER: u32 = 0;
 
 const OTHER: u32 = 1;
+
+/// Makes divers, or wants memory.
+#[derive(Drop)]
+struct Making<'n> {
+    divers: Divers<'n>,
+    refused: bool,
+}
+
+impl<'n> Explorers for Making<'n> {
+    type Explorer = Diver<'n>;
+
+    ghost network = { λ m. m.divers };
+
+    fn make(&self, alloc: Global) -> Result<Diver<'n>, AllocError> {
+        if self.refused {
+            return Err(AllocError);
+        }
+        self.divers.make(alloc)
+    }
+}
 
 /// One variable with two values, of the costs 3 and 1 below 10.
 fn two(alloc: Global) -> Result<Network, AllocError> {
@@ -55,7 +77,7 @@ fn begin<M: Incumbent>(
 }
 
 /// The ends of a single worker. An `Err` is want of memory.
-fn own_ends<M: Incumbent>(alloc: Global) -> Result<Ends<Task, Errand<M>>, AllocError>
+fn own_ends<M: Incumbent>(alloc: Global) -> Result<Ends<Task, LaneTasks<M>>, AllocError>
     ensures { IfOk result (λ own. AreAll (access own ∷ [])) }
 {
     let mut ends = deal(alloc, 1, ROOM)?;
@@ -97,7 +119,7 @@ fn is_free<M: Incumbent>(network: &Network, held: &mut Pool<M>) -> bool
             task.back(held);
             true
         }
-        Asked::Later | Asked::Over => false,
+        Asked::Later | Asked::Done | Asked::Spent | Asked::Memory => false,
     }
 }
 
@@ -106,7 +128,7 @@ fn is_free<M: Incumbent>(network: &Network, held: &mut Pool<M>) -> bool
 fn lays_two<M: Incumbent>(
     network: &Network,
     held: &mut Pool<M>,
-    own: &mut Ends<Task, Errand<M>>,
+    own: &mut Ends<Task, LaneTasks<M>>,
 ) -> bool
     requires own { network.now ≡ M.network }
     requires search { IsSearch M.network (pool held.old) }
@@ -124,25 +146,25 @@ fn lays_two<M: Incumbent>(
 }
 
 /// The pool after a worker has worked alone.
-fn after_work<M: Incumbent + Squad, R: AllocGlobal + Wait>(
+fn after_work<M: Incumbent + Crew, R: AllocGlobal + Wait>(
     rt: &R,
     network: &Network,
-    divers: &Divers<'_>,
+    explorers: &Making<'_>,
     low: &Low<M>,
     held: Pool<M>,
     worker: &mut Worker<M>,
 ) -> Pool<M>
     requires network { network.now ≡ M.network }
-    requires divers { divers.now ≡ M.network }
-    requires board { IsBoard M.network M.budget M.crew held }
-    ensures board { IsBoard M.network M.budget M.crew result }
+    requires explorers { explorers.now.divers ≡ M.network }
+    requires board { IsBoard M.network M.budget M.workers held }
+    ensures board { IsBoard M.network M.budget M.workers result }
     ensures same { reach worker.new ≡ reach worker.old }
 {
     let board = Mutex::new(Board::new(held));
     let changed = Condvar::new();
     let shared = Shared {
         network,
-        explorers: divers,
+        explorers,
         low,
         board: &board,
         changed: &changed,
@@ -162,24 +184,24 @@ fn let_go<M: Incumbent>(alloc: Global, held: &mut Pool<M>, mut worker: Worker<M>
     worker.gather(others.as_mut_slice());
     others.destroy_empty();
     worker.give_left(held);
-    let _retired = worker.retire();
+    let _retired = worker.close();
 }
 
 /// Whether the pool has a leaf after a worker has worked, before it is let go.
-fn free_after_work<M: Incumbent + Squad, R: AllocGlobal + Wait>(
+fn free_after_work<M: Incumbent + Crew, R: AllocGlobal + Wait>(
     rt: &R,
     network: &Network,
-    divers: &Divers<'_>,
+    explorers: &Making<'_>,
     low: &Low<M>,
     held: Pool<M>,
     mut worker: Worker<M>,
 ) -> bool
     requires network { network.now ≡ M.network }
-    requires divers { divers.now ≡ M.network }
-    requires board { IsBoard M.network M.budget M.crew held }
+    requires explorers { explorers.now.divers ≡ M.network }
+    requires board { IsBoard M.network M.budget M.workers held }
     requires all { AreAll (reach worker ∷ []) }
 {
-    let mut held = after_work(rt, network, divers, low, held, &mut worker);
+    let mut held = after_work(rt, network, explorers, low, held, &mut worker);
     let free = is_free(network, &mut held);
     let_go(rt.alloc(), &mut held, worker);
     free
@@ -200,21 +222,35 @@ fn free_without_work<M: Incumbent>(
     is_free(network, &mut held)
 }
 
-/// Whether the pool has a leaf while the only one lies in a worker's lane, and once the worker ended, by its work or without.
-fn asked<M: Incumbent + Squad, R: AllocGlobal + Wait>(
+/// The one worker, with these ends.
+fn worker_of<M: Incumbent>(part: Holder<M>, own: Ends<Task, LaneTasks<M>>) -> Worker<M>
+    requires share { part.shares ≡ 1 }
+    requires all { AreAll (access own ∷ []) }
+    ensures all { AreAll (reach result ∷ []) }
+{
+    Worker::new(WORKER, part, Lanes::of(own))
+}
+
+/// Whether tasks were laid in a worker's lane, and whether the pool has a leaf while the only one lies there, and once the worker
+/// was let go, after its work or without. Where it is refused, its work ends before it has an explorer.
+fn asked<M: Incumbent + Crew, R: AllocGlobal + Wait>(
     rt: &R,
     network: &Network,
     unnamed: Unnamed,
     works: bool,
-) -> Result<(bool, bool), AllocError>
+    refused: bool,
+) -> Result<(bool, bool, bool), AllocError>
     requires table { M.table ≡ unnamed.table }
     requires network { M.network ≡ unnamed.network }
     requires own { network.now ≡ unnamed.network }
     requires budget { M.budget ≡ 1000 }
-    requires crew { M.crew ≡ 1 }
+    requires crew { M.workers ≡ 1 }
 {
     let tables = Tables::expand(rt.alloc(), network)?;
-    let divers = Divers::over(network, &tables);
+    let explorers = Making {
+        divers: Divers::over(network, &tables),
+        refused,
+    };
     let empty = Scored::empty(rt.alloc(), network)?;
     let mut own = own_ends(rt.alloc())?;
     let (low, mut holder) = unnamed.named::<M>();
@@ -222,30 +258,41 @@ fn asked<M: Incumbent + Squad, R: AllocGlobal + Wait>(
     let mut held = begin(rt.alloc(), network, holder)?;
     let laid = lays_two(network, &mut held, &mut own);
     let before = is_free(network, &mut held);
-    let worker = Worker::new(WORKER, part, Errands::of(own));
+    let worker = worker_of(part, own);
     let after = if works {
-        free_after_work(rt, network, &divers, &low, held, worker)
+        free_after_work(rt, network, &explorers, &low, held, worker)
     } else {
         free_without_work(rt.alloc(), network, held, worker)
     };
-    Ok((before, laid && after))
+    Ok((laid, before, after))
 }
 
 /// The same in a network of one variable.
-fn in_two<R: AllocGlobal + Wait>(rt: &R, works: bool) -> Result<(bool, bool), AllocError> {
+fn in_two<R: AllocGlobal + Wait>(
+    rt: &R,
+    works: bool,
+    refused: bool,
+) -> Result<(bool, bool, bool), AllocError> {
     let network = two(rt.alloc())?;
     let unnamed = Unnamed::make(rt.alloc(), &network)?;
-    asked::<Brand, R>(rt, &network, unnamed, works)
+    asked::<Brand, R>(rt, &network, unnamed, works, refused)
 }
 
 #[test]
 fn worker_that_ends_gives_its_lane_back(rt: HostRuntime) -> Result<(), Fail> {
-    assert!(rt; in_two(&rt, true)? == (false, true));
+    assert!(rt; in_two(&rt, true, true)? == (true, false, true));
     Ok(())
 }
 
 #[test]
 fn what_is_left_in_a_lane_is_given_back(rt: HostRuntime) -> Result<(), Fail> {
-    assert!(rt; in_two(&rt, false)? == (false, true));
+    assert!(rt; in_two(&rt, false, false)? == (true, false, true));
+    Ok(())
+}
+
+/// The first piece comes too late and is let go; by the second the search is done.
+#[test]
+fn worker_goes_on_after_a_piece_that_comes_too_late(rt: HostRuntime) -> Result<(), Fail> {
+    assert!(rt; in_two(&rt, true, false)? == (true, false, false));
     Ok(())
 }

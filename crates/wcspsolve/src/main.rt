@@ -1,19 +1,22 @@
-//! The program: the words of its command line, real files, standard output, and the one call that does all.
+//! The program: the words of its command line, real files, standard output, lines of progress on standard error, and the one
+//! call that does all.
 #![tactic(auto)]
 
 ghost use Rattle.std.specs.Prelude.{◌≡◌, [], IfOk};
 ghost use Rattle.wcspsolve.specs.Ending.{Ended, Ran};
 
-use cfn_app::{OpenGate, Status, run};
+use cfn_app::{Status, run};
 use cfn_desk::HostDesk;
+use cfn_progress::Progress;
 use std::alloc::{AllocError, AllocGlobal};
 use std::env;
 use std::env::{Args, Env};
 use std::fs::Files;
-use std::io::{Eprint, ErrorKind, Print};
+use std::io::{Eprint, ErrorKind, IsTerminal, Print};
 use std::process::{ExitCode, Termination};
 use std::sync::Wait;
 use std::thread::Threads;
+use std::time::Clock;
 
 /// The number that the program ends with. It keeps that a run ended so.
 #[derive(Drop)]
@@ -34,16 +37,21 @@ impl Termination for Exit {
 }
 
 fn main(rt: HostRuntime) -> Exit {
+    let terminal = rt.stderr().is_terminal();
     Exit {
-        number: exit_number(&rt),
+        number: exit_number(&rt, terminal),
     }
 }
 
-/// Runs the program, and answers the number of its status, or 6 where memory was refused before there was a run.
-fn exit_number<R: Env + AllocGlobal + Files + Print + Eprint + Threads + Wait + Sync>(rt: &R) -> u8
+/// Runs the program, and answers the number of its status, or 6 where memory was refused before there was a run. `terminal` is
+/// whether standard error is a terminal.
+fn exit_number<R: Env + AllocGlobal + Files + Print + Eprint + Clock + Threads + Wait + Sync>(
+    rt: &R,
+    terminal: bool,
+) -> u8
     ensures { Ended result }
 {
-    match end_of(rt) {
+    match end_of(rt, terminal) {
         Ok(status) => status.code(),
         Err(AllocError) => Status::NoMemory.code(),
     }
@@ -51,24 +59,27 @@ fn exit_number<R: Env + AllocGlobal + Files + Print + Eprint + Threads + Wait + 
 
 /// Runs the program on the words of its command line. Words that are not UTF-8 are no command. An `Err` is want of
 /// memory before there was a run.
-fn end_of<R: Env + AllocGlobal + Files + Print + Eprint + Threads + Wait + Sync>(
+fn end_of<R: Env + AllocGlobal + Files + Print + Eprint + Clock + Threads + Wait + Sync>(
     rt: &R,
+    terminal: bool,
 ) -> Result<Status, AllocError>
     ensures { IfOk result (λ status. Ran status) }
 {
+    let progress = Progress::new(rt, terminal);
     let mut desk = HostDesk::make(rt)?;
     match env::args(rt) {
-        Ok(words) => run_words(rt, words, &mut desk),
+        Ok(words) => run_words(rt, words, &mut desk, &progress),
         Err(e) if e.kind() == ErrorKind::OutOfMemory => Err(AllocError),
-        Err(_) => Ok(run(rt, rt.alloc(), &[], &mut desk, &OpenGate)),
+        Err(_) => Ok(run(rt, rt.alloc(), &[], &mut desk, &progress)),
     }
 }
 
 /// Runs the program on words.
-fn run_words<R: AllocGlobal + Files + Print + Eprint + Threads + Wait + Sync>(
+fn run_words<R: AllocGlobal + Files + Print + Eprint + Clock + Threads + Wait + Sync>(
     rt: &R,
     words: Args,
     desk: &mut HostDesk<R>,
+    progress: &Progress<'_, R>,
 ) -> Result<Status, AllocError>
     requires { desk.old.calls ≡ [] }
     ensures { IfOk result (λ status. Ran status) }
@@ -81,5 +92,5 @@ fn run_words<R: AllocGlobal + Files + Print + Eprint + Threads + Wait + Sync>(
     for word in &kept {
         borrowed.push(word.as_str())?;
     }
-    Ok(run(rt, rt.alloc(), &borrowed, desk, &OpenGate))
+    Ok(run(rt, rt.alloc(), &borrowed, desk, progress))
 }

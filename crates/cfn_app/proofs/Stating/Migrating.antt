@@ -17,7 +17,7 @@ use Rattle.cfn_app.specs.declared.status.Status.TheVariants.{Done, Refused, Disp
 use Rattle.cfn_app.specs.Endings.{Ends, IsHindered}
 use Rattle.cfn_app.specs.Loading.{ReadsAs, RefusesAs, Paired, Tells}
 use Rattle.cfn_app.specs.Runs.Checking.{Verifies}
-use Rattle.cfn_app.specs.Runs.Solving as solving
+use Rattle.cfn_app.specs.Endings as endings
 use Rattle.cfn_app.specs.Runs.Migrating.{Migrates, Rewrites, Upgrades}
 use Rattle.cfn_app.specs.Runs.Migrating as migrating
 use Rattle.cfn_app.specs.Saying.{Counts}
@@ -30,8 +30,8 @@ use Rattle.cfn_app.proofs.Writing.{stored_at, output_counts, output_idle}
 module _ (ask : MigrateRequest) (old new : Outside) (status : Status) where
   says_upgraded : (P : Network) (text : List ℕ) (middle : Outside) → Paired Wcsp ask.file ask.certificate old P text middle → (c : Certificate) → Verifies P text c → Rewrites (spelling (in_second c)) ask.out middle new status → MigrateSays ask old new status
   says_upgraded P text middle paired c verifies (migrating.unopened same ends) = by (MigrateSays ask old new) _ new.calls status ends (λ calls. tt) tt
-  says_upgraded P text middle paired c verifies (migrating.put_out (solving.unwritten last not same ends)) = by (MigrateSays ask old new) _ new.calls status ends (λ calls. tt) tt
-  says_upgraded P text middle paired c verifies (migrating.put_out (solving.wrote last wrote same ends)) = by (MigrateSays ask old new) _ new.calls status ends (λ calls. record {
+  says_upgraded P text middle paired c verifies (migrating.put_out (endings.unwritten last not same ends)) = by (MigrateSays ask old new) _ new.calls status ends (λ calls. tt) tt
+  says_upgraded P text middle paired c verifies (migrating.put_out (endings.wrote last wrote same ends)) = by (MigrateSays ask old new) _ new.calls status ends (λ calls. record {
     network = P;
     text = text;
     certificate = c;
@@ -63,8 +63,8 @@ module _ (ask : MigrateRequest) (old new : Outside) (status : Status) where
   -- a certificate that is written is good, or the run was hindered
   rewritten : (second : List ℕ) (before : Outside) → Rewrites second ask.out before new status → (status ≡ Done) ⊎ IsHindered status
   rewritten second before (migrating.unopened same ends) = by_due Done _ new.calls status ends (inr (inl refl))
-  rewritten second before (migrating.put_out (solving.unwritten last not same ends)) = by_due Done _ new.calls status ends (inr (inl refl))
-  rewritten second before (migrating.put_out (solving.wrote last wrote same ends)) = by_due Done _ new.calls status ends (inl refl)
+  rewritten second before (migrating.put_out (endings.unwritten last not same ends)) = by_due Done _ new.calls status ends (inr (inl refl))
+  rewritten second before (migrating.put_out (endings.wrote last wrote same ends)) = by_due Done _ new.calls status ends (inl refl)
 
   -- a good certificate
   judged_migrated : (P Q : Network) (text words : List ℕ) (c : Certificate) (before : Outside) → Q ≡ P → words ≡ text → Spells c text → Good P c → Upgrades Q words ask.out before new status → (status ≡ Done) ⊎ IsHindered status

@@ -15,7 +15,9 @@ use Rattle.cfn_app.specs.Endings.{Ending, Ends, IsHindered}
 use Rattle.cfn_app.specs.Headline.{Promise}
 use Rattle.cfn_app.specs.Loading.{ReadsAs, RefusesAs, Tells, loaded}
 use Rattle.cfn_app.specs.Loading as loading
-use Rattle.cfn_app.specs.Runs.Solving.{Outputs, Searches, Solves, status_of}
+use Rattle.cfn_app.specs.Endings.{Outputs}
+use Rattle.cfn_app.specs.Endings as endings
+use Rattle.cfn_app.specs.Runs.Solving.{Searches, Solves, status_of}
 use Rattle.cfn_app.specs.Runs.Solving as solving
 use Rattle.cfn_app.specs.Saying.{Counts}
 use Rattle.cfn_app.specs.Runs.Solving.{SolveSays, Solved, IsReported, SolveStatus}
@@ -33,8 +35,8 @@ module _ (ask : SolveRequest) (old new : Outside) where
   module _ (status : Status) where
     says_output : (bytes : List ℕ) (P : Network) (nodes : ℕ) (c : Certificate) (rows : List Row) (word : ResultWord) → HasFile old ask.file bytes → ReadsAs ask.format bytes P → Promise P ask.budget nodes c rows word →
         Outputs (spelling c) (report ask.workers c rows nodes word) (status_of word) (after (Open ask.certificate true) (after (Load ask.file (Bytes bytes)) old)) new status → SolveSays ask old new status
-    says_output bytes P nodes c rows word has reads promise (solving.unwritten middle not same ends) = by (SolveSays ask old new) _ new.calls status ends (λ calls. tt) tt
-    says_output bytes P nodes c rows word has reads promise (solving.wrote middle wrote same ends) = by (SolveSays ask old new) _ new.calls status ends (λ calls. reported word (record {
+    says_output bytes P nodes c rows word has reads promise (endings.unwritten middle not same ends) = by (SolveSays ask old new) _ new.calls status ends (λ calls. tt) tt
+    says_output bytes P nodes c rows word has reads promise (endings.wrote middle wrote same ends) = by (SolveSays ask old new) _ new.calls status ends (λ calls. reported word (record {
       bytes = bytes;
       network = P;
       nodes = nodes;
@@ -80,8 +82,8 @@ module _ (ask : SolveRequest) (old new : Outside) where
     search_reported : (P : Network) (before : Outside) → Searches P ask before new status → IsReported status ⊎ IsHindered status
     search_reported P before (solving.unopened same ends) = by_result _ ends (inr (inl refl))
     search_reported P before (solving.no_memory same ends) = by_result _ ends (inr (inr refl))
-    search_reported P before (solving.searched nodes c rows word promise (solving.unwritten middle not same ends)) = by_result _ ends (inr (inl refl))
-    search_reported P before (solving.searched nodes c rows word promise (solving.wrote middle wrote same ends)) = by_result _ ends (word_reported word)
+    search_reported P before (solving.searched nodes c rows word promise (endings.unwritten middle not same ends)) = by_result _ ends (inr (inl refl))
+    search_reported P before (solving.searched nodes c rows word promise (endings.wrote middle wrote same ends)) = by_result _ ends (word_reported word)
 
     says_solved : (bytes : List ℕ) (P : Network) → Tells old ask.file bytes → ReadsAs ask.format bytes P → Solves ask old new status → IsReported status ⊎ IsHindered status
     says_solved bytes P told reads (solving.unloaded same (loading.unread ends)) = by_result _ ends (inr (inl refl))

@@ -10,10 +10,9 @@ use Rattle.cfn_cli.specs.Request.Migrating.{MigrateRequest}
 use Rattle.cfn_app.specs.declared.status.Status.{Status}
 use Rattle.cfn_app.specs.declared.status.Status.TheVariants.{Done, Fault, NoMemory, Disproved, Nothing, BudgetSpent, Usage, Refused}
 use Rattle.cfn_cli.specs.declared.format.Format.TheVariants.{Wcsp}
-use Rattle.cfn_app.specs.Endings.{Ends, IsHindered}
+use Rattle.cfn_app.specs.Endings.{Ends, IsHindered, Outputs}
 use Rattle.cfn_app.specs.Loading.{Paired, Unpaired, ReadsAs, RefusesAs, Tells}
 use Rattle.cfn_app.specs.Runs.Checking.{Verifies}
-use Rattle.cfn_app.specs.Runs.Solving.{Outputs}
 use Rattle.cfn_wcnf.specs.declared.fault.Unread.{Unread as FirstUnread}
 use Rattle.cfn_app.specs.Saying.{SaysNoMemory, Refuted, PairRefused}
 use Rattle.cfn_fault.specs.Fault as faults

@@ -5,14 +5,12 @@ use Rattle.cfn_model.specs.declared.report.ResultWord.{ResultWord}
 use Rattle.cfn_model.specs.Network.{Network}
 use Rattle.cfn_model.specs.Certificate.{Solution, Certificate}
 use Rattle.cfn_model.specs.Text.{spelling, report, write_fault_text, memory_fault_text}
-use Rattle.cfn_desk.specs.Outside.{Outside, Call, Load, Open, Close, Discard, Bytes, HasFile, Stored, StoredOrSame, after, puts, written, Writing, says}
-use Rattle.cfn_line.specs.Appending.{IsCut}
-use Rattle.cfn_line.specs.declared.channel.Channel.TheVariants.{File}
+use Rattle.cfn_desk.specs.Outside.{Outside, Load, Open, Close, Discard, Bytes, HasFile, Stored, after, puts, Writing, says}
 use Rattle.cfn_proof.specs.declared.outcome.Stop.{Stop}
 use Rattle.cfn_cli.specs.Request.Solving.{SolveRequest}
 use Rattle.cfn_app.specs.declared.status.Status.{Status}
 use Rattle.cfn_app.specs.declared.status.Status.TheVariants.{Done, Nothing, BudgetSpent, Fault, NoMemory, Usage, Refused, Disproved}
-use Rattle.cfn_app.specs.Endings.{Ends, IsHindered}
+use Rattle.cfn_app.specs.Endings.{Ends, Outputs, IsHindered}
 use Rattle.cfn_app.specs.Headline.{Promise}
 use Rattle.cfn_app.specs.Loading.{ReadsAs, Unloaded, Unread, loaded, RefusesAs, Tells}
 use Rattle.cfn_wcnf.specs.declared.fault.Unread.{Unread as FirstUnread}
@@ -36,22 +34,6 @@ abbrev pub word_of : Stop → Option Solution → ResultWord
 word_of stops.Done best = word_when_done best
 word_of stops.Budget best = words.Budget
 word_of stops.Memory best = words.Memory
-
--- A text was written into the file that was opened, and the file closed: its name has the text.
-pub record Wrote (text : List ℕ) (old new : Outside) : Type 0 where
-  pub calls : new.calls ≡ Close true ∷ puts text old.calls
-  pub stored : Stored old.files (written (puts text old.calls)) new.files
-
--- A text was not written: a piece of it failed, and the file was dropped; or the closing failed.
-pub data NotWritten (text : List ℕ) (old new : Outside) : Type 0 where
-  dropped : (cut : List Call) → IsCut File old.calls text cut → new ≡ record { calls = Discard ∷ cut; files = old.files } → NotWritten text old new
-  unclosed : new.calls ≡ Close false ∷ puts text old.calls → StoredOrSame old.files (written (puts text old.calls)) new.files → NotWritten text old new
-
--- How a run ends that writes a certificate into the file that was opened, and then says its report: the certificate stands
--- before a byte of the report is said, and where it does not stand that is said.
-pub data Outputs (certificate report : List ℕ) (due : Status) (old new : Outside) (status : Status) : Type 0 where
-  unwritten : (middle : Outside) → NotWritten certificate old middle → new.files ≡ middle.files → Ends (record { calls = middle.calls; text = write_fault_text; status = Fault }) new.calls status → Outputs certificate report due old new status
-  wrote : (middle : Outside) → Wrote certificate old middle → new.files ≡ middle.files → Ends (record { calls = middle.calls; text = report; status = due }) new.calls status → Outputs certificate report due old new status
 
 -- How a run ends that searches a network: its certificate can't be opened for writing; or memory is refused before there
 -- is anything to report, and the file is dropped; or what the search promises is written and said.

@@ -7,7 +7,7 @@ ghost use Rattle.cfn_app.specs.Runs.Checking.{Checks, Judges};
 use crate::loading::load_pair;
 use crate::status::{Status, ending};
 use cfn_check::{Check, check};
-use cfn_cli::CheckArguments;
+use cfn_cli::commands::CheckArguments;
 use cfn_desk::Desk;
 use cfn_net::Network;
 use std::alloc::{AllocError, Global};

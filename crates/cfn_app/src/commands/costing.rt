@@ -6,7 +6,7 @@ ghost use Rattle.cfn_app.specs.Runs.Costing.{Costs, Prices};
 
 use crate::loading::{load_bytes, read_bytes};
 use crate::status::{Status, ending};
-use cfn_cli::CostArguments;
+use cfn_cli::commands::CostArguments;
 use cfn_desk::Desk;
 use cfn_net::{Fit, Network};
 use std::alloc::Global;

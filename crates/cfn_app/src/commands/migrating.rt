@@ -6,13 +6,14 @@ ghost use Rattle.cfn_certwrite.specs.Upgrading.{upgraded};
 ghost use Rattle.cfn_report.specs.Texts.{migrated_text};
 ghost use Rattle.cfn_cli.specs.Request.Migrating.{spoken_migrate};
 ghost use Rattle.cfn_app.specs.declared.status.Status.TheVariants.{Done};
-ghost use Rattle.cfn_app.specs.Runs.Solving.{NotWritten, Outputs, Wrote};
+ghost use Rattle.cfn_app.specs.Endings.{NotWritten, Outputs, Wrote};
 ghost use Rattle.cfn_app.specs.Runs.Migrating.{Migrates, Rewrites, Upgrades};
 
 use crate::loading::load_pair;
 use crate::status::{Status, ending};
 use cfn_check::{Check, check};
-use cfn_cli::{Format, MigrateArguments};
+use cfn_cli::Format;
+use cfn_cli::commands::MigrateArguments;
 use cfn_desk::{Desk, Failed};
 use cfn_net::Network;
 use std::alloc::{AllocError, Global};

@@ -10,7 +10,7 @@ ghost use Rattle.cfn_app.specs.Runs.Normalizing.{Normalizes};
 
 use crate::loading::{load_bytes, read_bytes};
 use crate::status::{Status, ending};
-use cfn_cli::NormalArguments;
+use cfn_cli::commands::NormalArguments;
 use cfn_desk::Desk;
 use cfn_net::Network;
 use cfn_wcspwrite::reads_back;

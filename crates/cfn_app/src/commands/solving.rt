@@ -8,11 +8,12 @@ ghost use Rattle.cfn_app.specs.Runs.Solving.{Searches, Solves};
 
 use crate::loading::{load_bytes, read_bytes};
 use crate::output::put_out;
+use crate::searching::search;
 use crate::status::{Status, ending};
-use cfn_cli::SolveArguments;
+use cfn_cli::commands::SolveArguments;
 use cfn_desk::Desk;
 use cfn_net::Network;
-use cfn_solve::{Gate, solve_together};
+use cfn_solve::Gate;
 use std::alloc::{AllocError, Global};
 use std::sync::Wait;
 use std::thread::Threads;
@@ -62,7 +63,7 @@ fn open_and_search<R: Threads + Wait + Sync, D: Desk, G: Gate + Sync>(
     }
     network.limits();
     let workers = u32::from(ask.workers);
-    match solve_together(rt, alloc, network, workers, ask.budget, gate) {
+    match search(rt, alloc, network, workers, ask.budget, ask.progress, gate) {
         Ok(found) => put_out(&found, workers, desk),
         Err(AllocError) => {
             desk.discard_out();

@@ -5,14 +5,15 @@ ghost use Rattle.cfn_model.specs.Network.{Least, cost};
 ghost use Rattle.cfn_cli.specs.Request.Trying.{spoken_trial};
 ghost use Rattle.cfn_app.specs.Runs.Trying.{Tries};
 
+use crate::searching::search;
 use crate::status::{Status, ending};
-use cfn_cli::TrialArguments;
+use cfn_cli::commands::TrialArguments;
 use cfn_desk::Desk;
 use cfn_gen::{allowing_law, instance};
 use cfn_model::GREATEST;
 use cfn_net::Network;
 use cfn_proof::Stop;
-use cfn_solve::{Gate, solve_together};
+use cfn_solve::Gate;
 use std::alloc::{AllocError, Global};
 use std::sync::Wait;
 use std::thread::Threads;
@@ -64,7 +65,7 @@ fn least_cost<R: Threads + Wait + Sync, G: Gate + Sync>(
     ensures { IfOk result (λ least. Least network.now least) }
 {
     network.limits();
-    let found = solve_together(rt, alloc, network, workers, GREATEST, gate)?;
+    let found = search(rt, alloc, network, workers, GREATEST, false, gate)?;
     match found.outcome.stop {
         Stop::Done => Ok(found.outcome.certificate.lower),
         Stop::Budget | Stop::Memory => Err(AllocError),

@@ -1,16 +1,16 @@
 -- The command `solve`: its part of the command line, what it is asked, and how that is read.
-use Rattle.std.specs.Prelude.{ℕ, ◌≤◌, List, Option, Some, None}
+use Rattle.std.specs.Prelude.{ℕ, ◌≤◌, Bool, List, Option, Some, None}
 use Rattle.std.specs.Prelude.{option_map, option_and_then, if◌then◌else◌, codes, string_bytes}
 use Rattle.std.specs.Str.{bytes_eq}
 use Rattle.clap.specs.Words.{App, Row, Text, first_of, new_app, with_rule}
-use Rattle.cfn_cli.specs.Arguments.{budget_rule, certificate_rule, file_rule, format_of, number_of, wcnf_rule, workers_rule}
+use Rattle.cfn_cli.specs.Arguments.{budget_rule, certificate_rule, file_rule, flag_of, format_of, number_of, progress_rule, wcnf_rule, workers_rule}
 use Rattle.cfn_cli.specs.declared.format.Format.{Format}
 use Rattle.cfn_cli.specs.declared.commands.solve.SolveArguments.{SolveArguments}
 
--- solve FILE CERT [--workers W] [--budget B] [--wcnf]
+-- solve FILE CERT [--workers W] [--budget B] [--wcnf] [--progress]
 unfoldable pub solve_app : App
-solve_app = with_rule (with_rule (with_rule (with_rule (with_rule (new_app (codes "solve")) file_rule)
-    certificate_rule) workers_rule) budget_rule) wcnf_rule
+solve_app = with_rule (with_rule (with_rule (with_rule (with_rule (with_rule (new_app (codes "solve")) file_rule)
+    certificate_rule) workers_rule) budget_rule) wcnf_rule) progress_rule
 
 pub record SolveRequest : Type 0 where
   pub file : Text
@@ -18,6 +18,7 @@ pub record SolveRequest : Type 0 where
   pub workers : ℕ
   pub budget : ℕ
   pub format : Format
+  pub progress : Bool
 
 -- The request that the arguments hold.
 abbrev pub spoken_solve : SolveArguments → SolveRequest
@@ -27,6 +28,7 @@ spoken_solve a = record {
   workers = a.workers;
   budget = a.budget;
   format = a.format;
+  progress = a.progress;
 }
 
 -- What the rows of `solve` say.
@@ -38,6 +40,7 @@ solve_in rows = option_and_then (λ file. option_and_then (λ certificate.
       workers = workers;
       budget = budget;
       format = format_of rows;
+      progress = flag_of (codes "progress") rows;
     }) (number_of (codes "budget") 0 9223372036854775807 rows))
     (number_of (codes "workers") 1 64 rows))
     (first_of (codes "certificate") rows)) (first_of (codes "file") rows)

@@ -5,10 +5,10 @@ ghost use Rattle.clap.specs.Words.{found_of, rows_of};
 ghost use Rattle.cfn_cli.specs.Building.{Builds};
 ghost use Rattle.cfn_cli.specs.Request.Solving.{IsSolveWithin, solve_app, solve_in, solve_of, spoken_solve};
 
-use crate::arguments::{budget, certificate, file, wcnf, workers};
+use crate::arguments::{budget, certificate, file, progress, wcnf, workers};
 use crate::fault::CliFault;
 use crate::format::Format;
-use crate::found::{MOST_WORKERS, format, number, text};
+use crate::found::{MOST_WORKERS, flag, format, number, text};
 use clap::{ArgMatches, Command};
 use std::alloc::{AllocError, Global};
 
@@ -29,6 +29,8 @@ pub struct SolveArguments {
     pub budget: u64,
     /// The format of the file: wcnf exactly where the words say so.
     pub format: Format,
+    /// Whether the words ask to be told how far the search is.
+    pub progress: bool,
 }
 
 pub(crate) fn line<'a>(alloc: Global) -> Result<Command<'a>, AllocError>
@@ -39,7 +41,8 @@ pub(crate) fn line<'a>(alloc: Global) -> Result<Command<'a>, AllocError>
         .arg(certificate(alloc))?
         .arg(workers(alloc))?
         .arg(budget(alloc))?
-        .arg(wcnf(alloc))
+        .arg(wcnf(alloc))?
+        .arg(progress(alloc))
 }
 
 /// What is asked of `solve`, whose certificate has another name than its file.
@@ -73,5 +76,6 @@ fn arguments(alloc: Global, found: &ArgMatches<'_>) -> Result<SolveArguments, Cl
         workers: workers as u8,
         budget,
         format: format(found),
+        progress: flag(found, "progress"),
     })
 }

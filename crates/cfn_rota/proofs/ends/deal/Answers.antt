@@ -20,8 +20,8 @@ loop-lane-preserved g c =
       left_parts = rest (λ lane. lane.parts + workers ≡ 128) _ _ _ lanes so_far.left_parts;
       parts = added (λ ends. ends.lane.parts + workers ≡ 128) _ _ _ pushed so_far.parts (last (λ lane. lane.parts + workers ≡ 128) _ _ _ lanes so_far.left_parts);
       order = order_more (λ lane. lane.lane) access _ _ _ _ _ _ _ lanes pushed refl so_far.order;
-      hired = rest (λ theirs. lanes_of theirs.items ≡ all) _ _ _ thieves so_far.hired;
-      all = added (λ ends. lanes_of ends.thieves ≡ all) _ _ _ pushed so_far.all (last (λ theirs. lanes_of theirs.items ≡ all) _ _ _ thieves so_far.hired);
+      known = rest (λ theirs. lanes_of theirs.items ≡ all) _ _ _ thieves so_far.known;
+      all = added (λ ends. lanes_of ends.thieves ≡ all) _ _ _ pushed so_far.all (last (λ theirs. lanes_of theirs.items ≡ all) _ _ _ thieves so_far.known);
     }
 
 pub returns-clause-all : goal.returns-clause-all

@@ -12,7 +12,7 @@ invariant-loop-lane g l = record {
   left_parts : All (λ lane. lane.parts + l.workers ≡ 128) l.lanes.items;
   parts : All (λ ends. ends.lane.parts + l.workers ≡ 128) l.all.items;
   order : map (λ lane. lane.lane) l.lanes.items ++ own_lanes (reverse (map access l.all.items)) ≡ map (λ lane. lane.lane) l.initial.lanes.items;
-  hired : All (λ theirs. lanes_of theirs.items ≡ map (λ lane. lane.lane) l.initial.lanes.items) l.thieves.items;
+  known : All (λ theirs. lanes_of theirs.items ≡ map (λ lane. lane.lane) l.initial.lanes.items) l.thieves.items;
   all : All (λ ends. lanes_of ends.thieves ≡ map (λ lane. lane.lane) l.initial.lanes.items) l.all.items;
 }
 

@@ -9,5 +9,5 @@ invariant-loop g l = record {
   new : All (IsNew l.room) l.all.items;
   parts : All (λ lane. lane.parts + length l.fn.thieves ≡ 128) l.all.items;
   thieves : length l.thieves ≡ length l.fn.thieves;
-  hired : All (λ theirs. lanes_of theirs.items ≡ map (λ lane. lane.lane) l.all.items) l.thieves;
+  known : All (λ theirs. lanes_of theirs.items ≡ map (λ lane. lane.lane) l.all.items) l.thieves;
 }

@@ -3,5 +3,5 @@ use Rattle.cfn_worker_tests.proofs.lanes.in_two.Given as goal
 abbrev pub ghosts-asked-M-Incumbent : goal.ghosts-asked-M-Incumbent
 ghosts-asked-M-Incumbent g a = record { table = a.unnamed.table; network = a.unnamed.network }
 
-abbrev pub ghosts-asked-M-Squad : goal.ghosts-asked-M-Squad
-ghosts-asked-M-Squad g a = record { budget = 1000; crew = 1 }
+abbrev pub ghosts-asked-M-Crew : goal.ghosts-asked-M-Crew
+ghosts-asked-M-Crew g a = record { budget = 1000; workers = 1 }

@@ -1,6 +1,6 @@
 use Rattle.std.proofs.Common.{◌≡◌, List, Some, None, refl, codes, ℕ}
 use Rattle.clap.specs.Words.{Row, Text, first_of}
-use Rattle.cfn_cli.specs.Arguments.{format_of, number_of}
+use Rattle.cfn_cli.specs.Arguments.{flag_of, format_of, number_of}
 use Rattle.cfn_cli.specs.Request.Solving.{solve_in}
 use Rattle.cfn_cli.proofs.Asking.{nothing_asked}
 use Rattle.cfn_cli.proofs.commands.solve.arguments.Goals as goal
@@ -8,7 +8,7 @@ use Rattle.cfn_cli.proofs.commands.solve.arguments.Goals as goal
 solve_made : (rows : List Row) (file certificate : Text) (workers budget : ℕ) → first_of (codes "file") rows ≡ Some file
     → first_of (codes "certificate") rows ≡ Some certificate → number_of (codes "workers") 1 64 rows ≡ Some workers
     → number_of (codes "budget") 0 9223372036854775807 rows ≡ Some budget
-    → solve_in rows ≡ Some (record { file = file; certificate = certificate; workers = workers; budget = budget; format = format_of rows })
+    → solve_in rows ≡ Some (record { file = file; certificate = certificate; workers = workers; budget = budget; format = format_of rows; progress = flag_of (codes "progress") rows })
 unfolding solve_in
 solve_made rows file certificate workers budget e1 e2 e3 e4 = rw (e1, e2, e3, e4) refl
 
@@ -50,5 +50,5 @@ returns-in_err-budget-clause-usage c =
 
 pub returns-clause-arguments : goal.returns-clause-arguments
 returns-clause-arguments c =
-    rw (c.in_ok-from_str.ensures.ok, c.in_ok-from_str-2.ensures.ok, c.format.ensures)
+    rw (c.in_ok-from_str.ensures.ok, c.in_ok-from_str-2.ensures.ok, c.format.ensures, c.flag.ensures)
     (solve_made _ _ _ _ _ c.in_ok-file.ensures.text c.in_ok-certificate.ensures.text c.in_ok-workers.ensures.number c.in_ok-budget.ensures.number)

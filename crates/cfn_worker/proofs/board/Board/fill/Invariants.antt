@@ -3,4 +3,4 @@ use Rattle.cfn_rota.specs.Values.{access}
 use Rattle.cfn_worker.proofs.board.Board.fill.Given as goal
 
 abbrev pub invariant-loop : goal.invariant-loop
-invariant-loop g l = access l.errands ≡ access l.fn.errands
+invariant-loop g l = access l.lanes ≡ access l.fn.lanes

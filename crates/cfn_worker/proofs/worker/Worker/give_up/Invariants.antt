@@ -9,6 +9,6 @@ invariant-loop g l = record {
   finite : (goal.iterator-loop g).is_finite l.iterator';
   share : l.self-inside.account.part.shares ≡ 1;
   limit : IsLimit l.self-inside.limit;
-  same : access l.self-inside.errands ≡ access l.fn.self.ends;
+  same : access l.self-inside.lanes ≡ access l.fn.self.ends;
   least : l.self-inside.account.least ≡ l.fn.self.least;
 }

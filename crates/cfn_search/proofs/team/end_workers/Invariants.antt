@@ -4,7 +4,7 @@ use Rattle.cfn_pool.specs.Views.{pool}
 use Rattle.cfn_rota.specs.Values.{AreAll}
 use Rattle.cfn_worker.specs.Accounts.{least_of, reach}
 use Rattle.cfn_worker.specs.Searching.{IsSearch}
-use Rattle.cfn_search.proofs.team.disband.Given as goal
+use Rattle.cfn_search.proofs.team.end_workers.Given as goal
 
 abbrev pub invariant-loop-worker : goal.invariant-loop-worker
 invariant-loop-worker g l = record {

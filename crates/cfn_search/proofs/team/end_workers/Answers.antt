@@ -5,7 +5,7 @@ use Rattle.cfn_rota.specs.Values.{AreAll}
 use Rattle.cfn_worker.specs.Accounts.{least_of, reach}
 use Rattle.cfn_rota.proofs.CallerLemmas.{all_but_last}
 use Rattle.cfn_search.proofs.Telling.{told_step, told_all, most_step, least_step}
-use Rattle.cfn_search.proofs.team.disband.Goals as goal
+use Rattle.cfn_search.proofs.team.end_workers.Goals as goal
 
 pub end-threshold-requires-clause-all : goal.end-threshold-requires-clause-all
 end-threshold-requires-clause-all g c = subst (λ before. AreAll (map reach before ++ reach c.in-Some.worker ∷ [])) (sym c.as_mut_slice.ensures.value) (all_but_last reach _ _ _ c.in-Some.ensures.items c.loop-worker.invariant.all)

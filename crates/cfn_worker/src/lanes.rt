@@ -16,11 +16,11 @@ use std::marker::{Model, PhantomData};
 pub const ROOM: u32 = 64;
 
 /// Tasks of the network of the search.
-pub struct Errand<M> {
+pub struct LaneTasks<M> {
     word: PhantomData<M>,
 }
 
-impl<M: Incumbent> Kind<Task> for Errand<M> {
+impl<M: Incumbent> Kind<Task> for LaneTasks<M> {
     ghost use Rattle.cfn_task.specs.Values.{IsTaskOf};
 
     ghost fits = { IsTaskOf M.network };
@@ -28,11 +28,11 @@ impl<M: Incumbent> Kind<Task> for Errand<M> {
 
 /// A worker's ends of all lanes. What comes out of a lane is in the worker's hand.
 #[derive(Drop)]
-pub struct Errands<M: Incumbent> {
-    ends: Ends<Task, Errand<M>>,
+pub struct Lanes<M: Incumbent> {
+    ends: Ends<Task, LaneTasks<M>>,
 }
 
-impl<M: Incumbent> Model for Errands<M> {
+impl<M: Incumbent> Model for Lanes<M> {
     ghost use Rattle.cfn_rota.specs.Values.{EndsValue};
     ghost use Rattle.cfn_task.specs.Values.{TaskValue};
 
@@ -41,12 +41,12 @@ impl<M: Incumbent> Model for Errands<M> {
     ghost view = { λ e. e.ends };
 }
 
-impl<M: Incumbent> Errands<M> {
-    /// The errands of these ends.
-    pub fn of(ends: Ends<Task, Errand<M>>) -> Errands<M>
+impl<M: Incumbent> Lanes<M> {
+    /// The lanes of these ends.
+    pub fn of(ends: Ends<Task, LaneTasks<M>>) -> Lanes<M>
         ensures { result ≡ ends }
     {
-        Errands { ends }
+        Lanes { ends }
     }
 
     /// Pushes a task to its own lane. An `Err` gives it back, with the lane as it was, and comes only after as many pushes as
@@ -95,7 +95,7 @@ impl<M: Incumbent> Errands<M> {
     }
 
     /// Two workers absorb each other's last thieves, which are of each other's lanes.
-    pub(crate) fn exchange(&mut self, other: &mut Errands<M>)
+    pub(crate) fn exchange(&mut self, other: &mut Lanes<M>)
         requires mine { EndsWith (lanes_of self.old.thieves) other.old.lane.lane }
         requires theirs { EndsWith (lanes_of other.old.thieves) self.old.lane.lane }
         ensures meets { Meets (access self.old) (access self.new) other.old.lane.lane }

@@ -1,7 +1,7 @@
 use Rattle.std.proofs.Common.{◌≡◌, ◌+◌, ◌++◌, ◌≤◌, length, map, reverse, All, vec_capacity}
 use Rattle.cfn_rota.specs.Values.{access}
 use Rattle.cfn_worker.specs.Accounts.{reach}
-use Rattle.cfn_search.proofs.team.recruit.Given as goal
+use Rattle.cfn_search.proofs.team.start_workers.Given as goal
 
 -- the workers so far have the first ends, and each part that is left has one share
 abbrev pub invariant-loop-part : goal.invariant-loop-part

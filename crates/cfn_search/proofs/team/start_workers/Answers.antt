@@ -2,7 +2,7 @@ use Rattle.std.proofs.Common.{rules, ◌≡◌, ◌∙◌, ap}
 use Rattle.cfn_rota.specs.Values.{access}
 use Rattle.cfn_worker.specs.Accounts.{reach}
 use Rattle.cfn_rota.proofs.CallerLemmas.{all_before, in_turn}
-use Rattle.cfn_search.proofs.team.recruit.Goals as goal
+use Rattle.cfn_search.proofs.team.start_workers.Goals as goal
 
 pub loop-part-preserved : goal.loop-part-preserved
 loop-part-preserved g c =

@@ -1,0 +1,33 @@
+//! A search whose gate is told when it begins and when it has ended.
+
+ghost use Rattle.std.specs.Prelude.{◌≡◌, ◌≤◌, length, IfOk};
+ghost use Rattle.cfn_model.specs.declared.limits.TheConstants.{GREATEST};
+ghost use Rattle.cfn_proof.specs.Outcome.{IsOutcome};
+
+use cfn_net::Network;
+use cfn_solve::{Gate, Teamwork, solve_together};
+use std::alloc::{AllocError, Global};
+use std::sync::Wait;
+use std::thread::Threads;
+
+/// Searches a network by as many workers as are asked for. `asked` is whether the words ask to be told how far the search is.
+pub fn search<R: Threads + Wait + Sync, G: Gate + Sync>(
+    rt: &R,
+    alloc: Global,
+    network: &Network,
+    workers: u32,
+    budget: u64,
+    asked: bool,
+    gate: &G,
+) -> Result<Teamwork, AllocError>
+    requires some { 1 ≤ workers }
+    requires few { workers ≤ 64 }
+    requires budget { budget ≤ GREATEST }
+    ensures outcome { IfOk result (λ found. IsOutcome network.now budget found.outcome) }
+    ensures count { IfOk result (λ found. length found.thresholds.items ≡ workers) }
+{
+    gate.begin(asked);
+    let found = solve_together(rt, alloc, network, workers, budget, gate);
+    gate.end();
+    found
+}
