@@ -1,0 +1,4 @@
+pub mod Keeping
+pub mod Joining
+pub mod Merging
+pub mod Laws
