@@ -1,21 +1,22 @@
 -- Each result of a search comes exactly with its cause.
-use Rattle.std.proofs.Common.{◌≡◌, ℕ, ◌<◌, inl, inr, List, [], ◌∷◌, refl, sym, ap, ◌∙◌, subst, arith}
+use Rattle.std.proofs.Common.{◌≡◌, true, false, ℕ, ◌<◌, inl, inr, List, [], ◌∷◌, refl, sym, ap, ◌∙◌, subst, arith}
 use Rattle.std.proofs.lemmas.Bool.{cases_eq}
-use Rattle.std.specs.Prelude.{Option, Some, None, IsSomeAnd, IsTrue, is_some}
+use Rattle.std.specs.Prelude.{Bool, Option, Some, None, IsSomeAnd, IsTrue, is_some}
 use Rattle.cfn_net.specs.Scoring.{Scoring}
 use Rattle.cfn_proof.specs.Certificates.{solution_of}
 use Rattle.cfn_model.specs.declared.step.Event.{Event}
 use Rattle.cfn_model.specs.declared.step.Event.TheVariants.{Took, Refused}
 use Rattle.cfn_model.specs.declared.report.Row.{Row}
+use Rattle.cfn_model.specs.declared.report.ResultWord.{ResultWord}
 use Rattle.cfn_model.specs.declared.report.ResultWord.TheVariants as words
 use Rattle.cfn_model.specs.Network.{Network, IsNetwork, Least}
 use Rattle.cfn_model.specs.Steps.{after}
 use Rattle.cfn_model.specs.Tree.{Tree, Open, Closed, Split, OpenBelow, open_leaves, bound}
 use Rattle.cfn_model.specs.Certificate.{Solution, Certificate, Good, threshold, threshold_of}
 use Rattle.cfn_model.proofs.CallerLemmas.{lower_bounds, none_below, optimum}
-use Rattle.cfn_proof.specs.declared.outcome.Stop.{Stop}
-use Rattle.cfn_proof.specs.declared.outcome.Stop.TheVariants.{Done, Budget, Memory}
-use Rattle.cfn_proof.specs.Outcome.{IsSearched, HasCause}
+use Rattle.cfn_outcome.specs.declared.outcome.Stop.{Stop}
+use Rattle.cfn_outcome.specs.declared.outcome.Stop.TheVariants.{Done, Budget, Time, Part, Memory}
+use Rattle.cfn_outcome.specs.Outcome.{Limits, Start, IsSearched, HasCause}
 use Rattle.cfn_app.specs.Headline.{HasOptimum, HasNone, HasCauses, Promise}
 use Rattle.cfn_app.specs.Runs.Solving.{word_of, word_when_done}
 
@@ -36,40 +37,43 @@ bound_open P history (Split block d first second) k below some = elim (cases_eq 
   | inr more ↦ (let l = bound_open P (Took d ∷ after block history) first k below.0 (omega arith) in omega (arith, l))
 ]
 
+-- a number for each word, by which two words differ
+abbrev place : ResultWord → ℕ
+place words.Optimum = 0
+place words.Nothing = 1
+place words.Budget = 2
+place words.Time = 3
+place words.Part = 4
+place words.Memory = 5
+
+not_both : (b : Bool) → b ≡ false → b ≡ true → ⊥
+not_both b off on = false_true (sym off ∙ on)
+  where
+    false_true : false ≡ true → ⊥
+    false_true e = cc
+
 -- the causes by the best, where all leaves are closed, and where one is open
-module _ (budget nodes : ℕ) (c : Certificate) where
-  done : (best : Option Solution) → c.best ≡ best → open_leaves c.tree ≡ 0 → c.lower ≡ threshold_of c.upper best → HasCauses budget nodes c (word_when_done best)
+module _ (limits : Limits) (nodes : ℕ) (c : Certificate) where
+  done : (best : Option Solution) → c.best ≡ best → open_leaves c.tree ≡ 0 → c.lower ≡ threshold_of c.upper best → HasCauses limits nodes c (word_when_done best)
   done None is none lower = record {
-    optimum = (λ e. absurd (other_word e), λ has. absurd (let h : ⊥ = subst (λ b. IsSomeAnd b (λ best. c.lower ≡ best.cost)) is has in h));
+    optimum = (λ e. absurd (omega (arith, ap place e)), λ has. absurd (let h : ⊥ = subst (λ b. IsSomeAnd b (λ best. c.lower ≡ best.cost)) is has in h));
     none = (λ e. (is, lower), λ has. refl);
-    budget_spent = (λ e. absurd (none_budget e), λ cause. absurd (omega (arith, cause.0)));
-    memory_refused = (λ e. absurd (none_memory e), λ cause. absurd (omega (arith, cause.0)));
+    budget_spent = (λ e. absurd (omega (arith, ap place e)), λ cause. absurd (omega (arith, cause.0)));
+    time_past = λ e. absurd (omega (arith, ap place e));
+    left_to_others = λ e. absurd (omega (arith, ap place e));
+    memory_refused = λ e. absurd (omega (arith, ap place e));
+    memory_alone = λ untimed whole some fewer. absurd (omega (arith, some));
   }
-    where
-      other_word : words.Nothing ≡ words.Optimum → ⊥
-      other_word e = cc
-
-      none_budget : words.Nothing ≡ words.Budget → ⊥
-      none_budget e = cc
-
-      none_memory : words.Nothing ≡ words.Memory → ⊥
-      none_memory e = cc
   done (Some b) is none lower = record {
     optimum = (λ e. subst (λ o. IsSomeAnd o (λ best. c.lower ≡ best.cost)) (sym is) lower, λ has. refl);
-    none = (λ e. absurd (other_word e), λ has. absurd (some_none (sym is ∙ has.0)));
-    budget_spent = (λ e. absurd (some_budget e), λ cause. absurd (omega (arith, cause.0)));
-    memory_refused = (λ e. absurd (some_memory e), λ cause. absurd (omega (arith, cause.0)));
+    none = (λ e. absurd (omega (arith, ap place e)), λ has. absurd (some_none (sym is ∙ has.0)));
+    budget_spent = (λ e. absurd (omega (arith, ap place e)), λ cause. absurd (omega (arith, cause.0)));
+    time_past = λ e. absurd (omega (arith, ap place e));
+    left_to_others = λ e. absurd (omega (arith, ap place e));
+    memory_refused = λ e. absurd (omega (arith, ap place e));
+    memory_alone = λ untimed whole some fewer. absurd (omega (arith, some));
   }
     where
-      other_word : words.Optimum ≡ words.Nothing → ⊥
-      other_word e = cc
-
-      some_budget : words.Optimum ≡ words.Budget → ⊥
-      some_budget e = cc
-
-      some_memory : words.Optimum ≡ words.Memory → ⊥
-      some_memory e = cc
-
       some_none : Some b ≡ None → ⊥
       some_none e = cc
 
@@ -80,53 +84,70 @@ module _ (budget nodes : ℕ) (c : Certificate) where
   no_none : c.lower < threshold c → HasNone c → ⊥
   no_none lower has = let k : threshold c ≡ c.upper = ap (threshold_of c.upper) has.0 in omega (arith, k, has.1)
 
-  spent : c.lower < threshold c → 0 < open_leaves c.tree → nodes ≡ budget → HasCauses budget nodes c words.Budget
+  spent : c.lower < threshold c → 0 < open_leaves c.tree → nodes ≡ limits.budget → HasCauses limits nodes c words.Budget
   spent lower some same = record {
-    optimum = (λ e. absurd (not_optimum e), λ has. absurd (no_optimum c.best refl lower has));
-    none = (λ e. absurd (not_none e), λ has. absurd (no_none lower has));
+    optimum = (λ e. absurd (omega (arith, ap place e)), λ has. absurd (no_optimum c.best refl lower has));
+    none = (λ e. absurd (omega (arith, ap place e)), λ has. absurd (no_none lower has));
     budget_spent = (λ e. (some, same), λ cause. refl);
-    memory_refused = (λ e. absurd (not_memory e), λ cause. absurd (omega (arith, cause.1)));
+    time_past = λ e. absurd (omega (arith, ap place e));
+    left_to_others = λ e. absurd (omega (arith, ap place e));
+    memory_refused = λ e. absurd (omega (arith, ap place e));
+    memory_alone = λ untimed whole more fewer. absurd (omega (arith, same, fewer));
   }
-    where
-      not_optimum : words.Budget ≡ words.Optimum → ⊥
-      not_optimum e = cc
 
-      not_none : words.Budget ≡ words.Nothing → ⊥
-      not_none e = cc
+  past : c.lower < threshold c → 0 < open_leaves c.tree → nodes < limits.budget → limits.timed ≡ true → HasCauses limits nodes c words.Time
+  past lower some fewer timed = record {
+    optimum = (λ e. absurd (omega (arith, ap place e)), λ has. absurd (no_optimum c.best refl lower has));
+    none = (λ e. absurd (omega (arith, ap place e)), λ has. absurd (no_none lower has));
+    budget_spent = (λ e. absurd (omega (arith, ap place e)), λ cause. absurd (omega (arith, fewer, cause.1)));
+    time_past = λ e. (timed, some, fewer);
+    left_to_others = λ e. absurd (omega (arith, ap place e));
+    memory_refused = λ e. absurd (omega (arith, ap place e));
+    memory_alone = λ untimed whole more less. absurd (not_both limits.timed untimed timed);
+  }
 
-      not_memory : words.Budget ≡ words.Memory → ⊥
-      not_memory e = cc
+  left : c.lower < threshold c → 0 < open_leaves c.tree → nodes < limits.budget → limits.part ≡ true → HasCauses limits nodes c words.Part
+  left lower some fewer part = record {
+    optimum = (λ e. absurd (omega (arith, ap place e)), λ has. absurd (no_optimum c.best refl lower has));
+    none = (λ e. absurd (omega (arith, ap place e)), λ has. absurd (no_none lower has));
+    budget_spent = (λ e. absurd (omega (arith, ap place e)), λ cause. absurd (omega (arith, fewer, cause.1)));
+    time_past = λ e. absurd (omega (arith, ap place e));
+    left_to_others = λ e. (part, some, fewer);
+    memory_refused = λ e. absurd (omega (arith, ap place e));
+    memory_alone = λ untimed whole more less. absurd (not_both limits.part whole part);
+  }
 
-  out_of_memory : c.lower < threshold c → 0 < open_leaves c.tree → nodes < budget → HasCauses budget nodes c words.Memory
+  out_of_memory : c.lower < threshold c → 0 < open_leaves c.tree → nodes < limits.budget → HasCauses limits nodes c words.Memory
   out_of_memory lower some fewer = record {
-    optimum = (λ e. absurd (not_optimum e), λ has. absurd (no_optimum c.best refl lower has));
-    none = (λ e. absurd (not_none e), λ has. absurd (no_none lower has));
-    budget_spent = (λ e. absurd (not_budget e), λ cause. absurd (omega (arith, cause.1)));
-    memory_refused = (λ e. (some, fewer), λ cause. refl);
+    optimum = (λ e. absurd (omega (arith, ap place e)), λ has. absurd (no_optimum c.best refl lower has));
+    none = (λ e. absurd (omega (arith, ap place e)), λ has. absurd (no_none lower has));
+    budget_spent = (λ e. absurd (omega (arith, ap place e)), λ cause. absurd (omega (arith, fewer, cause.1)));
+    time_past = λ e. absurd (omega (arith, ap place e));
+    left_to_others = λ e. absurd (omega (arith, ap place e));
+    memory_refused = λ e. (some, fewer);
+    memory_alone = λ untimed whole more less. refl;
   }
-    where
-      not_optimum : words.Memory ≡ words.Optimum → ⊥
-      not_optimum e = cc
 
-      not_none : words.Memory ≡ words.Nothing → ⊥
-      not_none e = cc
+  module _ (P : Network) (start : Start) (rows : List Row) where
+    -- a leaf is open, and so the bound is below the threshold
+    open_below : (stop : Stop) → IsSearched P start limits nodes c rows stop → 0 < open_leaves c.tree → c.lower < threshold c
+    open_below stop s some = let b = bound_open P [] c.tree (threshold c) s.below some in omega (arith, b, s.lower)
 
-      not_budget : words.Memory ≡ words.Budget → ⊥
-      not_budget e = cc
-
-  causes : (P : Network) (rows : List Row) (stop : Stop) → IsSearched P budget nodes c rows stop → HasCause stop (open_leaves c.tree) nodes budget → HasCauses budget nodes c (word_of stop c.best)
-  causes P rows Done s cause = done c.best refl cause (s.lower ∙ bound_closed P [] c.tree (threshold c) cause)
-  causes P rows Budget s cause = spent (let b = bound_open P [] c.tree (threshold c) s.below cause.0 in omega (arith, b, s.lower)) cause.0 cause.1
-  causes P rows Memory s cause = out_of_memory (let b = bound_open P [] c.tree (threshold c) s.below cause.0 in omega (arith, b, s.lower)) cause.0 cause.1
+    causes : (stop : Stop) → IsSearched P start limits nodes c rows stop → HasCause stop (open_leaves c.tree) nodes limits → HasCauses limits nodes c (word_of stop c.best)
+    causes Done s cause = done c.best refl cause (s.lower ∙ bound_closed P [] c.tree (threshold c) cause)
+    causes Budget s cause = spent (open_below Budget s cause.0) cause.0 cause.1
+    causes Time s cause = past (open_below Time s cause.0) cause.0 cause.1 cause.2
+    causes Part s cause = left (open_below Part s cause.0) cause.0 cause.1 cause.2
+    causes Memory s cause = out_of_memory (open_below Memory s cause.0) cause.0 cause.1
 
 -- an optimum is one, and without one every assignment costs the upper bound
 least_of : (P : Network) (c : Certificate) (best : Option Solution) → c.best ≡ best → IsNetwork P → Good P c → IsSomeAnd best (λ b. c.lower ≡ b.cost) → IsSomeAnd best (λ b. Least P b.cost)
 least_of P c None is network good h = h
 least_of P c (Some b) is network good h = optimum P c b network good is h
 
-pub promised : (P : Network) (budget nodes : ℕ) (c : Certificate) (rows : List Row) (stop : Stop) → IsNetwork P → IsSearched P budget nodes c rows stop → Promise P budget nodes c rows (word_of stop c.best)
-promised P budget nodes c rows stop network s =
-    let by_cause = causes budget nodes c P rows stop s s.cause in
+pub promised : (P : Network) (start : Start) (limits : Limits) (nodes : ℕ) (c : Certificate) (rows : List Row) (stop : Stop) → IsNetwork P → IsSearched P start limits nodes c rows stop → Promise P start limits nodes c rows (word_of stop c.best)
+promised P start limits nodes c rows stop network s =
+    let by_cause = causes limits nodes c P start rows stop s s.cause in
     record {
       good = s.good;
       spelled = s.spelled;
@@ -137,6 +158,7 @@ promised P budget nodes c rows stop network s =
       expanded = s.expanded;
       counted = s.counted;
       strict = s.strict;
+      tame = s.tame;
       causes = by_cause;
       network = network;
       bounds = (λ values fits. lower_bounds P c values network s.good fits);

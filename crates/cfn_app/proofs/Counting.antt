@@ -6,7 +6,7 @@ use Rattle.cfn_desk.proofs.CallerLemmas.{faults-says, faults-puts, written-says}
 use Rattle.cfn_line.specs.Appending.{IsCut}
 use Rattle.cfn_line.specs.declared.channel.Channel.TheVariants.{File, Screen}
 use Rattle.cfn_app.specs.declared.status.Status.{Status}
-use Rattle.cfn_app.specs.declared.status.Status.TheVariants.{Done, Nothing, BudgetSpent, Usage, Refused, Fault, NoMemory, Disproved}
+use Rattle.cfn_app.specs.declared.status.Status.TheVariants.{Done, Nothing, LimitSpent, Usage, Refused, Fault, NoMemory, Disproved}
 use Rattle.cfn_app.specs.Endings.{Ending, Ends, IsHindered, said, cut}
 use Rattle.cfn_app.specs.Saying.{Counts}
 
@@ -32,7 +32,7 @@ one_more before = omega arith
 same_count : (before middle now : List Call) (status : Status) → faults now ≡ faults middle → Counts before middle status → Counts before now status
 same_count before middle now Done same counts = same ∙ counts
 same_count before middle now Nothing same counts = same ∙ counts
-same_count before middle now BudgetSpent same counts = same ∙ counts
+same_count before middle now LimitSpent same counts = same ∙ counts
 same_count before middle now Usage same counts = same ∙ counts
 same_count before middle now Refused same counts = same ∙ counts
 same_count before middle now Fault same counts = subst (λ n. faults before < n) (sym same) counts
@@ -42,7 +42,7 @@ same_count before middle now Disproved same counts = same ∙ counts
 no_fewer : (before now : List Call) (status : Status) → Counts before now status → faults before ≤ faults now
 no_fewer before now Done counts = omega (arith, counts)
 no_fewer before now Nothing counts = omega (arith, counts)
-no_fewer before now BudgetSpent counts = omega (arith, counts)
+no_fewer before now LimitSpent counts = omega (arith, counts)
 no_fewer before now Usage counts = omega (arith, counts)
 no_fewer before now Refused counts = omega (arith, counts)
 no_fewer before now Fault counts = omega (arith, counts)

@@ -27,6 +27,7 @@ use Rattle.cfn_cli.specs.declared.format.Format.{Format}
 use Rattle.cfn_app.specs.declared.status.Status.{Status}
 use Rattle.cfn_app.specs.declared.status.Status.TheVariants.{Done, Fault}
 use Rattle.cfn_app.specs.Endings.{Ends, said, cut}
+use Rattle.cfn_outcome.specs.Outcome.{fresh}
 use Rattle.cfn_app.specs.Headline.{Promise}
 use Rattle.cfn_app.specs.Loading.{ReadsAs, RefusesAs, SaysUnread, read_as, Unloaded, Unread, loaded}
 use Rattle.cfn_app.specs.Loading as loading
@@ -37,7 +38,7 @@ use Rattle.cfn_app.specs.Runs.Costing.{Costs, Prices}
 use Rattle.cfn_app.specs.Runs.Costing as costing
 use Rattle.cfn_app.specs.Endings.{Outputs, Wrote, NotWritten}
 use Rattle.cfn_app.specs.Endings as endings
-use Rattle.cfn_app.specs.Runs.Solving.{Solves, Searches, status_of}
+use Rattle.cfn_app.specs.Runs.Solving.{Solves, Searches, limits_of, status_of}
 use Rattle.cfn_app.specs.Runs.Solving as solving
 use Rattle.cfn_gen.specs.Generator.{instance}
 use Rattle.cfn_app.specs.Runs.Trying.{Tries, trial_text_of}
@@ -95,7 +96,7 @@ outputs_written text said_text due old middle new (Err e) spoken status fine wro
 
 -- a search behind a file that was opened
 pub searched_behind : {T E : Type 0} (P : Network) (ask : SolveRequest) (old middle new : Outside) (opened : Result T E) (status : Status) (nodes : ℕ) (c : Certificate) (rows : List Row) (word : ResultWord) → is_err opened ≡ false → middle ≡ after (Open ask.certificate (is_ok opened)) old →
-    Promise P ask.budget nodes c rows word → Outputs (spelling c) (report ask.workers c rows nodes word) (status_of word) middle new status → Searches P ask old new status
+    Promise P (fresh P) (limits_of ask) nodes c rows word → Outputs (spelling c) (report ask.workers c rows nodes word) (status_of word) middle new status → Searches P ask old new status
 searched_behind P ask old middle new (Ok x) status nodes c rows word fine at promise out =
     solving.searched nodes c rows word promise (subst (λ o. Outputs (spelling c) (report ask.workers c rows nodes word) (status_of word) o new status) at out)
 searched_behind P ask old middle new (Err e) status nodes c rows word fine at promise out = absurd (let no : true ≡ false = fine in cc)

@@ -5,13 +5,13 @@ use Rattle.cfn_desk.specs.Outside.{Outside, Call, Close, Discard, Stored, Stored
 use Rattle.cfn_line.specs.Appending.{IsCut}
 use Rattle.cfn_line.specs.declared.channel.Channel.TheVariants.{File, Screen}
 use Rattle.cfn_app.specs.declared.status.Status.{Status}
-use Rattle.cfn_app.specs.declared.status.Status.TheVariants.{Done, Nothing, BudgetSpent, Usage, Refused, Fault, NoMemory, Disproved}
+use Rattle.cfn_app.specs.declared.status.Status.TheVariants.{Done, Nothing, LimitSpent, Usage, Refused, Fault, NoMemory, Disproved}
 
 -- The number of a status.
 abbrev pub code : Status → ℕ
 code Done = 0
 code Nothing = 1
-code BudgetSpent = 2
+code LimitSpent = 2
 code Usage = 3
 code Refused = 4
 code Fault = 5

@@ -6,7 +6,7 @@ use Rattle.cfn_report.specs.Texts.{usage_text}
 use Rattle.cfn_desk.specs.Outside.{Outside, IsIdle}
 use Rattle.cfn_cli.specs.Request.{Request, solve, check, cost, normal, trial, migrate}
 use Rattle.cfn_app.specs.declared.status.Status.{Status}
-use Rattle.cfn_app.specs.declared.status.Status.TheVariants.{Done, Nothing, BudgetSpent, Usage, Refused, Fault, NoMemory, Disproved}
+use Rattle.cfn_app.specs.declared.status.Status.TheVariants.{Done, Nothing, LimitSpent, Usage, Refused, Fault, NoMemory, Disproved}
 use Rattle.cfn_app.specs.Endings.{Ends}
 use Rattle.cfn_app.specs.Saying.{Counts, Says, SaysNoMemory}
 use Rattle.cfn_app.specs.Runs.Solving.{Solves, SolveStatus}
@@ -57,7 +57,7 @@ pub data Runs (request : Option Request) (old new : Outside) (status : Status) :
 abbrev pub UsageSays : Outside → Outside → Status → Type 0
 UsageSays old new Done = ⊥
 UsageSays old new Nothing = ⊥
-UsageSays old new BudgetSpent = ⊥
+UsageSays old new LimitSpent = ⊥
 UsageSays old new Usage = Says old old.calls usage_text new
 UsageSays old new Refused = ⊥
 UsageSays old new Fault = Unit {0}

@@ -8,7 +8,7 @@ use Rattle.cfn_report.specs.Texts.{refused_text}
 use Rattle.cfn_desk.specs.Outside.{Outside, Call, HasFile, faults, says}
 use Rattle.cfn_cli.specs.declared.format.Format.{Format}
 use Rattle.cfn_app.specs.declared.status.Status.{Status}
-use Rattle.cfn_app.specs.declared.status.Status.TheVariants.{Done, Nothing, BudgetSpent, Usage, Refused, Fault, NoMemory, Disproved}
+use Rattle.cfn_app.specs.declared.status.Status.TheVariants.{Done, Nothing, LimitSpent, Usage, Refused, Fault, NoMemory, Disproved}
 use Rattle.cfn_app.specs.Loading.{RefusesAs, Paired, loaded, unread_text}
 use Rattle.cfn_fault.specs.Fault as faulty
 
@@ -16,7 +16,7 @@ use Rattle.cfn_fault.specs.Fault as faulty
 abbrev pub Counts : List Call → List Call → Status → Type 0
 Counts before now Done = faults now ≡ faults before
 Counts before now Nothing = faults now ≡ faults before
-Counts before now BudgetSpent = faults now ≡ faults before
+Counts before now LimitSpent = faults now ≡ faults before
 Counts before now Usage = faults now ≡ faults before
 Counts before now Refused = faults now ≡ faults before
 Counts before now Fault = faults before < faults now

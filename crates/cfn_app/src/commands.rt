@@ -23,22 +23,24 @@ use solving::solve_file;
 use std::alloc::Global;
 use std::sync::Wait;
 use std::thread::Threads;
+use std::time::Clock;
 use trying::try_drawn;
 
 /// Does what a command asks.
-pub(crate) fn do_command<R: Threads + Wait + Sync, D: Desk, G: Gate + Sync>(
+pub(crate) fn do_command<R: Threads + Wait + Sync, D: Desk, G: Gate + Sync, C: Clock + Sync>(
     rt: &R,
     alloc: Global,
     command: &Command,
     desk: &mut D,
     gate: &G,
+    clock: &C,
 ) -> Status
     requires idle { IsIdle (D.outside desk.old).calls }
     requires within { IsWithin command.now }
     ensures { RunsOf (request command.now) (D.outside desk.old) (D.outside desk.new) result }
 {
     match command {
-        Command::Solve(ask) => solve_file(rt, alloc, ask, desk, gate),
+        Command::Solve(ask) => solve_file(rt, alloc, ask, desk, gate, clock),
         Command::Check(ask) => check_file(alloc, ask, desk),
         Command::Cost(ask) => cost_file(alloc, ask, desk),
         Command::Normal(ask) => normalize_file(alloc, ask, desk),

@@ -10,7 +10,8 @@ ghost use Rattle.cfn_app.specs.Runs.Solving.{status_of, word_of};
 use crate::status::{Status, ending};
 use cfn_desk::{Desk, Failed};
 use cfn_model::ResultWord;
-use cfn_proof::{Certificate, Outcome, Stop};
+use cfn_outcome::{Outcome, Stop};
+use cfn_proof::Certificate;
 use cfn_report::Report;
 use cfn_solve::Teamwork;
 
@@ -66,6 +67,8 @@ fn result_word(outcome: &Outcome) -> ResultWord
             None => ResultWord::Nothing,
         },
         Stop::Budget => ResultWord::Budget,
+        Stop::Time => ResultWord::Time,
+        Stop::Part => ResultWord::Part,
         Stop::Memory => ResultWord::Memory,
     }
 }
@@ -77,7 +80,7 @@ fn status(word: ResultWord) -> Status
     match word {
         ResultWord::Optimum => Status::Done,
         ResultWord::Nothing => Status::Nothing,
-        ResultWord::Budget => Status::BudgetSpent,
+        ResultWord::Budget | ResultWord::Time | ResultWord::Part => Status::LimitSpent,
         ResultWord::Memory => Status::NoMemory,
     }
 }

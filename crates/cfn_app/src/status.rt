@@ -13,8 +13,8 @@ pub enum Status {
     Done,
     /// No assignment is below the file's upper bound.
     Nothing,
-    /// The budget of nodes is spent.
-    BudgetSpent,
+    /// A limit that was asked for is spent: the budget of nodes, time, or the leaves of one part.
+    LimitSpent,
     /// The words are no command.
     Usage,
     /// The file or an assignment is refused.
@@ -35,7 +35,7 @@ impl Status {
         match self {
             Status::Done => 0,
             Status::Nothing => 1,
-            Status::BudgetSpent => 2,
+            Status::LimitSpent => 2,
             Status::Usage => 3,
             Status::Refused => 4,
             Status::Fault => 5,

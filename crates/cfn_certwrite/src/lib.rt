@@ -5,7 +5,8 @@
 //! those of its steps, and that of its end. `walk` goes over the nodes of a tree in the order of their lines, with no
 //! recursion.
 //!
-//! No call takes memory. Each word is one put, together with the space or LF behind it.
+//! No call takes memory. To `write` each word is one put, together with the space or LF behind it; `upgrade` puts all
+//! that is behind the first line by one.
 #![tactic(auto)]
 
 mod certificate;

@@ -1,6 +1,6 @@
 -- The arguments that commands share: what clap reads of them, and what it found under their names.
 use Rattle.std.specs.Prelude.{ℕ, Bool, true, false, List, [], ◌∷◌, Option, Some, None}
-use Rattle.std.specs.Prelude.{option_and_then, if◌then◌else◌, codes}
+use Rattle.std.specs.Prelude.{option_map, option_and_then, if◌then◌else◌, codes}
 use Rattle.std.specs.Str.{bytes_eq}
 use Rattle.std.specs.Str.Parse.{digits_value, without_leading_plus}
 use Rattle.clap.specs.Words.{Row, Rule, Text, first_of, new_rule}
@@ -41,6 +41,13 @@ budget_rule = record (new_rule (codes "budget")) {
   defaults = codes "9223372036854775807" ∷ [];
 }
 
+-- [--seconds S]
+unfoldable pub seconds_rule : Rule
+seconds_rule = record (new_rule (codes "seconds")) {
+  long = Some (codes "seconds");
+  parser = Some number;
+}
+
 -- [--wcnf]
 unfoldable pub wcnf_rule : Rule
 wcnf_rule = record (new_rule (codes "wcnf")) {
@@ -65,6 +72,14 @@ number_in least most text =
 
 abbrev pub number_of : Text → ℕ → ℕ → List Row → Option ℕ
 number_of id least most rows = option_and_then (number_in least most) (first_of id rows)
+
+-- The number of an argument that may be left out.
+abbrev pub optional_in : ℕ → ℕ → Option Text → Option (Option ℕ)
+optional_in least most None = Some None
+optional_in least most (Some text) = option_map Some (number_in least most text)
+
+abbrev pub optional_of : Text → ℕ → ℕ → List Row → Option (Option ℕ)
+optional_of id least most rows = optional_in least most (first_of id rows)
 
 -- The format of a file, by what stands under `wcnf`: clap puts `true` there where the words have the option.
 abbrev pub format_in : Option Text → Format

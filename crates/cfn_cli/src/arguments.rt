@@ -2,7 +2,7 @@
 
 ghost use Rattle.std.specs.Prelude.{◌≡◌, false};
 ghost use Rattle.clap.specs.Words.{rule_of};
-ghost use Rattle.cfn_cli.specs.Arguments.{budget_rule, certificate_rule, file_rule, progress_rule, wcnf_rule, workers_rule};
+ghost use Rattle.cfn_cli.specs.Arguments.{budget_rule, certificate_rule, file_rule, progress_rule, seconds_rule, wcnf_rule, workers_rule};
 
 use clap::{Arg, ArgAction, value_parser};
 use std::alloc::Global;
@@ -47,6 +47,17 @@ pub(crate) fn budget<'a>(alloc: Global) -> Arg<'a>
         .long("budget")
         .value_parser(value_parser!(u64))
         .default_value("9223372036854775807")
+}
+
+/// `[--seconds S]`
+#[tactic(auto, unfolding(crate::specs::Arguments::seconds_rule))]
+pub(crate) fn seconds<'a>(alloc: Global) -> Arg<'a>
+    ensures rule { rule_of result ≡ seconds_rule }
+    ensures local { result.global ≡ false }
+{
+    Arg::new(alloc, "seconds")
+        .long("seconds")
+        .value_parser(value_parser!(u64))
 }
 
 /// `[--wcnf]`

@@ -24,7 +24,7 @@ pub use trial::TrialArguments;
 /// A command, with all that its words say.
 #[derive(Drop)]
 pub enum Command {
-    /// `solve FILE CERT [--workers W] [--budget B] [--wcnf] [--progress]`
+    /// `solve FILE CERT [--workers W] [--budget B] [--seconds S] [--wcnf] [--progress]`
     Solve(SolveArguments),
     /// `check FILE CERT [--wcnf]`
     Check(CheckArguments),

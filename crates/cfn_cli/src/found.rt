@@ -2,7 +2,7 @@
 
 ghost use Rattle.std.specs.Prelude.{◌≡◌, ◌≤◌, Some, None, IfErr, IfOk, IfSome};
 ghost use Rattle.clap.specs.Words.{first_of, found_of, rows_of};
-ghost use Rattle.cfn_cli.specs.Arguments.{flag_of, format_in, format_of, number_in, number_of};
+ghost use Rattle.cfn_cli.specs.Arguments.{flag_of, format_in, format_of, number_in, number_of, optional_in, optional_of};
 
 use crate::fault::CliFault;
 use crate::format::Format;
@@ -66,6 +66,35 @@ pub(crate) fn number(
 {
     match number_in(text(found, id)?, least, most) {
         Some(number) => Ok(number),
+        None => Err(CliFault::Usage),
+    }
+}
+
+/// The number of an argument, from `least` to `most`, or none where the words leave it out.
+pub(crate) fn optional(
+    found: &ArgMatches<'_>,
+    id: &str,
+    least: u64,
+    most: u64,
+) -> Result<Option<u64>, CliFault>
+    ensures number { IfOk result (λ n. optional_of id.now least most (rows_of (found_of found.now)) ≡ Some n) }
+    ensures none { IfErr result (λ fault. optional_of id.now least most (rows_of (found_of found.now)) ≡ None) }
+    ensures within { IfOk result (λ o. IfSome o (λ n. (least ≤ n) × (n ≤ most))) }
+{
+    match found.get_str(id) {
+        Some(text) => given(text, least, most),
+        None => Ok(None),
+    }
+}
+
+/// The number of an argument that is given.
+fn given(text: &str, least: u64, most: u64) -> Result<Option<u64>, CliFault>
+    ensures number { IfOk result (λ n. optional_in least most (Some text.now) ≡ Some n) }
+    ensures none { IfErr result (λ fault. optional_in least most (Some text.now) ≡ None) }
+    ensures within { IfOk result (λ o. IfSome o (λ n. (least ≤ n) × (n ≤ most))) }
+{
+    match number_in(text, least, most) {
+        Some(number) => Ok(Some(number)),
         None => Err(CliFault::Usage),
     }
 }

@@ -1,6 +1,6 @@
 //! The command line of the program `wcspsolve`: which command its words spell.
 //!
-//!     wcspsolve solve FILE CERT [--workers W] [--budget B] [--wcnf] [--progress]
+//!     wcspsolve solve FILE CERT [--workers W] [--budget B] [--seconds S] [--wcnf] [--progress]
 //!     wcspsolve check FILE CERT [--wcnf]
 //!     wcspsolve cost FILE VALUES.. [--wcnf]
 //!     wcspsolve normal FILE [--wcnf]

@@ -30,6 +30,13 @@ fn asks_progress(alloc: Global, words: &[&str]) -> Option<bool> {
     }
 }
 
+fn seconds_asked(alloc: Global, words: &[&str]) -> Option<Option<u64>> {
+    match parse(alloc, words) {
+        Ok(Command::Solve(asked)) => Some(asked.seconds),
+        _ => None,
+    }
+}
+
 fn checks(alloc: Global, words: &[&str]) -> bool {
     match parse(alloc, words) {
         Ok(Command::Check(asked)) => {
@@ -114,6 +121,17 @@ fn progress_is_asked_for(rt: HostRuntime) {
     assert!(rt; asks_progress(alloc, &["w", "solve", "a", "b", "--progress"]) == Some(true));
     assert!(rt;
         asks_progress(alloc, &["w", "solve", "--progress", "a", "--wcnf", "b"]) == Some(true)
+    );
+}
+
+#[test]
+fn limit_of_time_is_read(rt: HostRuntime) {
+    let alloc = rt.alloc();
+    assert!(rt; seconds_asked(alloc, &["w", "solve", "a", "b"]) == Some(None));
+    assert!(rt; seconds_asked(alloc, &["w", "solve", "a", "b", "--seconds", "0"]) == Some(Some(0)));
+    assert!(rt;
+        seconds_asked(alloc, &["w", "solve", "--seconds=1000000000", "a", "b"])
+            == Some(Some(1_000_000_000))
     );
 }
 
@@ -216,6 +234,11 @@ fn other_words_are_usage(rt: HostRuntime) {
         &["w", "solve", "a", "b", "--budget=-1"],
         &["w", "solve", "a", "b", "--budget", "9223372036854775808"],
         &["w", "solve", "a", "b", "--budget"],
+        &["w", "solve", "a", "b", "--seconds", "1000000001"],
+        &["w", "solve", "a", "b", "--seconds", "-1"],
+        &["w", "solve", "a", "b", "--seconds", "1.5"],
+        &["w", "solve", "a", "b", "--seconds"],
+        &["w", "check", "a", "b", "--seconds", "1"],
         &["w", "normal"],
         &["w", "normal", "a", "--wcnf=true"],
         &["w", "normal", "a", "--wcnf", "--wcnf"],

@@ -24,7 +24,7 @@ impl Model for Cost {
 }
 
 impl Cost {
-    /// The cost `value`, capped at `top`.
+    /// The cost `value` in units whose top is `top`.
     pub fn of(value: u64, top: u64) -> Cost
         requires capped { value ≤ top }
         requires top_fits { top ≤ 9223372036854775807 }

@@ -5,7 +5,7 @@
 //! where a test says so.
 //!
 //! - `interface` has the contract, `Desk`, and how its calls fail.
-//! - `MemoryDesk` is a desk in memory, and `SureDesk` one that never fails and keeps no text.
+//! - `MemoryDesk` is a desk in memory, and `SureDesk` one that keeps no text and on which only a load can fail.
 //! - `trace` is the list of calls, `named` keeps files by their names, and `room` bytes in room that is taken once.
 #![tactic(auto)]
 

@@ -1,4 +1,4 @@
-//! A desk that never fails and keeps no text, for a fuzzer and for measuring.
+//! A desk on which only a load can fail, for want of memory, and which keeps no text: for a fuzzer and for measuring.
 
 use crate::interface::{Desk, Failed, LoadFault};
 use crate::named::{NamedFile, copy_files, find_file};
@@ -6,7 +6,8 @@ use crate::trace::Trace;
 use std::alloc::{AllocError, Global};
 use std::marker::Model;
 
-/// A desk over given files that never fails. It tells no files, and keeps only counts of bytes.
+/// A desk over given files on which only a load can fail, for want of memory. It tells no files, and keeps only counts
+/// of bytes.
 #[derive(Drop)]
 pub struct SureDesk {
     files: Vec<NamedFile>,

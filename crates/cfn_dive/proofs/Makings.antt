@@ -34,8 +34,8 @@ is_zero n h = grind arith
 none_open : (P : Network) (p : Parts) (g : Growth) → IsDiving P p g → g.current ≡ None → open_leaves (tree_of g.tree) ≡ 0
 none_open P p g diving none = subst (λ o. MatchOption o (open_leaves (tree_of g.tree) ≡ 0) (IsAt P p g)) none diving.at
 
-pub ended : (P : Network) (p : Parts) (g : Growth) (grant granted : ℕ) (cut : Bool) → IsDiving P p g → g.granted ≡ granted → g.nodes ≤ grant → GoesOn g grant None → cut ≡ (g.left == 0) → HasEnded grant granted (tree_of g.tree) cut
-ended P p g grant granted cut diving same few goes is =
+pub ended : (P : Network) (p : Parts) (g : Growth) (grant granted : ℕ) (timed cut : Bool) → IsDiving P p g → g.granted ≡ granted → g.nodes ≤ grant → GoesOn g grant timed None → cut ≡ (g.left == 0) → HasEnded grant granted timed (tree_of g.tree) cut
+ended P p g grant granted timed cut diving same few goes is =
     let back = diving.kept.grown.gone_back in
     let counted = diving.kept.grown.counted in
     record {
@@ -44,14 +44,17 @@ ended P p g grant granted cut diving same few goes is =
       ends = elim (goes.ends refl) [
         | inl all ↦ inr (inl (omega (arith, counted, all, few)))
         | inr other ↦ elim other [
-          | inl spent ↦ inr (inr (is ∙ is_zero g.left spent))
-          | inr none ↦ inl (none_open P p g diving none)
+          | inl spent ↦ inr (inr (inl (is ∙ is_zero g.left spent)))
+          | inr last ↦ elim last [
+            | inl none ↦ inl (none_open P p g diving none)
+            | inr halted ↦ inr (inr (inr halted))
+          ]
         ]
       ];
     }
 
-pub made : (P : Network) (p : Parts) (g : Growth) (task : Task) (granted k : ℕ) (cut : Bool) → IsDiving P p g → g.base.value ≡ task.path → g.threshold ≡ k → k ≤ GREATEST → g.granted ≡ granted → 1 ≤ g.nodes → g.nodes ≤ task.grant → GoesOn g task.grant None → cut ≡ (g.left == 0) → IsMade P task granted k g.tree cut
-made P p g task granted k cut diving base at small same some few goes is =
+pub made : (P : Network) (p : Parts) (g : Growth) (task : Task) (granted : ℕ) (timed : Bool) (k : ℕ) (cut : Bool) → IsDiving P p g → g.base.value ≡ task.path → g.threshold ≡ k → k ≤ GREATEST → g.granted ≡ granted → 1 ≤ g.nodes → g.nodes ≤ task.grant → GoesOn g task.grant timed None → cut ≡ (g.left == 0) → IsMade P task granted timed k g.tree cut
+made P p g task granted timed k cut diving base at small same some few goes is =
     let grown = subst (λ h. IsGrown P h k g.granted g.tree g.nodes g.left) base (subst (λ t. IsGrown P g.base.value t g.granted g.tree g.nodes g.left) at diving.kept.grown) in
     let counted = grown.counted in
     record {
@@ -62,12 +65,12 @@ made P p g task granted k cut diving base at small same some few goes is =
       few = omega (arith, counted, few);
       threshold = small;
       enforced = grown.enforced;
-      ended = ended P p g task.grant granted cut diving same few goes is;
+      ended = ended P p g task.grant granted timed cut diving same few goes is;
     }
 
 -- one closed leaf where the floor reaches the threshold
-pub closed_made : (P : Network) (task : Task) (granted k : ℕ) (nodes : List Node) (cut : Bool) → tree_of nodes ≡ Closed [] → cut ≡ false → IsTask P task → k ≤ task.floor → k ≤ GREATEST → 1 ≤ granted → IsMade P task granted k nodes cut
-closed_made P task granted k nodes cut is not_cut kept reached small some =
+pub closed_made : (P : Network) (task : Task) (granted : ℕ) (timed : Bool) (k : ℕ) (nodes : List Node) (cut : Bool) → tree_of nodes ≡ Closed [] → cut ≡ false → IsTask P task → k ≤ task.floor → k ≤ GREATEST → 1 ≤ granted → IsMade P task granted timed k nodes cut
+closed_made P task granted timed k nodes cut is not_cut kept reached small some =
     let b = ap backtracks is in
     let c = ap count is in
     let few = kept.some in
@@ -106,8 +109,8 @@ made_ok (Ok made) X tree cut holds = holds made tree cut
 made_ok (Err error) X tree cut holds = tt
 
 -- an open leaf is next at the beginning
-pub goes_first : (g : Growth) (grant : ℕ) → g.nodes < grant → 1 ≤ g.left → GoesOn g grant g.current
-goes_first g grant nodes left = record { current = itself g.current; nodes = all g.current; left = some g.current; ends = λ none. inr (inr none) }
+pub goes_first : (g : Growth) (grant : ℕ) (timed : Bool) → g.nodes < grant → 1 ≤ g.left → GoesOn g grant timed g.current
+goes_first g grant timed nodes left = record { current = itself g.current; nodes = all g.current; left = some g.current; ends = λ none. inr (inr (inl none)) }
   where
     itself : (o : Option Leaf) → IfSome o (λ leaf. o ≡ Some leaf)
     itself None = tt
@@ -121,8 +124,8 @@ goes_first g grant nodes left = record { current = itself g.current; nodes = all
     some None = tt
     some (Some leaf) = left
 
-pub next_below : (g : Growth) (grant : ℕ) (next : Option Leaf) (leaf : Leaf) → GoesOn g grant next → next ≡ Some leaf → g.nodes < grant
-next_below g grant next leaf goes is = subst (λ o. IfSome o (λ l. g.nodes < grant)) is goes.nodes
+pub next_below : (g : Growth) (grant : ℕ) (timed : Bool) (next : Option Leaf) (leaf : Leaf) → GoesOn g grant timed next → next ≡ Some leaf → g.nodes < grant
+next_below g grant timed next leaf goes is = subst (λ o. IfSome o (λ l. g.nodes < grant)) is goes.nodes
 
 pub next_none : (next : Option Leaf) → ((leaf : Leaf) → next ≡ Some leaf → ⊥) → next ≡ None
 next_none None other = refl

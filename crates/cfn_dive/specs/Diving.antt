@@ -107,9 +107,9 @@ pub record IsSameDive (old new : Growth) : Type 0 where
   pub base : new.base.value ≡ old.base.value
   pub granted : new.granted ≡ old.granted
 
--- The current leaf is next where nodes and backtracks are left, and else none is.
-pub record GoesOn (g : Growth) (grant : ℕ) (next : Option Leaf) : Type 0 where
+-- The current leaf is next where nodes and backtracks are left; else none is, nor where the dive may be halted and is.
+pub record GoesOn (g : Growth) (grant : ℕ) (timed : Bool) (next : Option Leaf) : Type 0 where
   pub current : IfSome next (λ leaf. g.current ≡ Some leaf)
   pub nodes : IfSome next (λ leaf. g.nodes < grant)
   pub left : IfSome next (λ leaf. 1 ≤ g.left)
-  pub ends : next ≡ None → (grant ≤ g.nodes) ⊎ ((g.left ≡ 0) ⊎ (g.current ≡ None))
+  pub ends : next ≡ None → (grant ≤ g.nodes) ⊎ ((g.left ≡ 0) ⊎ ((g.current ≡ None) ⊎ (timed ≡ true)))

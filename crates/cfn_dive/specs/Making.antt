@@ -22,7 +22,7 @@ pub record Begins (path : List Event) (k allowed : ℕ) (g : Growth) : Type 0 wh
   pub some : (g.current ≡ None) → ⊥
 
 -- A tree is a piece's at a threshold, behind enforced blocks, and ended as dives do.
-pub record IsMade (P : Network) (task : Task) (granted k : ℕ) (nodes : List Node) (cut : Bool) : Type 0 where
+pub record IsMade (P : Network) (task : Task) (granted : ℕ) (timed : Bool) (k : ℕ) (nodes : List Node) (cut : Bool) : Type 0 where
   pub valid : Valid P task.path (tree_of nodes) k
   pub strict : Strict P task.path (tree_of nodes)
   pub tame : Tame P task.path (tree_of nodes)
@@ -30,4 +30,4 @@ pub record IsMade (P : Network) (task : Task) (granted k : ℕ) (nodes : List No
   pub few : count (tree_of nodes) ≤ task.grant
   pub threshold : k ≤ GREATEST
   pub enforced : AreEnforced P task.path (tree_of nodes)
-  pub ended : HasEnded task.grant granted (tree_of nodes) cut
+  pub ended : HasEnded task.grant granted timed (tree_of nodes) cut

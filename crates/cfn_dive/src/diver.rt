@@ -9,6 +9,7 @@ ghost use Rattle.cfn_dive.specs.Making.{IsMade};
 use crate::growing::Grown;
 use crate::parts::Parts;
 use cfn_branch::Rule;
+use cfn_clock::Halt;
 use cfn_explore::{Explore, Explored};
 use cfn_low::{Holder, Incumbent, Low};
 use cfn_net::{Network, Tables};
@@ -53,10 +54,11 @@ impl<'n> Diver<'n> {
     /// Makes a piece of a task, depth first: the tree below its leaf, at the threshold that `holder` has seen at the end.
     ///
     /// The dive ends where no leaf is open, or the piece has as many nodes (splits and closed leaves) as the task grants, or
-    /// `backtracks`, at least 1, were made, which `cut` tells. At each leaf the word is read; behind the block of each split the
+    /// `backtracks`, at least 1, were made, which `cut` tells; or `halt` is past, which is asked behind each node. At each leaf the
+    /// word is read; behind the block of each split the
     /// network is fully consistent at its upper bound, or the block has all steps that it may have. What is found lowers the
     /// word, and `holder` keeps it. At want of memory the unfinished tree is dropped, and the task given back.
-    pub fn dive<M: Incumbent>(
+    pub fn dive<M: Incumbent, H: Halt>(
         &mut self,
         alloc: Global,
         network: &Network,
@@ -64,19 +66,20 @@ impl<'n> Diver<'n> {
         low: &Low<M>,
         holder: &mut Holder<M>,
         backtracks: u64,
+        halt: &H,
     ) -> Explored
         requires network { network.now ≡ self.old }
         requires task { task.network ≡ self.old }
         requires word { M.network ≡ self.old }
         requires some { 1 ≤ backtracks }
         ensures falls { HasFallen M.network holder.old holder.new }
-        ensures dives { IsExplored AreEnforced task backtracks holder.new.seen result }
+        ensures dives { IsExplored AreEnforced task backtracks (H.limited halt.now) holder.new.seen result }
         ensures same { self.new ≡ self.old }
     {
         let made = self
             .parts
-            .grow(alloc, network, &task, low, holder, backtracks);
-        handed_back(task, made, holder.seen(), backtracks)
+            .grow(alloc, network, &task, low, holder, backtracks, halt);
+        handed_back(task, made, holder.seen(), backtracks, halt)
     }
 }
 
@@ -88,7 +91,7 @@ impl<'n> Explore for Diver<'n> {
 
     ghost keeps = { AreEnforced };
 
-    fn explore<M: Incumbent>(
+    fn explore<M: Incumbent, H: Halt>(
         &mut self,
         alloc: Global,
         network: &Network,
@@ -96,20 +99,22 @@ impl<'n> Explore for Diver<'n> {
         low: &Low<M>,
         holder: &mut Holder<M>,
         backtracks: u64,
+        halt: &H,
     ) -> Explored {
-        self.dive(alloc, network, task, low, holder, backtracks)
+        self.dive(alloc, network, task, low, holder, backtracks, halt)
     }
 }
 
 /// The piece of a task with a tree that was made, or the task itself where none was.
-fn handed_back(
+fn handed_back<H: Halt>(
     task: Task,
     made: Result<Grown, AllocError>,
     threshold: u64,
     backtracks: u64,
+    halt: &H,
 ) -> Explored
-    requires { IfOk made (λ made. IsMade task.network task.task backtracks threshold made.tree made.cut) }
-    ensures { IsExplored AreEnforced task backtracks threshold result }
+    requires { IfOk made (λ made. IsMade task.network task.task backtracks (H.limited halt.now) threshold made.tree made.cut) }
+    ensures { IsExplored AreEnforced task backtracks (H.limited halt.now) threshold result }
 {
     match made {
         Ok(Grown { tree, cut }) => Explored::Piece {

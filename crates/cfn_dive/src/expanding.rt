@@ -15,6 +15,7 @@ ghost use Rattle.cfn_dive.specs.Diving.{IsOf, IsWaiting, IsDiving, IsExpanding, 
 
 use crate::growth::{Growth, Leaf};
 use crate::parts::{Parts, Waiting};
+use cfn_clock::Halt;
 use cfn_close::shut;
 use cfn_low::{Holder, Incumbent, Low};
 use cfn_model::{Decision, Event};
@@ -28,8 +29,8 @@ use std::alloc::{AllocError, Global};
 
 impl<'n> Parts<'n> {
     /// Expands the current leaf: it is closed or split, and counted. At a leaf whose floor is below the threshold it enforces
-    /// first. An `Err` is want of memory, after which the tree says nothing.
-    pub fn expand<M: Incumbent>(
+    /// first, at the root only until `halt` is past. An `Err` is want of memory, after which the tree says nothing.
+    pub fn expand<M: Incumbent, H: Halt>(
         &mut self,
         alloc: Global,
         network: &Network,
@@ -37,6 +38,7 @@ impl<'n> Parts<'n> {
         leaf: Leaf,
         low: &Low<M>,
         holder: &mut Holder<M>,
+        halt: &H,
     ) -> Result<(), AllocError>
         requires network { network.now ≡ self.old.store.network }
         requires word { M.network ≡ self.old.store.network }
@@ -59,7 +61,7 @@ impl<'n> Parts<'n> {
             return Ok(());
         }
         let mark = self.store.mark();
-        let settled = match self.enforce(alloc, network, growth, leaf)? {
+        let settled = match self.enforce(alloc, network, growth, leaf, halt)? {
             Settling::Dead => return self.close_dead(alloc, growth, leaf.id, &mark),
             Settling::Settled => true,
             Settling::Spent => false,
@@ -71,12 +73,13 @@ impl<'n> Parts<'n> {
     }
 
     /// Enforces where the store stands, at the current leaf, with room for what closes a leaf. An `Err` is want of memory.
-    fn enforce(
+    fn enforce<H: Halt>(
         &mut self,
         alloc: Global,
         network: &Network,
         growth: &Growth,
         leaf: Leaf,
+        halt: &H,
     ) -> Result<Settling, AllocError>
         requires network { network.now ≡ self.old.store.network }
         requires diving { IsDiving self.old.store.network self.old growth.now }
@@ -108,6 +111,7 @@ impl<'n> Parts<'n> {
             &self.incidence,
             asked,
             around,
+            halt,
         )
     }
 

@@ -9,6 +9,7 @@ ghost use Rattle.cfn_dive.specs.Making.{Begins, IsMade};
 
 use crate::growth::{Growth, Leaf};
 use crate::parts::Parts;
+use cfn_clock::Halt;
 use cfn_low::{Holder, Incumbent, Low};
 use cfn_net::Network;
 use cfn_proof::Tree;
@@ -25,9 +26,9 @@ pub struct Grown {
 
 impl<'n> Parts<'n> {
     /// Makes a tree below the leaf of a task: leaves are expanded until none is open, or as many nodes are made as the task
-    /// grants, or as many backtracks. Where the task's floor reaches the threshold, it is one closed leaf. An `Err` is want of
-    /// memory.
-    pub fn grow<M: Incumbent>(
+    /// grants, or as many backtracks, or `halt` is past, which is asked behind each expansion. Where the task's floor reaches the
+    /// threshold, it is one closed leaf. An `Err` is want of memory.
+    pub fn grow<M: Incumbent, H: Halt>(
         &mut self,
         alloc: Global,
         network: &Network,
@@ -35,6 +36,7 @@ impl<'n> Parts<'n> {
         low: &Low<M>,
         holder: &mut Holder<M>,
         backtracks: u64,
+        halt: &H,
     ) -> Result<Grown, AllocError>
         requires network { network.now ≡ self.old.store.network }
         requires task { task.now.network ≡ self.old.store.network }
@@ -42,7 +44,7 @@ impl<'n> Parts<'n> {
         requires some { 1 ≤ backtracks }
         requires of { IsOf self.old.store.network self.old }
         ensures falls { HasFallen M.network holder.old holder.new }
-        ensures made { IfOk result (λ made. IsMade self.old.store.network task.now.task backtracks holder.new.seen made.tree made.cut) }
+        ensures made { IfOk result (λ made. IsMade self.old.store.network task.now.task backtracks (H.limited halt.now) holder.new.seen made.tree made.cut) }
         ensures of { IsOf self.old.store.network self.new }
     {
         low.look(holder);
@@ -56,8 +58,8 @@ impl<'n> Parts<'n> {
         let mut growth = self.begin(alloc, task, holder.seen(), backtracks)?;
         let mut next = growth.current;
         while let Some(leaf) = next {
-            self.expand(alloc, network, &mut growth, leaf, low, holder)?;
-            next = growth.next(grant);
+            self.expand(alloc, network, &mut growth, leaf, low, holder, halt)?;
+            next = growth.next(grant, halt);
         }
         holder.kept();
         Ok(Grown {

@@ -2,6 +2,7 @@
 
 ghost use Rattle.cfn_dive.specs.Diving.{GoesOn};
 
+use cfn_clock::Halt;
 use cfn_model::Event;
 use cfn_proof::{NodeId, Path, Tree};
 use std::snapshot::Snapshot;
@@ -36,14 +37,16 @@ pub struct Growth {
 }
 
 impl Growth {
-    /// The leaf that is expanded next, where so many nodes may be made.
-    pub fn next(&self, grant: u64) -> Option<Leaf>
-        ensures { GoesOn self.now grant result }
+    /// The leaf that is expanded next, where so many nodes may be made and `halt` is not past.
+    pub fn next<H: Halt>(&self, grant: u64, halt: &H) -> Option<Leaf>
+        ensures { GoesOn self.now grant (H.limited halt.now) result }
     {
-        if self.nodes < grant && self.left > 0 {
-            self.current
-        } else {
-            None
+        if self.nodes >= grant || self.left == 0 {
+            return None;
+        }
+        match halt.past() {
+            Some(_) => None,
+            None => self.current,
         }
     }
 }

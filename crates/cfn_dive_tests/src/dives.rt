@@ -4,6 +4,7 @@ ghost use Rattle.std.specs.Prelude.{◌≡◌, ◌≤◌, None, IfOk, IfSome};
 ghost use Rattle.cfn_task.specs.Values.{IsTaskOf};
 
 use cfn_branch::Rule;
+use cfn_clock::Never;
 use cfn_dive::Diver;
 use cfn_explore::Explored;
 use cfn_low::{Holder, Incumbent, Low, Unnamed};
@@ -106,7 +107,7 @@ fn dive_below<M: Incumbent>(
     requires task { IsTaskOf M.network task }
     requires some { 1 ≤ backtracks }
 {
-    match diver.dive(alloc, network, task, low, part, backtracks) {
+    match diver.dive(alloc, network, task, low, part, backtracks, &Never) {
         Explored::Piece { piece, cut } => Ok(Some(told_by(&piece, cut))),
         Explored::Memory { .. } => Err(AllocError),
     }

@@ -4,7 +4,8 @@ ghost use Rattle.std.specs.Prelude.{◌≤◌};
 
 use crate::judging::Verdict;
 use cfn_net::Network;
-use cfn_proof::{Outcome, Row, Stop};
+use cfn_outcome::{Outcome, Stop};
+use cfn_proof::Row;
 use cfn_solve::solve;
 use cfn_testing::drawing::{Dice, MOST, draw, file_of, least_of};
 use cfn_testing::running::{certificate_of, check_answers};
@@ -89,7 +90,7 @@ fn is_within(outcome: &Outcome, budget: u64) -> bool {
     match outcome.stop {
         Stop::Done => outcome.nodes <= budget,
         Stop::Budget => outcome.nodes == budget,
-        Stop::Memory => false,
+        Stop::Time | Stop::Part | Stop::Memory => false,
     }
 }
 

@@ -42,7 +42,8 @@ impl<'n> Enforcer<'n> {
         })
     }
 
-    /// The function that the newest call that ended dead was at, where it was at one.
+    /// The function that the newest `settle` was at, where it ended dead and was at one. That it is this one is in no
+    /// clause.
     pub fn blamed(&self) -> Option<u32>
         ensures { IfSome result (λ f. f < length self.now.functions) }
     {

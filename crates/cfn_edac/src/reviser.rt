@@ -87,7 +87,7 @@ impl<'n> Reviser<'n> {
         })
     }
 
-    /// The function that was looked at when a call halted, where it was at one.
+    /// The function that was looked at when the newest call halted, where it was at one and is not forgotten.
     pub fn blamed(&self) -> Option<u32>
         ensures { IfSome result (λ f. f < length self.now.network.functions) }
     {

@@ -156,6 +156,7 @@ fn decision_ends_what_is_known_of_its_functions(rt: HostRuntime) -> Result<(), F
     Ok(())
 }
 
+/// The second event is a cut of a tuple, in place of an extend.
 #[test]
 fn lift_ends_nothing_and_an_extend_what_is_known_of_its_function(
     rt: HostRuntime,

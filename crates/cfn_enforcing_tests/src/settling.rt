@@ -12,7 +12,7 @@ use cfn_store::Store;
 use std::alloc::{AllocError, Global};
 use std::test::*;
 
-/// Two variables with two values; what both agree on costs 2 or 1.
+/// Two variables with two values, and a function of both whose tuples all cost 2.
 fn arc(alloc: Global) -> Result<Network, AllocError> {
     let mut builder = Builder::make(alloc, b"arc", &[2, 2], 10)?;
     let added = builder.function(&[0, 1], 2, &[]);
@@ -69,6 +69,7 @@ fn answer_in(
     Ok(answer)
 }
 
+/// It asks only whether the network is settled then.
 #[test]
 fn what_all_tuples_cost_is_lifted(rt: HostRuntime) -> Result<(), Fail> {
     let network = arc(rt.alloc())?;

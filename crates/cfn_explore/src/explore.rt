@@ -1,5 +1,6 @@
 //! What makes a piece of a task.
 
+use cfn_clock::Halt;
 use cfn_low::{Holder, Incumbent, Low};
 use cfn_net::Network;
 use cfn_task::{Piece, Task};
@@ -30,9 +31,9 @@ pub trait Explore: Sized + Drop {
     /// Makes a piece of a task: the tree below its leaf, at the threshold that `holder` has seen at the end.
     ///
     /// It ends where no leaf is open, or the piece has as many nodes (splits and closed leaves) as the task grants, or
-    /// `backtracks`, at least 1, were made, which `cut` tells. What is found lowers the word, and `holder` keeps it. At want of
+    /// `backtracks`, at least 1, were made, which `cut` tells; or where `halt` is past, though not without a node. What is found lowers the word, and `holder` keeps it. At want of
     /// memory the unfinished tree is dropped, and the task given back.
-    fn explore<M: Incumbent>(
+    fn explore<M: Incumbent, H: Halt>(
         &mut self,
         alloc: Global,
         network: &Network,
@@ -40,12 +41,13 @@ pub trait Explore: Sized + Drop {
         low: &Low<M>,
         holder: &mut Holder<M>,
         backtracks: u64,
+        halt: &H,
     ) -> Explored
         requires network { network.now ≡ made_of self.old }
         requires task { task.network ≡ made_of self.old }
         requires word { M.network ≡ made_of self.old }
         requires some { 1 ≤ backtracks }
         ensures falls { HasFallen M.network holder.old holder.new }
-        ensures makes { IsExplored keeps task backtracks holder.new.seen result }
+        ensures makes { IsExplored keeps task backtracks (H.limited halt.now) holder.new.seen result }
         ensures same { made_of self.new ≡ made_of self.old };
 }

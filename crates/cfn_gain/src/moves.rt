@@ -33,7 +33,7 @@ fn room(store: &Store<'_>, limits: Limits) -> Result<(), Halt>
     }
 }
 
-/// Projects an amount to a value. An `Err` leaves the store as it was, as with each of these but `lift`.
+/// Projects an amount to a value. An `Err` leaves the store as it was, as with `extend` and `cut_tuple`.
 pub fn project(
     store: &mut Store<'_>,
     limits: Limits,

@@ -7,9 +7,10 @@
 //! Whether the pool is sound is for the caller to keep: only `take` asks for it.
 //!
 //! The tree is an arena of nodes that only grows (`finish` hands it out). Beside it stand a table of the open leaves by
-//! their numbers (`entry`), and the free ones in the order of their floors (cfn_open). A leaf's path is read up the tree
-//! (`way`), and a piece's leaves are numbered by a walk over it (`walk`) and put behind the table (`placing`). Only `take`
-//! and `give` take memory, and a place in the list is kept for each leaf that is out, so that no other call needs any.
+//! their numbers (`entry`), and the free ones in the order of their floors (cfn_open). A leaf's path is read up the
+//! tree (`way`), and a piece's leaves are numbered by a walk over it (`walk`) and put behind the table (`placing`).
+//! Only `start`, `take` and `give` take memory, and a place in the list is kept for each leaf that is out, so that no
+//! other call needs any.
 #![tactic(auto)]
 
 mod climb;

@@ -6,8 +6,8 @@
 //! - `channel` sends bytes in one call.
 //! - `word` has the words that lines are made of, and `waiting` the bytes that wait for the screen, a `Line`. A caller
 //!   whose lines are no lists of fixed words and numbers adds their words, or bytes, to a `Line` of its own.
-//! - `lines` writes a line of words: into the file each word by one call, together with the space or LF behind it; on
-//!   the screen the line by one call, where it has at most 4,096 bytes.
+//! - `lines` writes a line of words: into the file each word by one call, together with the space or LF behind it, but
+//!   a fixed word longer than 31 bytes by two; on the screen the line by one call, where it has at most 4,096 bytes.
 //!
 //! No call takes memory. A text's definition, and `line` and `text`, stand in cfn_model's specs/Text.antt.
 #![tactic(auto)]

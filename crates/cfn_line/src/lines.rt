@@ -17,8 +17,9 @@ const SPACE: u8 = b' ';
 /// What stands behind the last word of a line.
 const LF: u8 = b'\n';
 
-/// Writes a line of words. Into a file each word goes by one call, together with the byte behind it; to the screen the
-/// line goes by one call, where it has at most 4,096 bytes. Without words there is no line.
+/// Writes a line of words. Into a file each word goes by one call, together with the byte behind it, but a fixed word
+/// longer than 31 bytes by two; to the screen the line goes by one call, where it has at most 4,096 bytes. Without
+/// words there is no line.
 pub fn write_line<D: Desk>(channel: Channel, words: &[Word], desk: &mut D) -> Result<(), Failed>
     requires { IsOpen channel (D.outside desk.old).calls }
     ensures { Appends channel (D.outside desk.old) (line (map word_text words.now)) result

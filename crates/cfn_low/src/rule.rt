@@ -11,23 +11,28 @@ use cfn_machine::Sight;
 use cfn_net::Network;
 use std::marker::{Brand, PhantomData};
 
-/// Which word a part is of, and the network whose assignments are found. No value of it is made.
+/// Which word a part is of, the network whose assignments are found, and what the search begins with. No value of it is made.
 pub trait Incumbent {
     ghost use Rattle.atomic_table.specs.Seated.{TableId};
     ghost use Rattle.cfn_model.specs.Network.{Network};
+    ghost use Rattle.cfn_outcome.specs.Outcome.{Start};
 
     ghost table: { TableId };
 
     ghost network: { Network };
+
+    ghost start: { Start };
 }
 
 /// The name that one call picks for a word: at such a call the members are those that the caller says, and these are never read.
 impl Incumbent for Brand {
-    ghost use Rattle.std.specs.Prelude.{[]};
+    ghost use Rattle.std.specs.Prelude.{[], None};
 
     ghost table = { record { words = 1; slots = 0; views_name = 0; atom = 0; block = 0; offset = 0; slot_names = [] } };
 
     ghost network = { record { name = []; sizes = []; upper = 0; functions = [] } };
+
+    ghost start = { record { begun = 0; first = record { lower = 0; upper = None } } };
 }
 
 /// The rule, for a network: its upper bound is the top.

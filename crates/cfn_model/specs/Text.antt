@@ -12,7 +12,7 @@ use Rattle.cfn_model.specs.declared.reading.Kind.TheVariants.{Short, NotNumber, 
 use Rattle.cfn_model.specs.declared.reading.Refusal.{Refusal}
 use Rattle.cfn_model.specs.declared.report.Row.{Row}
 use Rattle.cfn_model.specs.declared.report.ResultWord.{ResultWord}
-use Rattle.cfn_model.specs.declared.report.ResultWord.TheVariants.{Optimum, Nothing, Budget, Memory}
+use Rattle.cfn_model.specs.declared.report.ResultWord.TheVariants.{Optimum, Nothing, Budget, Time, Part, Memory}
 use Rattle.cfn_model.specs.Words.{greatest}
 use Rattle.cfn_model.specs.Tree.{Tree, Open, Closed, Split}
 use Rattle.cfn_model.specs.Certificate.{Solution, Certificate}
@@ -136,6 +136,8 @@ abbrev pub result_word : ResultWord → List ℕ
 result_word Optimum = codes "optimum"
 result_word Nothing = codes "none"
 result_word Budget = codes "budget"
+result_word Time = codes "time"
+result_word Part = codes "part"
 result_word Memory = codes "memory"
 
 -- The lines of the report of `solve`.

@@ -18,6 +18,10 @@ pub enum ResultWord {
     Nothing,
     /// The budget of nodes was spent.
     Budget,
+    /// The limit of time is past.
+    Time,
+    /// All leaves of this run's part are done, and leaves of others are open.
+    Part,
     /// Memory was refused.
     Memory,
 }

@@ -99,8 +99,9 @@ impl Builder {
         Ok(())
     }
 
-    /// Adds a function with the default and the entries of an earlier function, whose variables have as many values each
-    /// as those of the scope. The two share one table. An error leaves the builder unchanged.
+    /// Adds a function with the default and the entries of an earlier function, whose variables have as many values
+    /// each as those of the scope. The two share one table, unless a cost is listed in the new one. An error leaves the
+    /// builder unchanged.
     pub fn shared(&mut self, scope: &[u32], earlier: u32) -> Result<(), AllocError>
         requires room { CanTake self.old scope.now }
         requires earlier { earlier < length self.old.functions }

@@ -131,7 +131,7 @@ impl Network {
         self.function(f).table()
     }
 
-    /// The cells of a function without a table whose entries are listed, each with its entry, and the entry of all its
+    /// What makes up the entries of a function without a table: some cells, each with its entry, and the entry of all
     /// other cells.
     pub fn listed(&self, f: u32) -> Option<Listed<'_>>
         requires { f < length self.now.functions }

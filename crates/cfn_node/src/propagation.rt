@@ -25,9 +25,9 @@ pub struct Asked {
     pub since: Option<Event>,
 }
 
-/// Makes a store fully consistent at a threshold, as far as its steps go, and answers whether it is dead then, or consistent,
-/// or neither, and then by all its steps. There is room for so many steps more. An `Err`, want of memory, leaves the store
-/// where it was.
+/// Makes a store fully consistent at a threshold, as far as its steps go, and answers whether it is dead then, or
+/// consistent, or neither, and then by all its steps. There is room for so many steps more then. An `Err` is want of
+/// memory; of the store the contract says only that it has gone on by steps, if by any.
 pub fn propagate(
     enforcer: &mut Enforcer<'_>,
     store: &mut Store<'_>,

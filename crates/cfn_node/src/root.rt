@@ -8,6 +8,7 @@ ghost use Rattle.cfn_edac.specs.Settling.{IsBehindSettled};
 ghost use Rattle.cfn_node.specs.Enforcing.{GoesOn, Finds, IsSpent};
 
 use crate::propagation::{Asked, propagate, settle};
+use cfn_clock::Halt;
 use cfn_edac::Enforcer;
 use cfn_gain::Limits;
 use cfn_incidence::Incidence;
@@ -26,15 +27,17 @@ pub struct Around {
     pub is_root: bool,
 }
 
-/// Enforces at a node, with rounds at the root, and answers whether the store is dead then, or fully consistent, or neither,
-/// and then by all the steps that are asked for. An `Err`, want of memory, leaves the store where it was.
-pub fn enforce(
+/// Enforces at a node, with rounds at the root, and answers whether the store is dead then, or fully consistent, or
+/// neither, and then by all the steps that are asked for. An `Err` is want of memory; of the store the contract says
+/// only that it has gone on by steps, if by any.
+pub fn enforce<H: Halt>(
     alloc: Global,
     enforcer: &mut Enforcer<'_>,
     store: &mut Store<'_>,
     incidence: &Incidence,
     asked: Asked,
     around: Around,
+    halt: &H,
 ) -> Result<Settling, AllocError>
     requires network { store.old.network ≡ enforcer.old }
     requires incidence { incidence.now ≡ enforcer.old }
@@ -50,14 +53,15 @@ pub fn enforce(
 {
     let found = propagate(enforcer, store, incidence, asked, around.more)?;
     if around.is_root {
-        Ok(enforce_root(alloc, enforcer, store, incidence, asked, around.more, found))
+        let more = around.more;
+        Ok(enforce_root(alloc, enforcer, store, incidence, asked, more, found, halt))
     } else {
         Ok(found)
     }
 }
 
 /// Goes on at the root by rounds, where there is memory for virtual arc consistency.
-fn enforce_root(
+fn enforce_root<H: Halt>(
     alloc: Global,
     enforcer: &mut Enforcer<'_>,
     store: &mut Store<'_>,
@@ -65,6 +69,7 @@ fn enforce_root(
     asked: Asked,
     more: usize,
     found: Settling,
+    halt: &H,
 ) -> Settling
     requires network { store.old.network ≡ enforcer.old }
     requires incidence { incidence.now ≡ enforcer.old }
@@ -80,13 +85,15 @@ fn enforce_root(
     ensures same { enforcer.new ≡ enforcer.old }
 {
     match RootVac::make(alloc, store.network()) {
-        Ok(mut vac) => rounds(&mut vac, enforcer, store, incidence, asked, more, found),
+        Ok(mut vac) => rounds(
+            &mut vac, enforcer, store, incidence, asked, more, found, halt,
+        ),
         Err(AllocError) => found,
     }
 }
 
-/// Goes on by rounds, as long as the store is not dead and they change it.
-fn rounds(
+/// Goes on by rounds, as long as the store is not dead, they change it, and `halt` is not past.
+fn rounds<H: Halt>(
     vac: &mut RootVac<'_>,
     enforcer: &mut Enforcer<'_>,
     store: &mut Store<'_>,
@@ -94,6 +101,7 @@ fn rounds(
     asked: Asked,
     more: usize,
     before: Settling,
+    halt: &H,
 ) -> Settling
     requires network { store.old.network ≡ enforcer.old }
     requires vac { store.old.network ≡ vac.old.network }
@@ -111,10 +119,10 @@ fn rounds(
 {
     let mut found = before;
     for _round in 0..ROUNDS {
-        if found == Settling::Dead {
+        if found == Settling::Dead || halt.past().is_some() {
             return found;
         }
-        match round(vac, enforcer, store, incidence, asked, more, found) {
+        match round(vac, enforcer, store, incidence, asked, more, found, halt) {
             Some(next) => found = next,
             None => return found,
         }
@@ -123,7 +131,7 @@ fn rounds(
 }
 
 /// Raises the floor by virtual arc consistency, and settles the store again. `None` where nothing was changed.
-fn round(
+fn round<H: Halt>(
     vac: &mut RootVac<'_>,
     enforcer: &mut Enforcer<'_>,
     store: &mut Store<'_>,
@@ -131,6 +139,7 @@ fn round(
     asked: Asked,
     more: usize,
     found: Settling,
+    halt: &H,
 ) -> Option<Settling>
     requires network { store.old.network ≡ enforcer.old }
     requires vac { store.old.network ≡ vac.old.network }
@@ -160,7 +169,7 @@ fn round(
     let before = store.block_len();
     let limits = limits_from(before, asked);
     let settled = found == Settling::Settled;
-    vac.raise(store, incidence, limits, settled);
+    vac.raise(store, incidence, limits, settled, halt);
     let raised = store.block_len();
     if raised == before {
         return None;

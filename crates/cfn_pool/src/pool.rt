@@ -1,10 +1,11 @@
 //! The pool, how it begins and how it ends.
 
-ghost use Rattle.std.specs.Prelude.{◌≡◌, None, IfOk, IfErr};
+ghost use Rattle.std.specs.Prelude.{◌≡◌, ◌<◌, ◌^◌, None, IfOk, IfErr};
+ghost use Rattle.cfn_model.specs.Tree.{count};
 ghost use Rattle.cfn_proof.specs.Nodes.{tree_of};
 ghost use Rattle.cfn_machine.specs.Pool as machine;
-ghost use Rattle.cfn_machine.specs.Pool.{opening_pool};
-ghost use Rattle.cfn_pool.specs.Views.{pool, view_of};
+ghost use Rattle.cfn_machine.specs.Pool.{IsKept, opening_pool, opening_with, price};
+ghost use Rattle.cfn_pool.specs.Views.{pool, values_of, view_of};
 
 use cfn_leaves::Leaves;
 use cfn_low::{Holder, Incumbent};
@@ -67,6 +68,27 @@ impl<M: Incumbent> Pool<M> {
         let Ok(tree) = Tree::new(alloc) else {
             return Err(holder);
         };
+        Pool::begin_with(alloc, network, holder, budget, tree)
+    }
+
+    /// A pool with a tree of an earlier search, whose open leaves are free, and a part of the word that has seen the price of what
+    /// it keeps. No node is made of at most `budget`, and the first row of bounds is that of the price. An `Err`, want of memory or
+    /// of a number for a floor, gives the part back.
+    pub fn begin_with(
+        alloc: Global,
+        network: &Network,
+        holder: Holder<M>,
+        budget: u64,
+        tree: Tree,
+    ) -> Result<Pool<M>, Holder<M>>
+        requires own { network.now ≡ M.network }
+        requires few { count (tree_of tree) < 2 ^ 64 }
+        requires kept { IsKept M.network (tree_of tree) (values_of holder.held) }
+        requires seen { holder.seen ≡ price M.network (values_of holder.held) }
+        ensures pool { IfOk result (λ held. pool held ≡ opening_with M.network holder.shares budget (tree_of tree) (values_of holder.held)) }
+        ensures back { IfErr result (λ given. given ≡ holder) }
+    {
+        network.limits();
         match Leaves::start(alloc, network, tree, holder.seen(), budget) {
             Ok(leaves) => Ok(Pool {
                 leaves,

@@ -13,7 +13,7 @@ use Rattle.cfn_proof.specs.declared.tree.NodeId.{NodeId}
 use Rattle.cfn_proof.specs.declared.tree.End.{End}
 use Rattle.cfn_proof.specs.declared.tree.End.TheVariants.{Free, Shut, Split}
 use Rattle.cfn_proof.specs.declared.tree.Node.{Node}
-use Rattle.cfn_proof.specs.Nodes.{node_at, names_child, open_node, IsLinked, IsFamily, IsFree, Before, at_root, at_first, at_second, split_at, split_behind_at, split_end, close_at}
+use Rattle.cfn_proof.specs.Nodes.{node_at, names_child, open_node, IsLinked, IsFamily, IsFree, Before, at_root, at_first, at_second, split_at, split_behind_at, split_end, close_at, leave_at}
 
 -- only the node i, an open leaf, has changed, and no node behind those that were there is a parent of one of them
 pub record Changed (nodes new : List Node) (i : ℕ) : Type 0 where
@@ -310,6 +310,50 @@ changed_by_close nodes i block there free = record {
   children_fresh = λ c first second is. absurd (not_both (ap (λ (n : Node). n.end) (close_at-same nodes i block there)) is);
   late_children = λ j c first second late is. absurd (not_free (fresh_by_close nodes i block there j late) is);
 }
+
+module _ (nodes : List Node) (i : ℕ) (block : List Step) (there : i < length nodes) where
+  pub length-leave_at : length (leave_at nodes i block) ≡ length nodes
+  length-leave_at = length-set nodes i _
+
+  pub leave_at-same : node_at (leave_at nodes i block) i ≡ record (node_at nodes i) { block = block }
+  leave_at-same = get_or-set_same nodes i _ _ there
+
+  pub leave_at-other : (j : ℕ) → j ≢ i → node_at (leave_at nodes i block) j ≡ node_at nodes j
+  leave_at-other j other = get_or-set_other nodes i j _ _ other
+
+pub fresh_by_leave : (nodes : List Node) (i : ℕ) (block : List Step) → i < length nodes → Fresh nodes (leave_at nodes i block)
+fresh_by_leave nodes i block there j late = past (leave_at nodes i block) j (omega (arith, length-leave_at nodes i block there))
+
+left_free : (nodes : List Node) (i : ℕ) (block : List Step) → i < length nodes → IsFree nodes i → IsFree (leave_at nodes i block) i
+left_free nodes i block there free = ap (λ (n : Node). n.end) (leave_at-same nodes i block there) ∙ free
+
+pub changed_by_leave : (nodes : List Node) (i : ℕ) (block : List Step) → i < length nodes → IsFree nodes i → Changed nodes (leave_at nodes i block) i
+changed_by_leave nodes i block there free = record {
+  there = there;
+  free = free;
+  no_fewer = omega (arith, length-leave_at nodes i block there);
+  others = λ j h other. leave_at-other nodes i block there j other;
+  children_fresh = λ c first second is. absurd (not_free (left_free nodes i block there free) is);
+  late_children = λ j c first second late is. absurd (not_free (fresh_by_leave nodes i block there j late) is);
+}
+
+pub linked_by_leave : (nodes : List Node) (i : ℕ) (block : List Step) → IsLinked nodes → i < length nodes → IsFree nodes i → IsLinked (leave_at nodes i block)
+linked_by_leave nodes i block linked there free =
+    let changed = changed_by_leave nodes i block there free in
+    let same = leave_at-same nodes i block there in
+    let len = length-leave_at nodes i block there in
+    let kept : (node_at (leave_at nodes i block) i).parent ≡ (node_at nodes i).parent = ap (λ (n : Node). n.parent) same in
+    record {
+      some = omega (arith, len, linked.some);
+      few = omega (arith, len, linked.few);
+      root = parents_kept nodes (leave_at nodes i block) i linked changed kept 0 linked.some ∙ linked.root;
+      only_root = λ j h none. linked.only_root j (omega (arith, len)) (sym (parents_kept nodes (leave_at nodes i block) i linked changed kept j (omega (arith, len))) ∙ none);
+      children = λ j c first second h is. elim (cases_eq j i) [
+        | inl at_leaf ↦ absurd (not_free (left_free nodes i block there free) (subst (λ m. (node_at (leave_at nodes i block) m).end ≡ Split c first second) at_leaf is))
+        | inr other ↦ family_kept nodes (leave_at nodes i block) i linked changed kept j c first second (omega (arith, len)) other is
+      ];
+      parents = λ j parent h is. named_kept nodes (leave_at nodes i block) i linked changed kept j parent (omega (arith, len)) is;
+    }
 
 pub linked_by_close : (nodes : List Node) (i : ℕ) (block : List Step) → IsLinked nodes → i < length nodes → IsFree nodes i → IsLinked (close_at nodes i block)
 linked_by_close nodes i block linked there free =

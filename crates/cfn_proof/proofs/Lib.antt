@@ -8,6 +8,5 @@ pub mod WholeTree
 pub mod Kept
 pub mod Packed
 pub mod Written
-pub mod Rows
 pub mod Parting
 pub mod CallerLemmas

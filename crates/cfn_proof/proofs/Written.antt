@@ -10,8 +10,8 @@ use Rattle.cfn_proof.specs.declared.tree.Node.{Node}
 use Rattle.std.specs.List.{AllByRecursion}
 use Rattle.std.proofs.lemmas.Bool.{cases_eq, cases_lt}
 use Rattle.cfn_model.specs.Text.{IsSpelledStep, IsSpelledDecision}
-use Rattle.cfn_proof.specs.Nodes.{IsFree, IsLinked, IsTree, IsSpelledEnd, node_at, open_node, split_at, split_behind_at, split_end, close_at}
-use Rattle.cfn_proof.proofs.Growth.{Changed, Fresh, fresh_by_split, fresh_by_close, changed_by_split, changed_by_close, linked_by_split, linked_by_close, split_behind_at-same, split_behind_at-behind, close_at-same, length-close_at}
+use Rattle.cfn_proof.specs.Nodes.{IsFree, IsLinked, IsTree, IsSpelledEnd, node_at, open_node, split_at, split_behind_at, split_end, close_at, leave_at}
+use Rattle.cfn_proof.proofs.Growth.{Changed, Fresh, fresh_by_split, fresh_by_close, changed_by_split, changed_by_close, linked_by_split, linked_by_close, fresh_by_leave, changed_by_leave, linked_by_leave, split_behind_at-same, split_behind_at-behind, close_at-same, length-close_at, leave_at-same, length-leave_at}
 
 -- a node that was read, with another block and end
 read_is : (inside : List Node) (i : ℕ) (read : Node) → i < length inside → read ≡ get_or inside i read → read ≡ node_at inside i
@@ -27,6 +27,12 @@ pub shut_is : (inside now : List Node) (i : ℕ) (read : Node) → inside ≡ no
 shut_is inside now i read same there value =
     let there' : i < length inside = omega (arith, ap length same) in
     closed_is inside now i read read.block same there value ∙ ap (λ (n : Node). close_at now i n.block) (read_is inside i read there' value) ∙ ap (λ m. close_at now i (node_at m i).block) same
+
+pub left_is : (inside now : List Node) (i : ℕ) (read : Node) (block : List Step) → inside ≡ now → i < length now → read ≡ get_or inside i read → set inside i (record { parent = read.parent; block = block; end = read.end }) ≡ leave_at now i block
+left_is inside now i read block same there value =
+    let there' : i < length inside = omega (arith, ap length same) in
+    ap (λ (n : Node). set inside i (record { parent = n.parent; block = block; end = n.end })) (read_is inside i read there' value)
+    ∙ ap (λ m. leave_at m i block) same
 
 -- the end that the code makes
 end_is : (d : Decision) (n : ℕ) (one two : NodeId) → one.number ≡ n → two.number ≡ n + 1 → Split d one two ≡ split_end d n
@@ -93,6 +99,17 @@ tree_by_close nodes i block tree there free spelled =
     (λ j late. past_empty (close_at nodes i block) j (omega (arith, length-close_at nodes i block there)))
     (subst (λ (n : Node). AllByRecursion IsSpelledStep n.block) (sym (close_at-same nodes i block there)) spelled)
     (subst (λ (n : Node). IsSpelledEnd n.end) (sym (close_at-same nodes i block there)) tt)
+
+pub tree_by_leave : (nodes : List Node) (i : ℕ) (block : List Step) → IsTree nodes → i < length nodes → IsFree nodes i → AllByRecursion IsSpelledStep block → IsTree (leave_at nodes i block)
+tree_by_leave nodes i block tree there free spelled =
+    tree_kept nodes (leave_at nodes i block) i tree (changed_by_leave nodes i block there free) (fresh_by_leave nodes i block there) (linked_by_leave nodes i block tree.linked there free)
+    (λ j late. past_empty (leave_at nodes i block) j (omega (arith, length-leave_at nodes i block there)))
+    (subst (λ (n : Node). AllByRecursion IsSpelledStep n.block) (sym (leave_at-same nodes i block there)) spelled)
+    (subst (λ e. IsSpelledEnd e) (sym (ap (λ (n : Node). n.end) (leave_at-same nodes i block there) ∙ free)) tt)
+
+pub left_tree : (inside now : List Node) (i : ℕ) (read : Node) (block : List Step) → inside ≡ now → IsTree inside → i < length now → IsFree now i → read ≡ get_or inside i read → AllByRecursion IsSpelledStep block → IsTree (set inside i (record { parent = read.parent; block = block; end = read.end }))
+left_tree inside now i read block same tree there free value spelled =
+    subst (λ m. IsTree m) (sym (left_is inside now i read block same there value)) (tree_by_leave now i block (subst (λ m. IsTree m) same tree) there free spelled)
 
 pub closed_tree : (inside now : List Node) (i : ℕ) (read : Node) (block : List Step) → inside ≡ now → IsTree inside → i < length now → IsFree now i → read ≡ get_or inside i read → AllByRecursion IsSpelledStep block → IsTree (set inside i (record { parent = read.parent; block = block; end = Shut }))
 closed_tree inside now i read block same tree there free value spelled =

@@ -2,6 +2,5 @@ pub mod Nodes
 pub mod Local
 pub mod Packing
 pub mod Certificates
-pub mod Outcome
 pub mod Bytes
 pub mod Legs

@@ -91,6 +91,10 @@ split_at nodes i d = split_behind_at nodes i (node_at nodes i).block d
 abbrev pub close_at : List Node → ℕ → List Step → List Node
 close_at nodes i block = slice_set nodes i (record (node_at nodes i) { block = block; end = Shut })
 
+-- A leaf that stays open, behind a block.
+abbrev pub leave_at : List Node → ℕ → List Step → List Node
+leave_at nodes i block = slice_set nodes i (record (node_at nodes i) { block = block })
+
 -- Where a node of a piece stands once the piece's root has taken the place of the node i of a tree of n nodes: the root
 -- at i, and the others, in their order, behind those of the tree.
 abbrev pub moved : ℕ → ℕ → ℕ → ℕ

@@ -6,7 +6,7 @@
 ghost use Rattle.std.specs.Prelude.{◌≡◌, ◌+◌, ◌<◌, ◌≤◌, ◌^◌, [], ◌∷◌, ◌++◌, length, map, drop, slice_set, vec_len, vec_capacity, Some, None, IfSome, IfOk, IfErr, OnOk, OnErr};
 ghost use Rattle.std.specs.List.{AllByRecursion};
 ghost use Rattle.cfn_model.specs.Text.{IsSpelledDecision};
-ghost use Rattle.cfn_proof.specs.Nodes.{all_steps, FitsBehind, FitsEnd, FitsParent, IsFree, IsTree, node_at, open_node, split_at, split_behind_at, close_at, graft_at, moved, moved_end, moved_node, moved_parent};
+ghost use Rattle.cfn_proof.specs.Nodes.{all_steps, FitsBehind, FitsEnd, FitsParent, IsFree, IsTree, node_at, open_node, split_at, split_behind_at, close_at, leave_at, graft_at, moved, moved_end, moved_node, moved_parent};
 ghost use Rattle.cfn_proof.specs.Packing.{unpacked};
 ghost use Rattle.cfn_proof.specs.declared.tree.End.TheVariants.{Split};
 
@@ -345,6 +345,17 @@ impl Tree {
         let node = &mut self.nodes[leaf.number as usize];
         node.block = fitted;
         node.end = End::Shut;
+    }
+
+    /// Leaves an open leaf open, behind a block, which takes the place of the leaf's own. It takes no memory.
+    pub fn leave(&mut self, leaf: NodeId, block: Block)
+        requires there { leaf.number < length self.old }
+        requires free { IsFree self.old leaf.number }
+        ensures { self.new ≡ leave_at self.old leaf.number block }
+    {
+        let fitted = block.fitted();
+        let node = &mut self.nodes[leaf.number as usize];
+        node.block = fitted;
     }
 
     /// Closes an open leaf behind its own block. It takes no memory.

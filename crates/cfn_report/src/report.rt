@@ -170,6 +170,8 @@ fn name_of(word: ResultWord) -> &'static str
         ResultWord::Optimum => "optimum",
         ResultWord::Nothing => "none",
         ResultWord::Budget => "budget",
+        ResultWord::Time => "time",
+        ResultWord::Part => "part",
         ResultWord::Memory => "memory",
     }
 }

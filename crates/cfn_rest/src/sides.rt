@@ -64,7 +64,7 @@ impl Sides {
         self.doubted.fill();
     }
 
-    /// Puts in doubt what an event may have ended behind a place where all was arc consistent, and nothing else.
+    /// Begins anew behind a place where all was arc consistent: what an event may have ended there is in doubt.
     pub fn begin_behind(&mut self, incidence: &Incidence, event: &Event)
         requires size { self.old.size ≡ length incidence.now.functions }
         requires place { InPlace incidence.now event.now }

@@ -1,5 +1,5 @@
 -- What a search that stopped hands out.
-use Rattle.std.proofs.Common.{◌≡◌, ℕ, suc, ◌<◌, ◌≤◌, inl, inr, List, [], ◌∷◌, length, refl, sym, ap, ◌∙◌, subst, arith}
+use Rattle.std.proofs.Common.{◌≡◌, ℕ, Bool, suc, ◌<◌, ◌≤◌, inl, inr, List, [], ◌∷◌, length, refl, sym, ap, ◌∙◌, subst, arith}
 use Rattle.std.specs.Prelude.{slice_index, Option, Some, None, IfSome, IsSomeAnd}
 use Rattle.std.specs.List.{AllByRecursion}
 use Rattle.cfn_model.specs.declared.limits.TheConstants.{MOST_VALUES}
@@ -11,16 +11,17 @@ use Rattle.cfn_model.specs.Sums.{floor}
 use Rattle.cfn_model.specs.Steps.{after}
 use Rattle.cfn_model.specs.Words.{greatest}
 use Rattle.cfn_model.specs.Text.{IsSpelledBest, IsSpelledTree, HasTree}
+use Rattle.cfn_model.specs.Paths.{Tame}
 use Rattle.cfn_model.specs.Tree as trees
 use Rattle.cfn_model.specs.Tree.{bound, count, splits, open_leaves}
 use Rattle.cfn_model.specs.Certificate.{Solution, Certificate, IsBest, threshold_of, threshold}
 use Rattle.cfn_model.proofs.CallerLemmas.{bound_low, fits_length}
-use Rattle.cfn_proof.specs.declared.outcome.Stop.{Stop}
-use Rattle.cfn_proof.specs.declared.outcome.Stop.TheVariants.{Done, Budget, Memory}
-use Rattle.cfn_proof.specs.Outcome.{HasCause, IsSearched, RowHolds, UpperHolds}
+use Rattle.cfn_outcome.specs.declared.outcome.Stop.{Stop}
+use Rattle.cfn_outcome.specs.declared.outcome.Stop.TheVariants.{Done, Budget, Time, Part, Memory}
+use Rattle.cfn_outcome.specs.Outcome.{HasCause, IsSearched, RowHolds, UpperHolds, Start, timed_nodes}
 use Rattle.cfn_net.specs.Scoring.{Scoring, IsPriced}
 use Rattle.cfn_proof.specs.Certificates.{solution_of}
-use Rattle.cfn_low.specs.Holding.{Holding as Part}
+use Rattle.cfn_low.specs.Holding.{Holding}
 use Rattle.cfn_pool.proofs.CallerLemmas.{price_is}
 use Rattle.cfn_machine.specs.Pool.{View, Mark, PoolTree, Leaf, Shut, Fork, tree_of, IsLeaf, Pool, IsRow, price, KeepsFitting}
 use Rattle.cfn_machine.specs.Laws.{IsPool}
@@ -93,25 +94,27 @@ rows_each P c tree seen best (row ∷ rows) network fits is last lower all reach
   rows_each P c tree seen best rows network fits is last lower all.1 reached.1,
 )
 
-cause_is : (stop : Stop) (leaves nodes budget : ℕ) → nodes ≤ budget → IsStop stop leaves nodes budget → HasCause stop leaves nodes budget
-cause_is Done leaves nodes budget allowed why = why
-cause_is Budget leaves nodes budget allowed why = ((let h = why.0 in omega (arith, h)), why.1)
-cause_is Memory leaves nodes budget allowed why = ((let h = why.0 in omega (arith, h)), (let h = why.1 in omega (arith, h, allowed)))
+cause_is : (stop : Stop) (leaves nodes budget : ℕ) (timed : Bool) → nodes ≤ budget → IsStop stop leaves nodes budget timed → HasCause stop leaves nodes (timed_nodes budget timed)
+cause_is Done leaves nodes budget timed allowed why = why
+cause_is Budget leaves nodes budget timed allowed why = ((let h = why.0 in omega (arith, h)), why.1)
+cause_is Time leaves nodes budget timed allowed why = ((let h = why.0 in omega (arith, h)), (let h = why.1 in omega (arith, h, allowed)), why.2)
+cause_is Part leaves nodes budget timed allowed why = absurd why
+cause_is Memory leaves nodes budget timed allowed why = ((let h = why.0 in omega (arith, h)), (let h = why.1 in omega (arith, h, allowed)))
 
 -- the threshold is the price of what the last part of the word keeps
-pub price_held : (P : Network) (best : Scoring) (part : Part) (view : View) (result : Option Scoring) → best ≡ record { network = P; held = part.held } → view_of part ≡ view → view.seen ≡ price P view.best → IsPriced best.network best.held →
+pub price_held : (P : Network) (best : Scoring) (part : Holding) (view : View) (result : Option Scoring) → best ≡ record { network = P; held = part.held } → view_of part ≡ view → view.seen ≡ price P view.best → IsPriced best.network best.held →
     threshold_of best.network.upper (solution_of result) ≡ threshold_of best.network.upper best.held → threshold_of P.upper (solution_of result) ≡ view.seen
 price_held P best part view result is same seen priced price_same =
     subst (λ (s : Scoring). threshold_of s.network.upper (solution_of result) ≡ threshold_of s.network.upper s.held) is price_same
     ∙ sym (price_is P part.held (subst (λ (s : Scoring). IsPriced s.network s.held) is priced)) ∙ ap (λ (v : View). price P v.best) same ∙ sym seen
 
-pub best_held : (P : Network) (best : Scoring) (part : Part) (result : Option Scoring) → best ≡ record { network = P; held = part.held } → IsBest best.network (solution_of result) → IsBest P (solution_of result)
+pub best_held : (P : Network) (best : Scoring) (part : Holding) (result : Option Scoring) → best ≡ record { network = P; held = part.held } → IsBest best.network (solution_of result) → IsBest P (solution_of result)
 best_held P best part result is solution = subst (λ (s : Scoring). IsBest s.network (solution_of result)) is solution
 
-module _ (P : Network) (pool : Pool) (network : IsNetwork P) (is : IsPool P pool) (reached : AreReached P pool.rows) (search : IsSearch P pool) (last : IsLast P pool) where
-  pub searched : (c : Certificate) (stop : Stop) → c.variables ≡ length P.sizes → c.functions ≡ length P.functions → c.upper ≡ P.upper → IsBest P c.best → threshold_of P.upper c.best ≡ pool.view.seen → c.tree ≡ tree_of pool.tree → IsSpelledTree c.tree → HasTree c.version c.tree →
-      c.lower ≡ bound P [] (tree_of pool.tree) pool.view.seen → IsStop stop (open_leaves (tree_of pool.tree)) pool.nodes pool.budget → IsSearched P pool.budget pool.nodes c pool.rows stop
-  searched c stop variables functions upper best price_same is_tree spelled has_tree lower why =
+module _ (P : Network) (pool : Pool) (network : IsNetwork P) (is : IsPool P pool) (reached : AreReached P pool.rows) (start : Start) (search : IsSearch start pool) (last : IsLast P pool) where
+  pub searched : (c : Certificate) (stop : Stop) (timed : Bool) → c.variables ≡ length P.sizes → c.functions ≡ length P.functions → c.upper ≡ P.upper → IsBest P c.best → threshold_of P.upper c.best ≡ pool.view.seen → c.tree ≡ tree_of pool.tree → IsSpelledTree c.tree → HasTree c.version c.tree →
+      c.lower ≡ bound P [] (tree_of pool.tree) pool.view.seen → IsStop stop (open_leaves (tree_of pool.tree)) pool.nodes pool.budget timed → IsSearched P start (timed_nodes pool.budget timed) pool.nodes c pool.rows stop
+  searched c stop timed variables functions upper best price_same is_tree spelled has_tree lower why =
       let k : threshold c ≡ pool.view.seen = ap (λ u. threshold_of u c.best) upper ∙ price_same in
       let b : c.lower ≡ bound P [] c.tree (threshold c) = lower ∙ ap (λ t. bound P [] t pool.view.seen) (sym is_tree) ∙ ap (bound P [] c.tree) (sym k) in
       let seen = is.sound.seen in
@@ -140,6 +143,7 @@ module _ (P : Network) (pool : Pool) (network : IsNetwork P) (is : IsPool P pool
         lower = b;
         below = subst (λ t. trees.OpenBelow P [] t (threshold c)) (sym is_tree) (subst (λ m. trees.OpenBelow P [] (tree_of pool.tree) m) (sym k) last.below);
         strict = subst (λ t. trees.Strict P [] t) (sym is_tree) is.sound.strict;
+        tame = subst (λ t. Tame P [] t) (sym is_tree) is.sound.tame;
         expanded = let e = ap splits is_tree in omega (arith, expanded, begun, e);
         counted = let e = ap count is_tree in omega (arith, counted, begun, e);
         allowed = omega (arith, within);
@@ -148,5 +152,5 @@ module _ (P : Network) (pool : Pool) (network : IsNetwork P) (is : IsPool P pool
           begin = search.begin;
           each = rows_each P c pool.tree pool.view.seen pool.view.best pool.rows network is.keeps price_same last.seen lower is.sound.rows reached;
         };
-        cause = subst (λ t. HasCause stop (open_leaves t) pool.nodes pool.budget) (sym is_tree) (cause_is stop (open_leaves (tree_of pool.tree)) pool.nodes pool.budget (omega (arith, within)) why);
+        cause = subst (λ t. HasCause stop (open_leaves t) pool.nodes (timed_nodes pool.budget timed)) (sym is_tree) (cause_is stop (open_leaves (tree_of pool.tree)) pool.nodes pool.budget timed (omega (arith, within)) why);
       }

@@ -1,3 +1,4 @@
 pub mod Crossing
+pub mod Beginnings
 pub mod Finished
 pub mod Telling

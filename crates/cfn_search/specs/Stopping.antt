@@ -1,9 +1,9 @@
 -- What holds of the pool of a search that stopped, and why it stopped.
-use Rattle.std.specs.Prelude.{◌≡◌, ◌≢◌, ℕ, []}
+use Rattle.std.specs.Prelude.{◌≡◌, ◌≢◌, true, ℕ, Bool, []}
 use Rattle.cfn_model.specs.Network.{Network}
 use Rattle.cfn_model.specs.Tree.{OpenBelow}
-use Rattle.cfn_proof.specs.declared.outcome.Stop.{Stop}
-use Rattle.cfn_proof.specs.declared.outcome.Stop.TheVariants.{Done, Budget, Memory}
+use Rattle.cfn_outcome.specs.declared.outcome.Stop.{Stop}
+use Rattle.cfn_outcome.specs.declared.outcome.Stop.TheVariants.{Done, Budget, Time, Part, Memory}
 use Rattle.cfn_machine.specs.Pool.{Pool, tree_of, price}
 use Rattle.cfn_machine.specs.Word.{all_shares}
 
@@ -13,8 +13,10 @@ pub record IsLast (P : Network) (pool : Pool) : Type 0 where
   pub seen : pool.view.seen ≡ price P pool.view.best
   pub below : OpenBelow P [] (tree_of pool.tree) pool.view.seen
 
--- Why a search stopped, by what is tested.
-abbrev pub IsStop : Stop → ℕ → ℕ → ℕ → Type 0
-IsStop Done leaves nodes budget = leaves ≡ 0
-IsStop Budget leaves nodes budget = (leaves ≢ 0) × (nodes ≡ budget)
-IsStop Memory leaves nodes budget = (leaves ≢ 0) × (nodes ≢ budget)
+-- Why a search stopped, by what is tested; it leaves no leaf to others.
+abbrev pub IsStop : Stop → ℕ → ℕ → ℕ → Bool → Type 0
+IsStop Done leaves nodes budget timed = leaves ≡ 0
+IsStop Budget leaves nodes budget timed = (leaves ≢ 0) × (nodes ≡ budget)
+IsStop Time leaves nodes budget timed = (leaves ≢ 0) × (nodes ≢ budget) × (timed ≡ true)
+IsStop Part leaves nodes budget timed = ⊥
+IsStop Memory leaves nodes budget timed = (leaves ≢ 0) × (nodes ≢ budget)

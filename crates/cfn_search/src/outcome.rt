@@ -5,22 +5,24 @@ ghost use Rattle.std.specs.Option.{ForSome};
 ghost use Rattle.cfn_model.specs.Certificate.{IsBest, threshold, threshold_of};
 ghost use Rattle.cfn_net.specs.Scoring.{IsPriced};
 ghost use Rattle.cfn_proof.specs.Certificates.{certificate_of, solution_of};
-ghost use Rattle.cfn_proof.specs.Outcome.{IsOutcome};
+ghost use Rattle.cfn_outcome.specs.Outcome.{IsOutcome, timed_nodes};
 ghost use Rattle.cfn_machine.specs.Word.{all_shares};
 ghost use Rattle.cfn_pool.specs.Views.{pool};
 ghost use Rattle.cfn_worker.specs.Searching.{IsSearch};
 ghost use Rattle.cfn_search.specs.Stopping.{IsLast, IsStop};
 
+use cfn_clock::Halt;
 use cfn_low::{Holder, Incumbent, Low};
 use cfn_net::{Network, Scored};
+use cfn_outcome::{Outcome, Stop};
 use cfn_pool::Pool;
-use cfn_proof::{Certificate, Outcome, Stop};
+use cfn_proof::Certificate;
 
 /// Joins a worker's part of the word into the pool's, which has seen the lesser of both then. It takes no memory.
 pub(crate) fn meet<M: Incumbent>(low: &Low<M>, held: &mut Pool<M>, part: Holder<M>)
-    requires search { IsSearch M.network (pool held.old) }
+    requires search { IsSearch M.start (pool held.old) }
     requires shares { (pool held.old).view.shares + part.shares ≤ all_shares }
-    ensures search { IsSearch M.network (pool held.new) }
+    ensures search { IsSearch M.start (pool held.new) }
     ensures budget { (pool held.new).budget ≡ (pool held.old).budget }
     ensures shares { (pool held.new).view.shares ≡ (pool held.old).view.shares + part.shares }
     ensures seen { (pool held.new).view.seen ≡ min (pool held.old).view.seen part.seen }
@@ -30,9 +32,9 @@ pub(crate) fn meet<M: Incumbent>(low: &Low<M>, held: &mut Pool<M>, part: Holder<
 
 /// Calls back what is out, and closes what need not be searched, where all parts of the word were met. It takes no memory.
 pub(crate) fn wind_up<M: Incumbent>(low: &Low<M>, held: &mut Pool<M>)
-    requires search { IsSearch M.network (pool held.old) }
+    requires search { IsSearch M.start (pool held.old) }
     requires shares { (pool held.old).view.shares ≡ all_shares }
-    ensures search { IsSearch M.network (pool held.new) }
+    ensures search { IsSearch M.start (pool held.new) }
     ensures budget { (pool held.new).budget ≡ (pool held.old).budget }
     ensures last { IsLast M.network (pool held.new) }
     ensures falls { (pool held.new).view.seen ≤ (pool held.old).view.seen }
@@ -42,17 +44,22 @@ pub(crate) fn wind_up<M: Incumbent>(low: &Low<M>, held: &mut Pool<M>)
 }
 
 /// The outcome of a search that was wound up: the certificate's threshold is what the pool has seen. It takes no memory.
-pub(crate) fn conclude<M: Incumbent>(network: &Network, low: Low<M>, held: Pool<M>) -> Outcome
+pub(crate) fn conclude<M: Incumbent, H: Halt>(
+    network: &Network,
+    low: Low<M>,
+    held: Pool<M>,
+    halt: &H,
+) -> Outcome
     requires own { network.now ≡ M.network }
-    requires search { IsSearch M.network (pool held) }
+    requires search { IsSearch M.start (pool held) }
     requires last { IsLast M.network (pool held) }
-    ensures outcome { IsOutcome network.now (pool held).budget result }
+    ensures outcome { IsOutcome network.now M.start (timed_nodes (pool held).budget (H.limited halt.now)) result }
     ensures threshold { threshold (certificate_of result.certificate) ≡ (pool held).view.seen }
 {
     network.limits();
     held.kept();
     let lower = held.bound();
-    let stop = stop_of(held.open_leaves(), held.nodes(), held.budget());
+    let stop = stop_of(held.open_leaves(), held.nodes(), held.budget(), halt);
     let finished = held.finish();
     finished.tree.linked();
     let (best, _) = low.end(finished.holder);
@@ -71,16 +78,19 @@ pub(crate) fn conclude<M: Incumbent>(network: &Network, low: Low<M>, held: Pool<
     }
 }
 
-/// Why a search stopped.
-fn stop_of(leaves: u64, nodes: u64, budget: u64) -> Stop
-    ensures { IsStop result leaves nodes budget }
+/// Why a search stopped: where leaves are open and nodes are left, time is past, or else memory was refused.
+fn stop_of<H: Halt>(leaves: u64, nodes: u64, budget: u64, halt: &H) -> Stop
+    ensures { IsStop result leaves nodes budget (H.limited halt.now) }
 {
     if leaves == 0 {
-        Stop::Done
-    } else if nodes == budget {
-        Stop::Budget
-    } else {
-        Stop::Memory
+        return Stop::Done;
+    }
+    if nodes == budget {
+        return Stop::Budget;
+    }
+    match halt.past() {
+        Some(_) => Stop::Time,
+        None => Stop::Memory,
     }
 }
 

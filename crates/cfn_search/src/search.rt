@@ -1,22 +1,29 @@
 //! The search, and one dive of it.
 
-ghost use Rattle.std.specs.Prelude.{◌≡◌, ◌+◌, ◌≤◌, None, IfOk, IfSome};
+ghost use Rattle.std.specs.Prelude.{◌≡◌, ◌+◌, ◌<◌, ◌≤◌, ◌^◌, None, IfOk, IfSome};
+ghost use Rattle.cfn_model.specs.Tree.{count};
 ghost use Rattle.cfn_model.specs.declared.limits.TheConstants.{GREATEST};
 ghost use Rattle.cfn_model.specs.Certificate.{threshold};
 ghost use Rattle.cfn_proof.specs.Certificates.{certificate_of};
-ghost use Rattle.cfn_proof.specs.Outcome.{IsOutcome};
+ghost use Rattle.cfn_proof.specs.Nodes.{tree_of};
+ghost use Rattle.cfn_outcome.specs.Outcome.{IsOutcome, fresh, nodes_alone, timed_nodes};
+ghost use Rattle.cfn_machine.specs.Pool.{IsKept, price, row_of};
 ghost use Rattle.cfn_machine.specs.Word.{all_shares};
-ghost use Rattle.cfn_pool.specs.Views.{pool};
+ghost use Rattle.cfn_pool.specs.Views.{pool, values_of};
 ghost use Rattle.cfn_worker.specs.Searching.{IsSearch, GoesOn, HasMore};
 ghost use Rattle.cfn_worker.specs.Granting.{IsLimit};
+ghost use Rattle.cfn_search.specs.Beginning.{MayBegin, start_of};
 
+use crate::begin::Begin;
 use crate::outcome::{conclude, meet, wind_up};
+use cfn_clock::{Halt, Never};
 use cfn_explore::{Explore, Explorers, Problem};
 use cfn_gate::{Gate, OpenGate};
 use cfn_low::{Holder, Incumbent, Low, Unnamed};
 use cfn_net::{Network, Scored};
+use cfn_outcome::Outcome;
 use cfn_pool::Pool;
-use cfn_proof::Outcome;
+use cfn_proof::Tree;
 use cfn_worker::{
     Account, Asked, FEWEST_BACKTRACKS, Threshold, hand_in, news, sweep, take, wanted,
 };
@@ -37,53 +44,65 @@ pub fn solve<X: Explorers>(
     budget: u64,
 ) -> Result<Outcome, AllocError>
     requires { budget ≤ GREATEST }
-    ensures { IfOk result (IsOutcome network.now budget) }
+    ensures { IfOk result (IsOutcome network.now (fresh network.now) (nodes_alone budget)) }
 {
-    let (outcome, _) = solve_alone(alloc, network, budget, &OpenGate)?;
+    let begin = Begin::fresh(alloc, network.network())?;
+    let (outcome, _) = solve_alone(alloc, network, begin, budget, &OpenGate, &Never)?;
     Ok(outcome)
 }
 
-/// Searches so, and tells the least threshold at which a piece was made too. A gate that asks for it is told how far the search
-/// is.
-pub(crate) fn solve_alone<X: Explorers, G: Gate>(
+/// Goes on from a beginning until `halt` is past, and tells the least threshold at which a piece was made too. A gate that asks for it is told
+/// how far the search is.
+pub(crate) fn solve_alone<X: Explorers, G: Gate, H: Halt>(
     alloc: Global,
     network: &Problem<'_, X>,
+    begin: Begin,
     budget: u64,
     gate: &G,
+    halt: &H,
 ) -> Result<(Outcome, Threshold), AllocError>
-    requires { budget ≤ GREATEST }
-    ensures outcome { IfOk result (λ found. IsOutcome network.now budget found.0) }
+    requires may { MayBegin network.now begin }
+    requires budget { budget ≤ GREATEST }
+    ensures outcome { IfOk result (λ found. IsOutcome network.now (start_of network.now begin) (timed_nodes budget (H.limited halt.now)) found.0) }
     ensures most { IfOk result (λ found. found.1 ≤ network.now.upper) }
     ensures least { IfOk result (λ found. threshold (certificate_of found.0.certificate) ≤ found.1) }
 {
     let (network, explorers) = (network.network(), network.explorers());
     let unnamed = Unnamed::make(alloc, network)?;
     let empty = Scored::empty(alloc, network)?;
-    search::<Brand, X, G>(alloc, network, explorers, unnamed, empty, budget, gate)
+    search::<Brand, X, G, H>(
+        alloc, network, explorers, unnamed, empty, begin, budget, gate, halt,
+    )
 }
 
 /// The search, over a word by its name.
-fn search<M: Incumbent, X: Explorers, G: Gate>(
+fn search<M: Incumbent, X: Explorers, G: Gate, H: Halt>(
     alloc: Global,
     network: &Network,
     explorers: &X,
     unnamed: Unnamed,
     empty: Scored,
+    begin: Begin,
     budget: u64,
     gate: &G,
+    halt: &H,
 ) -> Result<(Outcome, Threshold), AllocError>
     requires table { M.table ≡ unnamed.table }
     requires network { M.network ≡ unnamed.network }
+    requires may { MayBegin unnamed.network begin }
+    requires start { M.start ≡ start_of unnamed.network begin }
     requires own { network.now ≡ unnamed.network }
     requires explorers { X.network explorers.now ≡ unnamed.network }
     requires empty { empty ≡ record { network = unnamed.network; held = None } }
-    ensures outcome { IfOk result (λ found. IsOutcome network.now budget found.0) }
+    ensures outcome { IfOk result (λ found. IsOutcome network.now (start_of network.now begin) (timed_nodes budget (H.limited halt.now)) found.0) }
     ensures most { IfOk result (λ found. found.1 ≤ network.now.upper) }
     ensures least { IfOk result (λ found. threshold (certificate_of found.0.certificate) ≤ found.1) }
 {
     let (low, mut holder) = unnamed.named::<M>();
+    let Begin { tree, best } = begin;
+    know(&low, &mut holder, &best);
     let mut account = Account::open(low.split(&mut holder, empty));
-    let mut held = open(alloc, network, &low, holder, budget)?;
+    let mut held = open(alloc, network, &low, holder, tree, budget)?;
     work(
         alloc,
         network,
@@ -92,26 +111,47 @@ fn search<M: Incumbent, X: Explorers, G: Gate>(
         &mut held,
         &mut account,
         gate,
+        halt,
     );
-    Ok(ended(network, low, held, account))
+    Ok(ended(network, low, held, account, halt))
 }
 
-/// A pool at the beginning of a search, with a part of the word that keeps nothing. An `Err` is want of memory.
+/// Lets all of the word know an assignment: its price is seen then. It takes no memory.
+pub(crate) fn know<M: Incumbent>(low: &Low<M>, holder: &mut Holder<M>, best: &Scored)
+    requires own { best.now.network ≡ M.network }
+    requires below { IfSome best.now.held (λ best. best.cost < M.network.upper) }
+    requires all { holder.old.shares ≡ all_shares }
+    requires none { holder.old.held ≡ None }
+    ensures held { holder.new.held ≡ best.now.held }
+    ensures seen { holder.new.seen ≡ price M.network (values_of best.now.held) }
+    ensures shares { holder.new.shares ≡ holder.old.shares }
+{
+    best.priced();
+    low.lower(holder, best);
+    low.look(holder);
+}
+
+/// A pool at the beginning of a search, with a tree and a part of the word that has seen the price of what it keeps. An `Err` is
+/// want of memory.
 pub(crate) fn open<M: Incumbent>(
     alloc: Global,
     network: &Network,
     low: &Low<M>,
     holder: Holder<M>,
+    tree: Tree,
     budget: u64,
 ) -> Result<Pool<M>, AllocError>
     requires own { network.now ≡ M.network }
-    requires none { holder.held ≡ None }
-    requires seen { holder.seen ≡ M.network.upper }
-    ensures search { IfOk result (λ held. IsSearch M.network (pool held)) }
+    requires few { count (tree_of tree) < 2 ^ 64 }
+    requires kept { IsKept M.network (tree_of tree) (values_of holder.held) }
+    requires seen { holder.seen ≡ price M.network (values_of holder.held) }
+    requires begun { M.start.begun ≡ count (tree_of tree) }
+    requires first { M.start.first ≡ row_of M.network (tree_of tree) (price M.network (values_of holder.held)) }
+    ensures search { IfOk result (λ held. IsSearch M.start (pool held)) }
     ensures budget { IfOk result (λ held. (pool held).budget ≡ budget) }
     ensures shares { IfOk result (λ held. (pool held).view.shares ≡ holder.shares) }
 {
-    let Ok(mut held) = Pool::begin(alloc, network, holder, budget) else {
+    let Ok(mut held) = Pool::begin_with(alloc, network, holder, budget, tree) else {
         return Err(AllocError);
     };
     sweep(low, &mut held);
@@ -119,16 +159,17 @@ pub(crate) fn open<M: Incumbent>(
 }
 
 /// The outcome of a search once its one worker has ended, and the least threshold at which that made a piece.
-fn ended<M: Incumbent>(
+fn ended<M: Incumbent, H: Halt>(
     network: &Network,
     low: Low<M>,
     mut held: Pool<M>,
     account: Account<M>,
+    halt: &H,
 ) -> (Outcome, Threshold)
     requires own { network.now ≡ M.network }
-    requires search { IsSearch M.network (pool held) }
+    requires search { IsSearch M.start (pool held) }
     requires shares { (pool held).view.shares + account.part.shares ≡ all_shares }
-    ensures outcome { IsOutcome network.now (pool held).budget result.0 }
+    ensures outcome { IsOutcome network.now M.start (timed_nodes (pool held).budget (H.limited halt.now)) result.0 }
     ensures told { result.1 ≡ account.least }
     ensures most { result.1 ≤ network.now.upper }
     ensures least { threshold (certificate_of result.0.certificate) ≤ result.1 }
@@ -136,11 +177,11 @@ fn ended<M: Incumbent>(
     let (part, threshold) = account.close();
     meet(&low, &mut held, part);
     wind_up(&low, &mut held);
-    (conclude(network, low, held), threshold)
+    (conclude(network, low, held, halt), threshold)
 }
 
-/// Makes its explorer, and dives until there is no leaf to take, or memory is refused, be it for the explorer.
-fn work<M: Incumbent, X: Explorers, G: Gate>(
+/// Makes its explorer, and dives until there is no leaf to take, memory is refused, be it for the explorer, or `halt` is past.
+fn work<M: Incumbent, X: Explorers, G: Gate, H: Halt>(
     alloc: Global,
     network: &Network,
     explorers: &X,
@@ -148,23 +189,33 @@ fn work<M: Incumbent, X: Explorers, G: Gate>(
     held: &mut Pool<M>,
     account: &mut Account<M>,
     gate: &G,
+    halt: &H,
 )
     requires own { network.now ≡ M.network }
     requires explorers { X.network explorers.now ≡ M.network }
-    requires search { IsSearch M.network (pool held.old) }
-    ensures goes { GoesOn M.network (pool held.old) (pool held.new) }
+    requires search { IsSearch M.start (pool held.old) }
+    ensures goes { GoesOn M.start (pool held.old) (pool held.new) }
     ensures shares { account.new.part.shares ≡ account.old.part.shares }
     ensures falls { account.new.least ≤ account.old.least }
 {
     held.kept();
     if let Ok(mut explorer) = explorers.make(alloc) {
-        dive_all(alloc, network, low, held, account, &mut explorer, gate);
+        dive_all(
+            alloc,
+            network,
+            low,
+            held,
+            account,
+            &mut explorer,
+            gate,
+            halt,
+        );
         drop(explorer);
     }
 }
 
-/// Dives until there is no leaf to take, or memory is refused.
-fn dive_all<M: Incumbent, E: Explore, G: Gate>(
+/// Dives until there is no leaf to take, memory is refused, or `halt` is past.
+fn dive_all<M: Incumbent, E: Explore, G: Gate, H: Halt>(
     alloc: Global,
     network: &Network,
     low: &Low<M>,
@@ -172,23 +223,26 @@ fn dive_all<M: Incumbent, E: Explore, G: Gate>(
     account: &mut Account<M>,
     explorer: &mut E,
     gate: &G,
+    halt: &H,
 )
     requires own { network.now ≡ M.network }
     requires explorer { E.made_of explorer.old ≡ M.network }
-    requires search { IsSearch M.network (pool held.old) }
-    ensures goes { GoesOn M.network (pool held.old) (pool held.new) }
+    requires search { IsSearch M.start (pool held.old) }
+    ensures goes { GoesOn M.start (pool held.old) (pool held.new) }
     ensures shares { account.new.part.shares ≡ account.old.part.shares }
     ensures falls { account.new.least ≤ account.old.least }
 {
     held.kept();
     let mut limit = FEWEST_BACKTRACKS;
-    while let Some(next) = dive(alloc, network, low, held, account, explorer, limit, gate) {
+    while let Some(next) = dive(
+        alloc, network, low, held, account, explorer, limit, gate, halt,
+    ) {
         limit = next;
     }
 }
 
 /// One dive, of at most `limit` backtracks, and how many the next one may make; `None` where the search ends.
-fn dive<M: Incumbent, E: Explore, G: Gate>(
+fn dive<M: Incumbent, E: Explore, G: Gate, H: Halt>(
     alloc: Global,
     network: &Network,
     low: &Low<M>,
@@ -197,25 +251,29 @@ fn dive<M: Incumbent, E: Explore, G: Gate>(
     explorer: &mut E,
     limit: u64,
     gate: &G,
+    halt: &H,
 ) -> Option<u64>
     requires own { network.now ≡ M.network }
     requires explorer { E.made_of explorer.old ≡ M.network }
-    requires search { IsSearch M.network (pool held.old) }
+    requires search { IsSearch M.start (pool held.old) }
     requires limit { IsLimit limit }
-    ensures goes { GoesOn M.network (pool held.old) (pool held.new) }
+    ensures goes { GoesOn M.start (pool held.old) (pool held.new) }
     ensures shares { account.new.part.shares ≡ account.old.part.shares }
     ensures falls { account.new.least ≤ account.old.least }
     ensures explorer { E.made_of explorer.new ≡ E.made_of explorer.old }
     ensures next { IfSome result IsLimit }
     ensures more { IfSome result (λ next. HasMore (pool held.old) (pool held.new)) }
 {
+    if halt.past().is_some() {
+        return None;
+    }
     let known = account.knows();
     let want = wanted(held.nodes() == 0, known, limit, network.variables());
     let task = match take(network, held, WORKER, want) {
         Asked::Task { task } => task,
         Asked::Later | Asked::Done | Asked::Spent | Asked::Memory => return None,
     };
-    match task.dive(alloc, network, explorer, low, account, limit) {
+    match task.dive(alloc, network, explorer, low, account, limit, halt) {
         Ok(made) => {
             let before = held.seen();
             let handed = hand_in(network, low, held, account, made, limit);

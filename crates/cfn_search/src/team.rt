@@ -4,22 +4,25 @@ ghost use Rattle.std.specs.Prelude.{◌≡◌, ◌+◌, ◌<◌, ◌≤◌, [], 
 ghost use Rattle.cfn_model.specs.declared.limits.TheConstants.{GREATEST};
 ghost use Rattle.cfn_model.specs.Certificate.{threshold};
 ghost use Rattle.cfn_proof.specs.Certificates.{certificate_of};
-ghost use Rattle.cfn_proof.specs.Outcome.{IsOutcome};
+ghost use Rattle.cfn_outcome.specs.Outcome.{IsOutcome, fresh, timed_nodes};
 ghost use Rattle.cfn_machine.specs.Word.{all_shares};
 ghost use Rattle.cfn_pool.specs.Views.{pool};
 ghost use Rattle.cfn_rota.specs.Values.{AreAll, access};
 ghost use Rattle.cfn_worker.specs.Accounts.{least_of, reach};
 ghost use Rattle.cfn_worker.specs.Boards.{IsBoard};
 ghost use Rattle.cfn_worker.specs.Searching.{IsSearch};
+ghost use Rattle.cfn_search.specs.Beginning.{MayBegin, start_of};
 
+use crate::begin::Begin;
 use crate::outcome::{conclude, meet, wind_up};
-use crate::search::{open, solve_alone};
+use crate::search::{know, open, solve_alone};
+use cfn_clock::Halt;
 use cfn_explore::{Explorers, Problem};
 use cfn_gate::Gate;
 use cfn_low::{Holder, Incumbent, Low, Unnamed};
 use cfn_net::{Network, Scored};
+use cfn_outcome::Outcome;
 use cfn_pool::Pool;
-use cfn_proof::Outcome;
 use cfn_rota::{Ends, deal};
 use cfn_task::Task;
 use cfn_worker::{Board, Crew, LaneTasks, Lanes, ROOM, Shared, Threshold, Worker};
@@ -40,51 +43,85 @@ pub struct Teamwork {
 /// Searches as `solve` does, by 1 to 64 workers, each in a thread of its own; a single one works on the caller's thread.
 ///
 /// Which nodes are made depends on how the threads run, so two calls may answer different nodes, rows and assignments; each
-/// answer keeps the whole contract. A worker that is refused memory for a dive ends, and the others go on with its leaf. A gate
-/// that asks for it is told, after each piece, how far the search is.
+/// answer keeps the whole contract. Once `halt` is past each worker ends behind the node that it is at; the outcome's cause is then
+/// that time is past, where a leaf is open and nodes are left. A worker that is refused memory for a dive ends, and the others go
+/// on with its leaf. A gate that asks for it is told, after each piece, how far the search is.
 ///
 /// The certificate's threshold is at most each threshold at which a worker made a piece.
-pub fn solve_together<X: Explorers + Sync, R: Threads + Wait + Sync, G: Gate + Sync>(
+pub fn solve_together<
+    X: Explorers + Sync,
+    R: Threads + Wait + Sync,
+    G: Gate + Sync,
+    H: Halt + Sync,
+>(
     rt: &R,
     alloc: Global,
     network: &Problem<'_, X>,
     workers: u32,
     budget: u64,
     gate: &G,
+    halt: &H,
 ) -> Result<Teamwork, AllocError>
     requires some { 1 ≤ workers }
     requires few { workers ≤ 64 }
     requires budget { budget ≤ GREATEST }
-    ensures outcome { IfOk result (λ found. IsOutcome network.now budget found.outcome) }
+    ensures outcome { IfOk result (λ found. IsOutcome network.now (fresh network.now) (timed_nodes budget (H.limited halt.now)) found.outcome) }
+    ensures count { IfOk result (λ found. length found.thresholds.items ≡ workers) }
+    ensures most { IfOk result (λ found. All (λ k. k ≤ network.now.upper) found.thresholds.items) }
+    ensures least { IfOk result (λ found. All (λ k. threshold (certificate_of found.outcome.certificate) ≤ k) found.thresholds.items) }
+{
+    let begin = Begin::fresh(alloc, network.network())?;
+    solve_from(rt, alloc, network, begin, workers, budget, gate, halt)
+}
+
+/// Goes on so from the tree and the assignment of an earlier search. The nodes are those that it makes itself.
+pub fn solve_from<X: Explorers + Sync, R: Threads + Wait + Sync, G: Gate + Sync, H: Halt + Sync>(
+    rt: &R,
+    alloc: Global,
+    network: &Problem<'_, X>,
+    begin: Begin,
+    workers: u32,
+    budget: u64,
+    gate: &G,
+    halt: &H,
+) -> Result<Teamwork, AllocError>
+    requires may { MayBegin network.now begin }
+    requires some { 1 ≤ workers }
+    requires few { workers ≤ 64 }
+    requires budget { budget ≤ GREATEST }
+    ensures outcome { IfOk result (λ found. IsOutcome network.now (start_of network.now begin) (timed_nodes budget (H.limited halt.now)) found.outcome) }
     ensures count { IfOk result (λ found. length found.thresholds.items ≡ workers) }
     ensures most { IfOk result (λ found. All (λ k. k ≤ network.now.upper) found.thresholds.items) }
     ensures least { IfOk result (λ found. All (λ k. threshold (certificate_of found.outcome.certificate) ≤ k) found.thresholds.items) }
 {
     if workers == 1 {
-        return solve_single(alloc, network, budget, gate);
+        return solve_single(alloc, network, begin, budget, gate, halt);
     }
     let (network, explorers) = (network.network(), network.explorers());
     let unnamed = Unnamed::make(alloc, network)?;
-    search::<Brand, X, R, G>(
-        rt, alloc, network, explorers, unnamed, workers, budget, gate,
+    search::<Brand, X, R, G, H>(
+        rt, alloc, network, explorers, unnamed, begin, workers, budget, gate, halt,
     )
 }
 
 /// The search by a single worker.
-fn solve_single<X: Explorers, G: Gate>(
+fn solve_single<X: Explorers, G: Gate, H: Halt>(
     alloc: Global,
     network: &Problem<'_, X>,
+    begin: Begin,
     budget: u64,
     gate: &G,
+    halt: &H,
 ) -> Result<Teamwork, AllocError>
-    requires { budget ≤ GREATEST }
-    ensures outcome { IfOk result (λ found. IsOutcome network.now budget found.outcome) }
+    requires may { MayBegin network.now begin }
+    requires budget { budget ≤ GREATEST }
+    ensures outcome { IfOk result (λ found. IsOutcome network.now (start_of network.now begin) (timed_nodes budget (H.limited halt.now)) found.outcome) }
     ensures count { IfOk result (λ found. length found.thresholds.items ≡ 1) }
     ensures most { IfOk result (λ found. All (λ k. k ≤ network.now.upper) found.thresholds.items) }
     ensures least { IfOk result (λ found. All (λ k. threshold (certificate_of found.outcome.certificate) ≤ k) found.thresholds.items) }
 {
     let mut thresholds = Vec::with_capacity(alloc, 1)?;
-    let (outcome, own) = solve_alone(alloc, network, budget, gate)?;
+    let (outcome, own) = solve_alone(alloc, network, begin, budget, gate, halt)?;
     thresholds.push_reserved(own);
     Ok(Teamwork {
         outcome,
@@ -98,40 +135,47 @@ fn search<
     X: Explorers + Sync,
     R: Threads + Wait + Sync,
     G: Gate + Sync,
+    H: Halt + Sync,
 >(
     rt: &R,
     alloc: Global,
     network: &Network,
     explorers: &X,
     unnamed: Unnamed,
+    begin: Begin,
     workers: u32,
     budget: u64,
     gate: &G,
+    halt: &H,
 ) -> Result<Teamwork, AllocError>
     requires table { M.table ≡ unnamed.table }
     requires network { M.network ≡ unnamed.network }
+    requires may { MayBegin unnamed.network begin }
+    requires start { M.start ≡ start_of unnamed.network begin }
     requires own { network.now ≡ unnamed.network }
     requires explorers { X.network explorers.now ≡ unnamed.network }
     requires budget { M.budget ≡ budget }
     requires crew { M.workers ≡ workers }
     requires some { 1 ≤ workers }
     requires few { workers ≤ 64 }
-    ensures outcome { IfOk result (λ found. IsOutcome network.now budget found.outcome) }
+    ensures outcome { IfOk result (λ found. IsOutcome network.now (start_of network.now begin) (timed_nodes budget (H.limited halt.now)) found.outcome) }
     ensures count { IfOk result (λ found. length found.thresholds.items ≡ workers) }
     ensures most { IfOk result (λ found. All (λ k. k ≤ network.now.upper) found.thresholds.items) }
     ensures least { IfOk result (λ found. All (λ k. threshold (certificate_of found.outcome.certificate) ≤ k) found.thresholds.items) }
 {
     let thresholds = Vec::with_capacity(alloc, workers as usize)?;
     let (low, mut holder) = unnamed.named::<M>();
+    let Begin { tree, best } = begin;
+    know(&low, &mut holder, &best);
     let (parts, ends) = supplies(alloc, network, &low, &mut holder, workers)?;
     let crew: Vec<Worker<M>> = Vec::with_capacity(alloc, workers as usize)?;
-    let Ok(held) = open(alloc, network, &low, holder, budget) else {
+    let Ok(held) = open(alloc, network, &low, holder, tree, budget) else {
         crew.destroy_empty();
         return Err(AllocError);
     };
     let crew = start_workers(crew, parts, ends);
-    let (held, crew) = run(rt, alloc, network, explorers, &low, held, crew, gate);
-    Ok(end_all(network, low, held, crew, thresholds))
+    let (held, crew) = run(rt, alloc, network, explorers, &low, held, crew, gate, halt);
+    Ok(end_all(network, low, held, crew, thresholds, halt))
 }
 
 /// The pool and the workers once there is no leaf to take.
@@ -140,6 +184,7 @@ fn run<
     X: Explorers + Sync,
     R: Threads + Wait + Sync,
     G: Gate + Sync,
+    H: Halt + Sync,
 >(
     rt: &R,
     alloc: Global,
@@ -149,41 +194,43 @@ fn run<
     held: Pool<M>,
     crew: Vec<Worker<M>>,
     gate: &G,
+    halt: &H,
 ) -> (Pool<M>, Vec<Worker<M>>)
     requires own { network.now ≡ M.network }
     requires explorers { X.network explorers.now ≡ M.network }
-    requires board { IsBoard M.network M.budget M.workers held }
-    ensures board { IsBoard M.network M.budget M.workers result.0 }
+    requires board { IsBoard M.start M.budget M.workers held }
+    ensures board { IsBoard M.start M.budget M.workers result.0 }
     ensures count { length result.1.items ≡ length crew.items }
     ensures same { map reach result.1.items ≡ map reach crew.items }
 {
     let board = Mutex::new(Board::new(held));
-    let crew = work_all(rt, alloc, network, explorers, low, &board, crew, gate);
+    let crew = work_all(rt, alloc, network, explorers, low, &board, crew, gate, halt);
     (board.into_inner().into_pool(), crew)
 }
 
 /// Ends the workers and then the search. `thresholds` is empty, with room for one of each worker. It takes no memory.
-fn end_all<M: Incumbent>(
+fn end_all<M: Incumbent, H: Halt>(
     network: &Network,
     low: Low<M>,
     mut held: Pool<M>,
     crew: Vec<Worker<M>>,
     thresholds: Vec<Threshold>,
+    halt: &H,
 ) -> Teamwork
     requires own { network.now ≡ M.network }
-    requires search { IsSearch M.network (pool held) }
+    requires search { IsSearch M.start (pool held) }
     requires shares { (pool held).view.shares + length crew.items ≡ all_shares }
     requires all { AreAll (map reach crew.items) }
     requires none { thresholds.items ≡ [] }
     requires room { length crew.items ≤ vec_capacity thresholds }
-    ensures outcome { IsOutcome network.now (pool held).budget result.outcome }
+    ensures outcome { IsOutcome network.now M.start (timed_nodes (pool held).budget (H.limited halt.now)) result.outcome }
     ensures count { length result.thresholds.items ≡ length crew.items }
     ensures most { All (λ k. k ≤ network.now.upper) result.thresholds.items }
     ensures least { All (λ k. threshold (certificate_of result.outcome.certificate) ≤ k) result.thresholds.items }
 {
     let thresholds = end_workers(&low, &mut held, crew, thresholds);
     wind_up(&low, &mut held);
-    let outcome = conclude(network, low, held);
+    let outcome = conclude(network, low, held, halt);
     Teamwork {
         outcome,
         thresholds,
@@ -268,6 +315,7 @@ fn work_all<
     X: Explorers + Sync,
     R: Threads + Wait + Sync,
     G: Gate + Sync,
+    H: Halt + Sync,
 >(
     rt: &R,
     alloc: Global,
@@ -277,6 +325,7 @@ fn work_all<
     board: &Mutex<Board<M>>,
     mut crew: Vec<Worker<M>>,
     gate: &G,
+    halt: &H,
 ) -> Vec<Worker<M>>
     requires own { network.now ≡ M.network }
     requires explorers { X.network explorers.now ≡ M.network }
@@ -291,6 +340,7 @@ fn work_all<
         board,
         changed: &changed,
         gate,
+        halt,
     };
     work_each(rt, alloc, &shared, crew.as_mut_slice());
     crew
@@ -302,7 +352,8 @@ fn work_each<
     X: Explorers + Sync,
     R: Threads + Wait + Sync,
     G: Gate + Sync,
->(rt: &R, alloc: Global, shared: &Shared<'_, M, X, G>, crew: &mut [Worker<M>])
+    H: Halt + Sync,
+>(rt: &R, alloc: Global, shared: &Shared<'_, M, X, G, H>, crew: &mut [Worker<M>])
     requires network { shared.now.network.now ≡ M.network }
     requires explorers { X.network shared.now.explorers.now ≡ M.network }
     ensures count { length crew.new ≡ length crew.old }
@@ -331,12 +382,12 @@ fn end_workers<M: Incumbent>(
     mut crew: Vec<Worker<M>>,
     mut thresholds: Vec<Threshold>,
 ) -> Vec<Threshold>
-    requires search { IsSearch M.network (pool held.old) }
+    requires search { IsSearch M.start (pool held.old) }
     requires shares { (pool held.old).view.shares + length crew.items ≡ all_shares }
     requires all { AreAll (map reach crew.items) }
     requires none { thresholds.items ≡ [] }
     requires room { length crew.items ≤ vec_capacity thresholds }
-    ensures search { IsSearch M.network (pool held.new) }
+    ensures search { IsSearch M.start (pool held.new) }
     ensures budget { (pool held.new).budget ≡ (pool held.old).budget }
     ensures shares { (pool held.new).view.shares ≡ all_shares }
     ensures told { result.items ≡ reverse (map least_of crew.items) }
@@ -359,10 +410,10 @@ fn end<M: Incumbent>(
     mut worker: Worker<M>,
     others: &mut [Worker<M>],
 ) -> Threshold
-    requires search { IsSearch M.network (pool held.old) }
+    requires search { IsSearch M.start (pool held.old) }
     requires share { (pool held.old).view.shares + 1 ≤ all_shares }
     requires all { AreAll (map reach others.old ++ reach worker ∷ []) }
-    ensures search { IsSearch M.network (pool held.new) }
+    ensures search { IsSearch M.start (pool held.new) }
     ensures budget { (pool held.new).budget ≡ (pool held.old).budget }
     ensures share { (pool held.new).view.shares ≡ (pool held.old).view.shares + 1 }
     ensures others { AreAll (map reach others.new) }

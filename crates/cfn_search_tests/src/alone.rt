@@ -4,7 +4,7 @@ ghost use Rattle.std.specs.Prelude.{◌≤◌};
 
 use crate::networks::{tiny, tri};
 use cfn_net::Network;
-use cfn_proof::Stop;
+use cfn_outcome::Stop;
 use cfn_solve::solve;
 use std::alloc::{AllocError, Global};
 use std::test::*;

@@ -1,11 +1,12 @@
 //! Searches by explorers that want memory at one of their calls.
 
 use crate::networks::tri;
+use cfn_clock::{Halt, Never};
 use cfn_dive::{Diver, Divers};
 use cfn_explore::{Explore, Explored, Explorers, Problem};
 use cfn_low::{Holder, Incumbent, Low};
 use cfn_net::{Network, Tables};
-use cfn_proof::Stop;
+use cfn_outcome::Stop;
 use cfn_search::{OpenGate, solve_together};
 use cfn_task::Task;
 use std::alloc::{AllocError, AllocGlobal, Global};
@@ -27,7 +28,7 @@ impl<'n> Explore for Failing<'n> {
 
     ghost keeps = { AreEnforced };
 
-    fn explore<M: Incumbent>(
+    fn explore<M: Incumbent, H: Halt>(
         &mut self,
         alloc: Global,
         network: &Network,
@@ -35,13 +36,14 @@ impl<'n> Explore for Failing<'n> {
         low: &Low<M>,
         holder: &mut Holder<M>,
         backtracks: u64,
+        halt: &H,
     ) -> Explored {
         if self.left == 0 {
             return Explored::Memory { task };
         }
         self.left -= 1;
         self.diver
-            .dive(alloc, network, task, low, holder, backtracks)
+            .dive(alloc, network, task, low, holder, backtracks, halt)
     }
 }
 
@@ -79,7 +81,7 @@ fn told_after<R: AllocGlobal + Threads + Wait + Sync>(
         dives,
     };
     let problem = Problem::of(&network, &divers);
-    let outcome = solve_together(rt, rt.alloc(), &problem, 2, 1_000, &OpenGate)?.outcome;
+    let outcome = solve_together(rt, rt.alloc(), &problem, 2, 1_000, &OpenGate, &Never)?.outcome;
     let best = outcome.certificate.best.as_ref().map(|best| best.price());
     Ok((outcome.stop, outcome.certificate.lower, best))
 }

@@ -3,8 +3,8 @@
 ghost use Rattle.std.specs.Prelude.{◌≤◌};
 
 use crate::networks::tri;
-use cfn_proof::Stop;
-use cfn_solve::{Gate, OpenGate, Point, Threshold, solve_together};
+use cfn_outcome::Stop;
+use cfn_solve::{Gate, Never, OpenGate, Point, Threshold, solve_together};
 use std::alloc::{AllocError, AllocGlobal};
 use std::sync::Wait;
 use std::sync::atomic::{AtomicU64, Ordering};
@@ -76,7 +76,7 @@ fn together<R: AllocGlobal + Threads + Wait + Sync, G: Gate + Sync>(
     requires few { workers ≤ 64 }
 {
     let network = tri(rt.alloc())?;
-    let found = solve_together(rt, rt.alloc(), &network, workers, 1_000_000, gate)?;
+    let found = solve_together(rt, rt.alloc(), &network, workers, 1_000_000, gate, &Never)?;
     let outcome = &found.outcome;
     let lower = outcome.certificate.lower;
     let best = outcome.certificate.best.as_ref().map(|best| best.price());

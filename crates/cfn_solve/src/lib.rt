@@ -1,11 +1,12 @@
 //! The search of a network: hybrid best-first search (`cfn_search`) by depth-first dives (`cfn_dive`).
 //!
 //! `solve` searches on the caller's thread, `solve_together` by several workers. Both make the tables that the divers share, and
-//! promise what every search does, as `cfn_proof` defines it (specs/Outcome.antt).
+//! promise what every search does, as `cfn_outcome` defines it (specs/Outcome.antt).
 #![tactic(auto)]
 
 mod solving;
 
+pub use cfn_clock::{Halt, Never};
 pub use cfn_gate::{Gate, News, OpenGate, Point};
 pub use cfn_search::{Teamwork, Threshold};
 pub use solving::{solve, solve_together};

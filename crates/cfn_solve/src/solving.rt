@@ -4,13 +4,14 @@ ghost use Rattle.std.specs.Prelude.{◌≡◌, ◌≤◌, All, length, IfOk};
 ghost use Rattle.cfn_model.specs.Certificate.{threshold};
 ghost use Rattle.cfn_model.specs.declared.limits.TheConstants.{GREATEST};
 ghost use Rattle.cfn_proof.specs.Certificates.{certificate_of};
-ghost use Rattle.cfn_proof.specs.Outcome.{IsOutcome};
+ghost use Rattle.cfn_outcome.specs.Outcome.{IsOutcome, fresh, nodes_alone, timed_nodes};
 
+use cfn_clock::Halt;
 use cfn_dive::Divers;
 use cfn_explore::Problem;
 use cfn_gate::Gate;
 use cfn_net::{Network, Tables};
-use cfn_proof::Outcome;
+use cfn_outcome::Outcome;
 use cfn_search::Teamwork;
 use std::alloc::{AllocError, Global};
 use std::sync::Wait;
@@ -20,7 +21,7 @@ use std::thread::Threads;
 /// want of memory before the search stands.
 pub fn solve(alloc: Global, network: &Network, budget: u64) -> Result<Outcome, AllocError>
     requires { budget ≤ GREATEST }
-    ensures { IfOk result (IsOutcome network.now budget) }
+    ensures { IfOk result (IsOutcome network.now (fresh network.now) (nodes_alone budget)) }
 {
     let tables = Tables::expand(alloc, network)?;
     let divers = Divers::over(network, &tables);
@@ -31,22 +32,24 @@ pub fn solve(alloc: Global, network: &Network, budget: u64) -> Result<Outcome, A
 /// Searches as `solve` does, by 1 to 64 workers, each in a thread of its own; a single one works on the caller's thread.
 ///
 /// Which nodes are made depends on how the threads run, so two calls may answer different nodes, rows and assignments; each
-/// answer keeps the whole contract. A worker that is refused memory for a dive ends, and the others go on with its leaf. A gate
-/// that asks for it is told, after each piece, how far the search is.
+/// answer keeps the whole contract. Once `halt` is past each worker ends behind the node that it is at; the outcome's cause is then
+/// that time is past, where a leaf is open and nodes are left. A worker that is refused memory for a dive ends, and the others go
+/// on with its leaf. A gate that asks for it is told, after each piece, how far the search is.
 ///
 /// The certificate's threshold is at most each threshold at which a worker made a piece.
-pub fn solve_together<R: Threads + Wait + Sync, G: Gate + Sync>(
+pub fn solve_together<R: Threads + Wait + Sync, G: Gate + Sync, H: Halt + Sync>(
     rt: &R,
     alloc: Global,
     network: &Network,
     workers: u32,
     budget: u64,
     gate: &G,
+    halt: &H,
 ) -> Result<Teamwork, AllocError>
     requires some { 1 ≤ workers }
     requires few { workers ≤ 64 }
     requires budget { budget ≤ GREATEST }
-    ensures outcome { IfOk result (λ found. IsOutcome network.now budget found.outcome) }
+    ensures outcome { IfOk result (λ found. IsOutcome network.now (fresh network.now) (timed_nodes budget (H.limited halt.now)) found.outcome) }
     ensures count { IfOk result (λ found. length found.thresholds.items ≡ workers) }
     ensures most { IfOk result (λ found. All (λ k. k ≤ network.now.upper) found.thresholds.items) }
     ensures least { IfOk result (λ found. All (λ k. threshold (certificate_of found.outcome.certificate) ≤ k) found.thresholds.items) }
@@ -54,5 +57,5 @@ pub fn solve_together<R: Threads + Wait + Sync, G: Gate + Sync>(
     let tables = Tables::expand(alloc, network)?;
     let divers = Divers::over(network, &tables);
     let problem = Problem::of(network, &divers);
-    cfn_search::solve_together(rt, alloc, &problem, workers, budget, gate)
+    cfn_search::solve_together(rt, alloc, &problem, workers, budget, gate, halt)
 }

@@ -10,8 +10,10 @@
 //! The tables of functions of which the network keeps only what differs from a default are written out in `Tables`, a
 //! store's own or shared with other stores (`shelf.rt`).
 //!
-//! Inside, `State` keeps the events and undoes each as it was made: `Sums` has the costs (`sums.rt`), `Cuts` which tuples
-//! are cut, and `cfn_live` which values are live; `peaks.rt` has the greatest unary costs. `scan.rt` is the only loop over tables; `block.rt` packs the newest steps.
+//! Inside, `State` keeps the events and undoes each as it was made: `Sums` has the costs (`sums.rt`), `Cuts` which
+//! tuples are cut, and `cfn_live` which values are live; `peaks.rt` has the greatest unary costs. `scan.rt` goes over
+//! the tuples of a function, and `line.rt` along those of one value in a function of two variables; `block.rt` packs
+//! the newest steps.
 #![tactic(auto)]
 
 mod block;

@@ -1,7 +1,7 @@
 //! Functions of two variables: the tuples that have one value at one place, one for each value of the other variable.
 //!
-//! What a function's tuples need is looked up once for a place, so that a loop over the values there, and over the other
-//! variable's, reads a table entry and a shift for each of them, and nothing else (the "delta costs" of binary cost
+//! What a function's tuples need is looked up once for a place, so that a loop over the values there, and over the
+//! other variable's, reads at most a table entry, a flag and a shift for each of them (the "delta costs" of binary cost
 //! functions in toulbar2).
 
 ghost use Rattle.std.specs.Prelude.{◌≡◌, ℕ, ◌+◌, ◌<◌, List, [], ◌∷◌, true, MatchOption, IsSomeAnd, None};

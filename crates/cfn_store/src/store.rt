@@ -114,7 +114,8 @@ impl<'n> Store<'n> {
         })
     }
 
-    /// Makes room for `turns` steps and decisions. An `Err`, want of memory, leaves all as it was.
+    /// Makes room for `turns` steps and decisions. An `Err` is want of memory. Either way the events are as they were,
+    /// and there is no less room.
     pub fn reserve(&mut self, turns: usize) -> Result<(), AllocError>
         ensures network { self.new.network ≡ self.old.network }
         ensures base { self.new.base ≡ self.old.base }
@@ -598,7 +599,8 @@ impl<'n> Store<'n> {
             .first(self.network, &self.tables, f, one, two, Sense::Least)
     }
 
-    /// A function of two variables, seen from a place; `None` where `f` has another number of variables.
+    /// A function of two variables, seen from a place; `None` where `f` has another number of variables. No clause says
+    /// that it is so only there.
     #[inline(always)]
     pub fn side(&self, f: u32, place: u32) -> Option<Side<'_>>
         requires function { f < length self.now.network.functions }
@@ -616,8 +618,8 @@ impl<'n> Store<'n> {
         )
     }
 
-    /// The tuples of `f`, a function of two variables, with a live `value` at `place`, along the other variable's values; `None`
-    /// where `f` has another number of variables, or the value is not live.
+    /// The tuples of `f`, a function of two variables, with a live `value` at `place`, along the other variable's
+    /// values. Where `None` is answered is in no clause.
     #[inline]
     pub fn line(&self, f: u32, place: u32, value: u32, other: u32) -> Option<Line<'_>>
         requires place { IsPlace self.now.network f place value }

@@ -1,8 +1,10 @@
 //! What tests that cross the crates share, and no code of the solver.
 //!
 //! - `running` is a whole run over files in memory.
+//! - `clocks` are clocks that stand still, or jump.
 //! - `drawing` draws small networks with the least cost that their words say.
 #![tactic(auto)]
 
+pub mod clocks;
 pub mod drawing;
 pub mod running;

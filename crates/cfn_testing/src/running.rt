@@ -1,10 +1,12 @@
 //! A whole run over a desk in memory, and questions about what it said and wrote.
 
+use crate::clocks::Still;
 use cfn_app::{Gate, OpenGate, run};
 use cfn_desk::MemoryDesk;
 use std::alloc::{AllocError, AllocGlobal, Global};
 use std::sync::Wait;
 use std::thread::Threads;
+use std::time::Clock;
 
 /// One variable with two values, of costs 3 and 1.
 pub const TINY: &[u8] = b"tiny 1 2 1 10\n2\n1 0 3 1\n1 1\n";
@@ -49,7 +51,7 @@ impl Run {
         kept: &str,
     ) -> Result<Run, AllocError> {
         let mut desk = MemoryDesk::make(rt.alloc(), files, 2000, 400, failing)?;
-        let status = run(rt, rt.alloc(), words, &mut desk, &OpenGate).code();
+        let status = run(rt, rt.alloc(), words, &mut desk, &OpenGate, &Still).code();
         Run::left(rt.alloc(), status, &desk, kept)
     }
 
@@ -61,7 +63,19 @@ impl Run {
         gate: &G,
     ) -> Result<Run, AllocError> {
         let mut desk = MemoryDesk::make(rt.alloc(), &[("in", file)], 2000, 400, &[])?;
-        let status = run(rt, rt.alloc(), words, &mut desk, gate).code();
+        let status = run(rt, rt.alloc(), words, &mut desk, gate, &Still).code();
+        Run::left(rt.alloc(), status, &desk, "out")
+    }
+
+    /// The run of these words over a desk whose file `in` has these bytes, by a clock.
+    pub fn timed<R: AllocGlobal + Threads + Wait + Sync, C: Clock + Sync>(
+        rt: &R,
+        words: &[&str],
+        file: &[u8],
+        clock: &C,
+    ) -> Result<Run, AllocError> {
+        let mut desk = MemoryDesk::make(rt.alloc(), &[("in", file)], 200_000, 20_000, &[])?;
+        let status = run(rt, rt.alloc(), words, &mut desk, &OpenGate, clock).code();
         Run::left(rt.alloc(), status, &desk, "out")
     }
 
@@ -166,7 +180,7 @@ pub fn certificate_of<R: AllocGlobal + Threads + Wait + Sync>(
 ) -> Result<Vec<u8>, AllocError> {
     let mut desk = MemoryDesk::make(rt.alloc(), &[("in", file)], 20_000, 2_000, &[])?;
     let words = ["wcspsolve", "solve", "in", "out", "--budget", budget];
-    let _status = run(rt, rt.alloc(), &words, &mut desk, &OpenGate);
+    let _status = run(rt, rt.alloc(), &words, &mut desk, &OpenGate, &Still);
     Vec::from_slice(rt.alloc(), desk.file("out").unwrap_or(b""))
 }
 
@@ -181,7 +195,7 @@ pub fn check_answers<R: AllocGlobal + Threads + Wait + Sync>(
     let files = [("in", file), ("cert", certificate)];
     let mut desk = MemoryDesk::make(rt.alloc(), &files, 0, 400, &[])?;
     let words = ["wcspsolve", "check", "in", "cert"];
-    let ended = run(rt, rt.alloc(), &words, &mut desk, &OpenGate).code();
+    let ended = run(rt, rt.alloc(), &words, &mut desk, &OpenGate, &Still).code();
     Ok(ended == status && desk.said_bytes() == said)
 }
 

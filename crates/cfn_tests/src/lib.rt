@@ -2,7 +2,8 @@
 //!
 //! `solving`, `asking`, `reading`, `failing` and `migrating` judge what is found, what the words of a command line ask for,
 //! which files are refused, what a fault of the outside leaves, and what becomes of a certificate of the first version; `rows`
-//! walks the runs that these list. `workers` has runs of several workers, and `telling` what a gate is told of a run.
+//! walks the runs that these list. `workers` has runs of several workers, `telling` what a gate is told of a run, and `timing`
+//! runs under a limit of time.
 #![tactic(auto)]
 
 #[cfg(test)]
@@ -19,5 +20,7 @@ mod rows;
 mod solving;
 #[cfg(test)]
 mod telling;
+#[cfg(test)]
+mod timing;
 #[cfg(test)]
 mod workers;

@@ -1,4 +1,4 @@
-//! The amounts at which virtual arc consistency is tried: none is above what a live value or a tuple costs.
+//! The amount at which virtual arc consistency is tried first.
 
 ghost use Rattle.std.specs.Prelude.{◌<◌, ◌≤◌, length};
 
@@ -6,8 +6,8 @@ use crate::power::power_within;
 use cfn_net::Network;
 use cfn_store::Store;
 
-/// The greatest power of two that is at most a threshold, and at most the greatest cost that something live had before it was
-/// given more; 1 where nothing costs anything. At a greater amount nothing would be deleted.
+/// The greatest power of two that is at most a threshold, and at most the greatest of the live values' unary costs and
+/// of the entries below the upper bound; 1 where these are all 0. Clauses say only that it is from 1 to the threshold.
 pub(crate) fn first_amount(store: &Store<'_>, threshold: u64) -> u64
     requires { 0 < threshold }
     ensures some { 0 < result }

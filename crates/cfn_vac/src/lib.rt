@@ -1,6 +1,7 @@
 //! Virtual arc consistency at the root, with whole amounts (Cooper et al., Soft arc consistency revisited, 2010).
 //!
 //! - `vac.rt`: what a caller has: one attempt to lift at an amount, and the driver over amounts;
+//! - `amounts.rt`: the amount at which the driver begins;
 //! - `ready.rt`: what a caller sees to before;
 //! - `lifter.rt`: lifts by the plan of a derivation;
 //! - `numbering.rt`: where each value stands among the deletions;

@@ -23,6 +23,7 @@ ghost use Rattle.cfn_vac.specs.Roots.{IsReady, EndsWith, BansMore};
 
 use crate::amounts::first_amount;
 use crate::lifter::{Lifter, Lifting};
+use cfn_clock::Halt;
 use cfn_derivation::{Bans, Derived, Deriver};
 use cfn_gain::Limits;
 use cfn_incidence::Incidence;
@@ -126,15 +127,16 @@ impl<'n> RootVac<'n> {
         }
     }
 
-    /// Raises the floor: at amounts that halve, from a power of two on that is within the threshold and the greatest cost, as long
-    /// as lifting goes on.
-    /// In a store that is settled the functions are arc consistent. Whether the floor rose.
-    pub fn raise(
+    /// Raises the floor: at amounts that halve, from a power of two within the threshold down to 1, whether or not one
+    /// lifted; only where `halt` is past, or there is no room or memory for a lift, does it end before. In a store that is
+    /// settled the functions are arc consistent. Whether the floor rose.
+    pub fn raise<H: Halt>(
         &mut self,
         store: &mut Store<'_>,
         incidence: &Incidence,
         limits: Limits,
         settled: bool,
+        halt: &H,
     ) -> bool
         requires ready { IsReady self.old.network store.old limits }
         requires incidence { incidence.now ≡ self.old.network }
@@ -146,13 +148,20 @@ impl<'n> RootVac<'n> {
     {
         let before = store.floor();
         if limits.threshold > 0 {
-            self.halve(store, incidence, limits, settled);
+            self.halve(store, incidence, limits, settled, halt);
         }
         store.floor() > before
     }
 
     /// The same, at a threshold from 1 on.
-    fn halve(&mut self, store: &mut Store<'_>, incidence: &Incidence, limits: Limits, settled: bool)
+    fn halve<H: Halt>(
+        &mut self,
+        store: &mut Store<'_>,
+        incidence: &Incidence,
+        limits: Limits,
+        settled: bool,
+        halt: &H,
+    )
         requires ready { IsReady self.old.network store.old limits }
         requires incidence { incidence.now ≡ self.old.network }
         requires settled { settled ≡ true → (k : ℕ) × AreArcConsistent self.old.network (history store.old) k }
@@ -162,7 +171,7 @@ impl<'n> RootVac<'n> {
     {
         let mut q = first_amount(store, limits.threshold);
         self.begin(store, settled, q);
-        while self.raise_at(store, incidence, limits, q) && q > 1 {
+        while self.raise_at(store, incidence, limits, q, halt) && q > 1 {
             q /= 2;
             self.lower(store, q);
         }
@@ -181,14 +190,15 @@ impl<'n> RootVac<'n> {
     }
 
     /// Lifts at one amount, until nothing is left to gather, the floor reaches the threshold, one plan after another is blocked, or
-    /// as many values were deleted as may be.
-    /// Whether a smaller amount may lift.
-    fn raise_at(
+    /// as many values were deleted as may be. Whether a smaller amount may lift; none may where `halt` is past, which is asked
+    /// before each attempt.
+    fn raise_at<H: Halt>(
         &mut self,
         store: &mut Store<'_>,
         incidence: &Incidence,
         limits: Limits,
         q: u64,
+        halt: &H,
     ) -> bool
         requires ready { IsReady self.old.network store.old limits }
         requires incidence { incidence.now ≡ self.old.network }
@@ -207,6 +217,9 @@ impl<'n> RootVac<'n> {
             && work < MOST_DELETIONS
             && store.floor() < u128::from(limits.threshold)
         {
+            if halt.past().is_some() {
+                return false;
+            }
             match self.attempt(store, incidence, limits, q) {
                 Attempt::Rose => blocks = 0,
                 Attempt::Banned => blocks += 1,

@@ -66,7 +66,8 @@ fn network(alloc: Global, words: &mut Words<'_>) -> Result<Network, ReadFault>
 /// is not looked at. A missing word is refused at the number that it would have.
 ///
 /// The time is linear in the bytes and the cells of the tables. Memory is taken as words come, and for
-/// a table when its number of tuples has been read, so that a number that the file merely claims takes none.
+/// a table when its number of tuples has been read. So a number of variables, functions or tuples that the
+/// file merely claims takes none; but a table takes as much as the domain sizes make cells.
 pub fn read(alloc: Global, bytes: &[u8]) -> Result<Network, ReadFault>
     ensures { Gives (λ network. network) result (reading bytes.now) }
 {

@@ -68,5 +68,5 @@ module _ (M : RattleType) (g : word.Ghosts M.Denot) where
     board_send : IsSend (Board.the_row M g h)
     board_send = search (sendable, pool_send) depth 40
 
-    pub shared_sync : (a : NamedLft) (X G : RattleType) → IsSync X → IsSync G → IsSync (Shared.the_row a M X G g h)
-    shared_sync a X G x s = search (sendable, crosses, network_sync, of_low, board_send) depth 40
+    pub shared_sync : (a : NamedLft) (X G H : RattleType) → IsSync X → IsSync G → IsSync H → IsSync (Shared.the_row a M X G H g h)
+    shared_sync a X G H x s t = search (sendable, crosses, network_sync, of_low, board_send) depth 40

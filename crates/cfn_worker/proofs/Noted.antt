@@ -4,24 +4,25 @@ use Rattle.cfn_model.specs.declared.report.Row.{Row}
 use Rattle.cfn_model.specs.Network.{Network}
 use Rattle.cfn_machine.specs.Pool.{Pool, row_of, tree_of}
 use Rattle.cfn_machine.specs.Steps.{is_last}
+use Rattle.cfn_outcome.specs.Outcome.{Start}
 use Rattle.cfn_pool.specs.Answers.{NotesOrWaits}
 use Rattle.cfn_worker.specs.Searching.{IsSearch, GoesOn}
 
-goes_by : (P : Network) (pool : Pool) (a b : Bool) (row : Row) → IsSearch P pool → GoesOn P pool (if a then (if b then pool else record pool { rows = pool.rows ++ row ∷ [] }) else pool)
-goes_by P pool true true row search = record { search = search; budget_is = refl; shares_are = refl; falls = le_refl pool.view.seen }
-goes_by P pool true false row search = record {
+goes_by : (start : Start) (pool : Pool) (a b : Bool) (row : Row) → IsSearch start pool → GoesOn start pool (if a then (if b then pool else record pool { rows = pool.rows ++ row ∷ [] }) else pool)
+goes_by start pool true true row search = record { search = search; budget_is = refl; shares_are = refl; falls = le_refl pool.view.seen }
+goes_by start pool true false row search = record {
   search = record { begun_is = search.begun_is; others = search.others ++ row ∷ []; begin = ap (λ (rows : List Row). rows ++ row ∷ []) search.begin };
   budget_is = refl;
   shares_are = refl;
   falls = le_refl pool.view.seen;
 }
-goes_by P pool false b row search = record { search = search; budget_is = refl; shares_are = refl; falls = le_refl pool.view.seen }
+goes_by start pool false b row search = record { search = search; budget_is = refl; shares_are = refl; falls = le_refl pool.view.seen }
 
-pub noted : (P : Network) (pool new : Pool) → NotesOrWaits P pool new → IsSearch P pool → GoesOn P pool new
-noted P pool new (inl is) search =
+pub noted : (P : Network) (start : Start) (pool new : Pool) → NotesOrWaits P pool new → IsSearch start pool → GoesOn start pool new
+noted P start pool new (inl is) search =
     let row = row_of P (tree_of pool.tree) pool.view.seen in
-    subst (GoesOn P pool) (sym is) (goes_by P pool (nat_lt (length pool.rows) 256) (is_last row pool.rows) row search)
-noted P pool new (inr waits) search = subst (GoesOn P pool) (sym waits.0) (record { search = search; budget_is = refl; shares_are = refl; falls = le_refl pool.view.seen })
+    subst (GoesOn start pool) (sym is) (goes_by start pool (nat_lt (length pool.rows) 256) (is_last row pool.rows) row search)
+noted P start pool new (inr waits) search = subst (GoesOn start pool) (sym waits.0) (record { search = search; budget_is = refl; shares_are = refl; falls = le_refl pool.view.seen })
 
 same_by : (pool : Pool) (a b : Bool) (row : Row) → (if a then (if b then pool else record pool { rows = pool.rows ++ row ∷ [] }) else pool).nodes ≡ pool.nodes
 same_by pool true true row = refl

@@ -2,7 +2,7 @@
 use Rattle.std.specs.Prelude.{◌≡◌, ℕ, ◌<◌, ◌≤◌, ◌⊎◌, Bool, List, ◌∷◌}
 use Rattle.cfn_model.specs.declared.report.Row.{Row}
 use Rattle.cfn_model.specs.Network.{Network}
-use Rattle.cfn_proof.specs.Outcome.{opening}
+use Rattle.cfn_outcome.specs.Outcome.{Start}
 use Rattle.cfn_task.specs.Values.{TaskValue, PieceValue}
 use Rattle.cfn_pool.specs.Answers.{IsGiven, NotesOrWaits, Sweeps}
 use Rattle.cfn_explore.specs.Exploring.{Keeping, IsPieceOf}
@@ -14,15 +14,15 @@ use Rattle.cfn_worker.specs.declared.steps.Asked.TheVariants as asked
 use Rattle.cfn_worker.specs.declared.hand.Unplaced.{Unplaced}
 use Rattle.cfn_worker.specs.declared.hand.Unplaced.TheVariants.{Late, Memory}
 
--- It began with one open leaf, and its rows begin with the opening's.
-pub record IsSearch (P : Network) (pool : Pool) : Type 0 where
-  pub begun_is : pool.begun ≡ 0
+-- It began as a search begins.
+pub record IsSearch (start : Start) (pool : Pool) : Type 0 where
+  pub begun_is : pool.begun ≡ start.begun
   pub others : List Row
-  pub begin : pool.rows ≡ opening P ∷ others
+  pub begin : pool.rows ≡ start.first ∷ others
 
 -- From one pool of a search to another: the budget and the shares of the word stay, and what was seen never rises.
-pub record GoesOn (P : Network) (old new : Pool) : Type 0 where
-  pub search : IsSearch P new
+pub record GoesOn (start : Start) (old new : Pool) : Type 0 where
+  pub search : IsSearch start new
   pub budget_is : new.budget ≡ old.budget
   pub shares_are : new.view.shares ≡ old.view.shares
   pub falls : new.view.seen ≤ old.view.seen
@@ -42,9 +42,9 @@ Asks P old worker want asked.Spent new = (new ≡ old) × HasNone (pool old) All
 Asks P old worker want asked.Memory new = new ≡ old
 
 -- A piece is made of a task at a threshold, with what is kept of its tree, and ended as exploring does.
-pub record IsMadeOf (keeps : Keeping) (task : TaskValue) (granted k : ℕ) (piece : PieceValue) : Type 0 where
+pub record IsMadeOf (keeps : Keeping) (task : TaskValue) (granted : ℕ) (timed : Bool) (k : ℕ) (piece : PieceValue) : Type 0 where
   pub cut : Bool
-  pub piece_is : IsPieceOf keeps task granted k piece cut
+  pub piece_is : IsPieceOf keeps task granted timed k piece cut
 
 -- Where the pool has seen less than before, what need not be searched is closed, and else nothing changes.
 pub record SweepsBelow (P : Network) (before : ℕ) (old new : Pool) : Type 0 where

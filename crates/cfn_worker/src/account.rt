@@ -8,6 +8,7 @@ ghost use Rattle.std.specs.Prelude.{◌≡◌, ◌≤◌, min, is_some, IfOk, If
 ghost use Rattle.cfn_explore.specs.Falling.{HasFallen};
 ghost use Rattle.cfn_worker.specs.Searching.{IsMadeOf};
 
+use cfn_clock::Halt;
 use cfn_explore::{Explore, Explored};
 use cfn_low::{Holder, Incumbent, Low, Note};
 use cfn_net::Network;
@@ -75,8 +76,9 @@ impl<M: Incumbent> Account<M> {
         self.part.best().values().is_some()
     }
 
-    /// Dives below a task's leaf, with at most `backtracks`, at least 1. An `Err`, want of memory, gives the task back.
-    pub(crate) fn dive<E: Explore>(
+    /// Dives below a task's leaf, with at most `backtracks`, at least 1, and until `halt` is past. An `Err`, want of memory, gives
+    /// the task back.
+    pub(crate) fn dive<E: Explore, H: Halt>(
         &mut self,
         alloc: Global,
         network: &Network,
@@ -84,19 +86,21 @@ impl<M: Incumbent> Account<M> {
         task: Task,
         low: &Low<M>,
         backtracks: u64,
+        halt: &H,
     ) -> Result<Piece, Task>
         requires network { network.now ≡ E.made_of explorer.old }
         requires task { task.network ≡ E.made_of explorer.old }
         requires word { M.network ≡ E.made_of explorer.old }
         requires some { 1 ≤ backtracks }
         ensures falls { HasFallen M.network self.old.part self.new.part }
-        ensures made { IfOk result (IsMadeOf E.keeps task backtracks self.new.part.seen) }
+        ensures made { IfOk result (IsMadeOf E.keeps task backtracks (H.limited halt.now) self.new.part.seen) }
         ensures least { IfOk result (λ piece. self.new.least ≡ min self.old.least piece.threshold) }
         ensures same { IfErr result (λ given. self.new.least ≡ self.old.least) }
         ensures back { IfErr result (λ given. given ≡ task) }
         ensures explorer { E.made_of explorer.new ≡ E.made_of explorer.old }
     {
-        match explorer.explore(alloc, network, task, low, &mut self.part, backtracks) {
+        let part = &mut self.part;
+        match explorer.explore(alloc, network, task, low, part, backtracks, halt) {
             Explored::Piece { piece, cut: _ } => {
                 self.least = self.least.min(piece.threshold());
                 Ok(piece)

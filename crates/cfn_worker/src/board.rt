@@ -57,7 +57,7 @@ impl<M: Incumbent + Crew> Model for Board<M> {
 
     ghost view = { λ b. tt };
 
-    ghost invariant = { λ b. IsBoard M.network M.budget M.workers b.held };
+    ghost invariant = { λ b. IsBoard M.start M.budget M.workers b.held };
 }
 
 /// The answer to a worker that asks for a leaf.
@@ -73,7 +73,8 @@ pub(crate) enum Offer {
 /// What a worker has of a piece that it gave.
 #[derive(Clone, Copy)]
 pub(crate) struct Given {
-    /// How many backtracks its next dive may make. `None` where the search has stopped.
+    /// How many backtracks its next dive may make. `None` where memory was refused for this piece or another, or for
+    /// its dive.
     pub next: Option<u64>,
     /// How far the search is, where the gate asked for it.
     pub news: Option<News>,
@@ -82,7 +83,7 @@ pub(crate) struct Given {
 impl<M: Incumbent + Crew> Board<M> {
     /// A pool at the beginning of a search.
     pub fn new(held: Pool<M>) -> Board<M>
-        requires { IsBoard M.network M.budget M.workers held }
+        requires { IsBoard M.start M.budget M.workers held }
     {
         Board {
             held,
@@ -93,7 +94,7 @@ impl<M: Incumbent + Crew> Board<M> {
 
     /// The pool again.
     pub fn into_pool(self) -> Pool<M>
-        ensures { IsBoard M.network M.budget M.workers result }
+        ensures { IsBoard M.start M.budget M.workers result }
     {
         let Board { held, .. } = self;
         held

@@ -9,7 +9,8 @@ pub const FEWEST_BACKTRACKS: u64 = 16;
 /// How many backtracks a dive may make at most.
 const MOST_BACKTRACKS: u64 = 128;
 
-/// After how many backtracks a dive ends that follows one that left leaves open, or none.
+/// How many backtracks the next dive may make: twice as many where `left`, and else half as many, from 16 to 128. A
+/// caller says `left` where the pool has at least as many open leaves behind a piece and its sweep as before.
 pub(crate) fn limit_after(limit: u64, left: bool) -> u64
     requires { IsLimit limit }
     ensures is { result ≡ next_limit limit left }

@@ -13,6 +13,7 @@ ghost use Rattle.cfn_worker.specs.Searching.{IsSearch, GoesOn, IsMadeOf, IsRetur
 
 use crate::account::Account;
 use crate::lanes::Lanes;
+use cfn_clock::Halt;
 use cfn_explore::Explore;
 use cfn_low::{Incumbent, Low};
 use cfn_net::Network;
@@ -54,9 +55,9 @@ impl InHand {
         lanes.push(task).map_err(InHand::of)
     }
 
-    /// Dives below its leaf, with at most `backtracks`, at least 1, and lowers the account's least threshold to the piece's. An
-    /// `Err`, want of memory, gives it back.
-    pub fn dive<M: Incumbent, E: Explore>(
+    /// Dives below its leaf, with at most `backtracks`, at least 1, and until `halt` is past, and lowers the account's least
+    /// threshold to the piece's. An `Err`, want of memory, gives it back.
+    pub fn dive<M: Incumbent, E: Explore, H: Halt>(
         self,
         alloc: Global,
         network: &Network,
@@ -64,20 +65,21 @@ impl InHand {
         low: &Low<M>,
         account: &mut Account<M>,
         backtracks: u64,
+        halt: &H,
     ) -> Result<Made, InHand>
         requires network { network.now ≡ E.made_of explorer.old }
         requires task { self.network ≡ E.made_of explorer.old }
         requires word { M.network ≡ E.made_of explorer.old }
         requires some { 1 ≤ backtracks }
         ensures falls { HasFallen M.network account.old.part account.new.part }
-        ensures made { IfOk result (IsMadeOf E.keeps self backtracks account.new.part.seen) }
+        ensures made { IfOk result (IsMadeOf E.keeps self backtracks (H.limited halt.now) account.new.part.seen) }
         ensures least { IfOk result (λ made. account.new.least ≡ min account.old.least made.threshold) }
         ensures same { IfErr result (λ given. account.new.least ≡ account.old.least) }
         ensures back { IfErr result (λ given. given ≡ self) }
         ensures explorer { E.made_of explorer.new ≡ E.made_of explorer.old }
     {
         let InHand { task } = self;
-        match account.dive(alloc, network, explorer, task, low, backtracks) {
+        match account.dive(alloc, network, explorer, task, low, backtracks, halt) {
             Ok(piece) => Ok(Made { piece }),
             Err(task) => Err(InHand { task }),
         }
@@ -85,9 +87,9 @@ impl InHand {
 
     /// Gives it back to the pool: its leaf is free again, if it was out to the task's worker. It takes no memory.
     pub fn back<M: Incumbent>(self, held: &mut Pool<M>)
-        requires search { IsSearch M.network (pool held.old) }
+        requires search { IsSearch M.start (pool held.old) }
         ensures back { IsReturned held.old self.task held.new }
-        ensures goes { GoesOn M.network (pool held.old) (pool held.new) }
+        ensures goes { GoesOn M.start (pool held.old) (pool held.new) }
     {
         let InHand { task } = self;
         held.back(&task);
@@ -130,8 +132,8 @@ impl Made {
     ) -> Result<(), Unplaced>
         requires own { self.network ≡ M.network }
         requires least { account.old.least ≤ self.threshold }
-        requires search { IsSearch M.network (pool held.old) }
-        ensures goes { GoesOn M.network (pool held.old) (pool held.new) }
+        requires search { IsSearch M.start (pool held.old) }
+        ensures goes { GoesOn M.start (pool held.old) (pool held.new) }
         ensures gives { OnOk result (IsGiven (pool held.old) self account.old.part.seen (pool held.new)) }
         ensures more { OnOk result ((pool held.old).nodes < (pool held.new).nodes) }
         ensures seen { OnOk result ((pool held.new).view.seen ≤ self.threshold) }

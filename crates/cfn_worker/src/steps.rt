@@ -34,8 +34,8 @@ pub enum Asked {
 pub fn take<M: Incumbent>(network: &Network, held: &mut Pool<M>, worker: u32, want: u64) -> Asked
     requires own { network.now ≡ M.network }
     requires wants { 1 ≤ want }
-    requires search { IsSearch M.network (pool held.old) }
-    ensures goes { GoesOn M.network (pool held.old) (pool held.new) }
+    requires search { IsSearch M.start (pool held.old) }
+    ensures goes { GoesOn M.start (pool held.old) (pool held.new) }
     ensures nodes { (pool held.new).nodes ≡ (pool held.old).nodes }
     ensures asks { Asks M.network held.old worker want result held.new }
 {
@@ -64,9 +64,9 @@ pub fn hand_in<M: Incumbent>(
     requires network { network.now ≡ M.network }
     requires own { made.network ≡ M.network }
     requires least { account.old.least ≤ made.threshold }
-    requires search { IsSearch M.network (pool held.old) }
+    requires search { IsSearch M.start (pool held.old) }
     requires limit { IsLimit limit }
-    ensures goes { GoesOn M.network (pool held.old) (pool held.new) }
+    ensures goes { GoesOn M.start (pool held.old) (pool held.new) }
     ensures account { account.new ≡ account.old }
     ensures next { IfOk result IsLimit }
     ensures steps { OnOk result (HandsIn M.network (pool held.old) made account.old.part.seen (pool held.new)) }
@@ -90,9 +90,9 @@ pub fn hand_in<M: Incumbent>(
 /// Notes a row of bounds.
 fn note<M: Incumbent>(network: &Network, held: &mut Pool<M>)
     requires own { network.now ≡ M.network }
-    requires search { IsSearch M.network (pool held.old) }
+    requires search { IsSearch M.start (pool held.old) }
     ensures notes { NotesOrWaits M.network (pool held.old) (pool held.new) }
-    ensures goes { GoesOn M.network (pool held.old) (pool held.new) }
+    ensures goes { GoesOn M.start (pool held.old) (pool held.new) }
     ensures nodes { (pool held.new).nodes ≡ (pool held.old).nodes }
 {
     held.note(network);
@@ -100,9 +100,9 @@ fn note<M: Incumbent>(network: &Network, held: &mut Pool<M>)
 
 /// Closes what need not be searched, where the pool has seen less than `before`.
 fn sweep_below<M: Incumbent>(low: &Low<M>, held: &mut Pool<M>, before: u64)
-    requires search { IsSearch M.network (pool held.old) }
+    requires search { IsSearch M.start (pool held.old) }
     ensures sweeps { SweepsBelow M.network before (pool held.old) (pool held.new) }
-    ensures goes { GoesOn M.network (pool held.old) (pool held.new) }
+    ensures goes { GoesOn M.start (pool held.old) (pool held.new) }
     ensures nodes { (pool held.new).nodes ≡ (pool held.old).nodes }
 {
     let fallen = held.seen() < before;
@@ -113,9 +113,9 @@ fn sweep_below<M: Incumbent>(low: &Low<M>, held: &mut Pool<M>, before: u64)
 
 /// Closes what need not be searched.
 pub fn sweep<M: Incumbent>(low: &Low<M>, held: &mut Pool<M>)
-    requires search { IsSearch M.network (pool held.old) }
+    requires search { IsSearch M.start (pool held.old) }
     ensures sweeps { Sweeps M.network (pool held.old) (pool held.new) }
-    ensures goes { GoesOn M.network (pool held.old) (pool held.new) }
+    ensures goes { GoesOn M.start (pool held.old) (pool held.new) }
     ensures nodes { (pool held.new).nodes ≡ (pool held.old).nodes }
 {
     held.sweep(low);

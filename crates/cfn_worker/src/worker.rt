@@ -16,6 +16,7 @@ use crate::board::{Board, Crew, Given, Offer};
 use crate::grants::FEWEST_BACKTRACKS;
 use crate::hand::InHand;
 use crate::lanes::Lanes;
+use cfn_clock::Halt;
 use cfn_explore::{Explore, Explorers};
 use cfn_gate::{Gate, News, Point};
 use cfn_low::{Holder, Incumbent, Low};
@@ -50,7 +51,7 @@ impl<M: Incumbent> Model for Worker<M> {
 
 /// What all workers share.
 #[derive(Drop)]
-pub struct Shared<'a, M: Incumbent + Crew, X, G> {
+pub struct Shared<'a, M: Incumbent + Crew, X, G, H> {
     pub network: &'a Network,
     /// What makes explorers for the network.
     pub explorers: &'a X,
@@ -59,6 +60,8 @@ pub struct Shared<'a, M: Incumbent + Crew, X, G> {
     /// Told at each change of the board.
     pub changed: &'a Condvar,
     pub gate: &'a G,
+    /// When no worker takes a leaf any more, and each ends its dive.
+    pub halt: &'a H,
 }
 
 impl<M: Incumbent> Worker<M> {
@@ -106,9 +109,9 @@ impl<M: Incumbent> Worker<M> {
 
     /// Gives back all that is left in its whole lane.
     pub fn give_left(&mut self, held: &mut Pool<M>)
-        requires search { IsSearch M.network (pool held.old) }
+        requires search { IsSearch M.start (pool held.old) }
         requires whole { self.old.ends.lane.parts ≡ 128 }
-        ensures goes { GoesOn M.network (pool held.old) (pool held.new) }
+        ensures goes { GoesOn M.start (pool held.old) (pool held.new) }
         ensures whole { self.new.ends.lane.parts ≡ 128 }
         ensures empty { AreWhole self.new.ends.lane.pushed self.new.ends.lane.taken [] }
         ensures least { self.new.least ≡ self.old.least }
@@ -148,13 +151,14 @@ impl<M: Incumbent> Worker<M> {
 }
 
 impl<M: Incumbent + Crew> Worker<M> {
-    /// Takes leaves and dives until there is no leaf to take, or memory is refused, and gives back what its lane holds then.
+    /// Takes leaves and dives until there is no leaf to take, memory is refused or the halt is past, and gives back what its lane
+    /// holds then.
     /// Its explorer it makes itself, so that its memory is its own thread's.
-    pub fn work<X: Explorers, R: Wait, G: Gate>(
+    pub fn work<X: Explorers, R: Wait, G: Gate, H: Halt>(
         &mut self,
         rt: &R,
         alloc: Global,
-        shared: &Shared<'_, M, X, G>,
+        shared: &Shared<'_, M, X, G, H>,
     )
         requires network { shared.now.network.now ≡ M.network }
         requires explorers { X.network shared.now.explorers.now ≡ M.network }
@@ -171,12 +175,12 @@ impl<M: Incumbent + Crew> Worker<M> {
         shared.gate.pass(self.number, Point::Ended);
     }
 
-    /// Takes leaves and dives until there is no leaf to take, or memory is refused.
-    fn dive_all<E: Explore, X, R: Wait, G: Gate>(
+    /// Takes leaves and dives until there is no leaf to take, memory is refused or the halt is past.
+    fn dive_all<E: Explore, X, R: Wait, G: Gate, H: Halt>(
         &mut self,
         rt: &R,
         alloc: Global,
-        shared: &Shared<'_, M, X, G>,
+        shared: &Shared<'_, M, X, G, H>,
         explorer: &mut E,
     )
         requires network { shared.now.network.now ≡ M.network }
@@ -195,14 +199,21 @@ impl<M: Incumbent + Crew> Worker<M> {
         }
     }
 
-    /// Finds a task, and waits while others may still bring one.
-    fn ask<X, R: Wait, G: Gate>(&mut self, rt: &R, shared: &Shared<'_, M, X, G>) -> Option<InHand>
+    /// Finds a task, and waits while others may still bring one; `None` where there is none any more, or the halt is past.
+    fn ask<X, R: Wait, G: Gate, H: Halt>(
+        &mut self,
+        rt: &R,
+        shared: &Shared<'_, M, X, G, H>,
+    ) -> Option<InHand>
         requires { shared.now.network.now ≡ M.network }
         ensures task { IfSome result (IsTaskOf M.network) }
         ensures same { reach self.new ≡ reach self.old }
         ensures least { self.new.least ≡ self.old.least }
     {
         for _ in rt.forever() {
+            if shared.halt.past().is_some() {
+                return None;
+            }
             if let Some(task) = self.lanes.find() {
                 return Some(task);
             }
@@ -226,7 +237,11 @@ impl<M: Incumbent + Crew> Worker<M> {
     }
 
     /// Asks the board for a leaf, and for more for its lane.
-    fn ask_board<X, R: Wait, G: Gate>(&mut self, rt: &R, shared: &Shared<'_, M, X, G>) -> Offer
+    fn ask_board<X, R: Wait, G: Gate, H>(
+        &mut self,
+        rt: &R,
+        shared: &Shared<'_, M, X, G, H>,
+    ) -> Offer
         requires { shared.now.network.now ≡ M.network }
         ensures offer { IsOffered M.network result }
         ensures same { reach self.new ≡ reach self.old }
@@ -243,7 +258,7 @@ impl<M: Incumbent + Crew> Worker<M> {
     }
 
     /// Waits while the board has changed so often.
-    fn wait<X, R: Wait, G: Gate>(&self, rt: &R, shared: &Shared<'_, M, X, G>, changes: u64) {
+    fn wait<X, R: Wait, G: Gate, H>(&self, rt: &R, shared: &Shared<'_, M, X, G, H>, changes: u64) {
         shared.gate.pass(self.number, Point::Waiting);
         let board = shared.board.lock(rt);
         let _board = shared
@@ -252,7 +267,7 @@ impl<M: Incumbent + Crew> Worker<M> {
     }
 
     /// Gives back what its lane holds, for other workers.
-    fn give_up<X, R: Wait, G: Gate>(&mut self, rt: &R, shared: &Shared<'_, M, X, G>)
+    fn give_up<X, R: Wait, G: Gate, H>(&mut self, rt: &R, shared: &Shared<'_, M, X, G, H>)
         ensures same { reach self.new ≡ reach self.old }
         ensures least { self.new.least ≡ self.old.least }
     {
@@ -265,11 +280,11 @@ impl<M: Incumbent + Crew> Worker<M> {
     }
 
     /// Dives below a task's leaf, and gives back what was made; whether the worker goes on.
-    fn explore<E: Explore, X, R: Wait, G: Gate>(
+    fn explore<E: Explore, X, R: Wait, G: Gate, H: Halt>(
         &mut self,
         rt: &R,
         alloc: Global,
-        shared: &Shared<'_, M, X, G>,
+        shared: &Shared<'_, M, X, G, H>,
         explorer: &mut E,
         task: InHand,
     ) -> bool
@@ -287,6 +302,7 @@ impl<M: Incumbent + Crew> Worker<M> {
             shared.low,
             &mut self.account,
             self.limit,
+            shared.halt,
         );
         shared.gate.pass(self.number, Point::BeforeGive);
         let given = match dived {
@@ -319,7 +335,7 @@ impl<M: Incumbent + Crew> Worker<M> {
 }
 
 /// Tells the gate how far the search is, where it asked for it.
-fn tell<M: Incumbent + Crew, X, G: Gate>(shared: &Shared<'_, M, X, G>, news: Option<News>)
+fn tell<M: Incumbent + Crew, X, G: Gate, H>(shared: &Shared<'_, M, X, G, H>, news: Option<News>)
     requires network { shared.now.network.now ≡ M.network }
     requires hold { IfSome news (λ news. AreBounds M.network news.bounds) }
 {

@@ -4,10 +4,12 @@ ghost use Rattle.std.specs.Prelude.{◌≡◌, [], ◌∷◌, None, IfOk, IfSome
 ghost use Rattle.cfn_pool.specs.Views.{pool};
 ghost use Rattle.cfn_rota.specs.Values.{AreAll, access};
 ghost use Rattle.cfn_task.specs.Values.{IsTaskOf};
+ghost use Rattle.cfn_outcome.specs.Outcome.{fresh};
 ghost use Rattle.cfn_worker.specs.Accounts.{reach};
 ghost use Rattle.cfn_worker.specs.Boards.{IsBoard};
 ghost use Rattle.cfn_worker.specs.Searching.{IsSearch, GoesOn};
 
+use cfn_clock::Never;
 use cfn_dive::{Diver, Divers};
 use cfn_explore::Explorers;
 use cfn_gate::OpenGate;
@@ -64,9 +66,10 @@ fn begin<M: Incumbent>(
     holder: Holder<M>,
 ) -> Result<Pool<M>, AllocError>
     requires own { network.now ≡ M.network }
+    requires start { M.start ≡ fresh M.network }
     requires none { holder.held ≡ None }
     requires seen { holder.seen ≡ M.network.upper }
-    ensures search { IfOk result (λ held. IsSearch M.network (pool held)) }
+    ensures search { IfOk result (λ held. IsSearch M.start (pool held)) }
     ensures budget { IfOk result (λ held. (pool held).budget ≡ 1000) }
     ensures shares { IfOk result (λ held. (pool held).view.shares ≡ holder.shares) }
 {
@@ -90,8 +93,8 @@ fn own_ends<M: Incumbent>(alloc: Global) -> Result<Ends<Task, LaneTasks<M>>, All
 /// The task of a free leaf.
 fn taken<M: Incumbent>(network: &Network, held: &mut Pool<M>, worker: u32) -> Option<Task>
     requires own { network.now ≡ M.network }
-    requires search { IsSearch M.network (pool held.old) }
-    ensures goes { GoesOn M.network (pool held.old) (pool held.new) }
+    requires search { IsSearch M.start (pool held.old) }
+    ensures goes { GoesOn M.start (pool held.old) (pool held.new) }
     ensures task { IfSome result (IsTaskOf M.network) }
 {
     match held.take(network, worker, 1) {
@@ -102,8 +105,8 @@ fn taken<M: Incumbent>(network: &Network, held: &mut Pool<M>, worker: u32) -> Op
 
 /// Frees a task's leaf.
 fn free<M: Incumbent>(held: &mut Pool<M>, task: &Task)
-    requires search { IsSearch M.network (pool held.old) }
-    ensures goes { GoesOn M.network (pool held.old) (pool held.new) }
+    requires search { IsSearch M.start (pool held.old) }
+    ensures goes { GoesOn M.start (pool held.old) (pool held.new) }
 {
     held.back(task);
 }
@@ -111,8 +114,8 @@ fn free<M: Incumbent>(held: &mut Pool<M>, task: &Task)
 /// Whether the pool has a leaf that is free.
 fn is_free<M: Incumbent>(network: &Network, held: &mut Pool<M>) -> bool
     requires own { network.now ≡ M.network }
-    requires search { IsSearch M.network (pool held.old) }
-    ensures goes { GoesOn M.network (pool held.old) (pool held.new) }
+    requires search { IsSearch M.start (pool held.old) }
+    ensures goes { GoesOn M.start (pool held.old) (pool held.new) }
 {
     match take(network, held, WORKER, 1) {
         Asked::Task { task } => {
@@ -131,8 +134,8 @@ fn lays_two<M: Incumbent>(
     own: &mut Ends<Task, LaneTasks<M>>,
 ) -> bool
     requires own { network.now ≡ M.network }
-    requires search { IsSearch M.network (pool held.old) }
-    ensures goes { GoesOn M.network (pool held.old) (pool held.new) }
+    requires search { IsSearch M.start (pool held.old) }
+    ensures goes { GoesOn M.start (pool held.old) (pool held.new) }
     ensures same { access own.new ≡ access own.old }
 {
     let Some(late) = taken(network, held, OTHER) else {
@@ -156,8 +159,8 @@ fn after_work<M: Incumbent + Crew, R: AllocGlobal + Wait>(
 ) -> Pool<M>
     requires network { network.now ≡ M.network }
     requires explorers { explorers.now.divers ≡ M.network }
-    requires board { IsBoard M.network M.budget M.workers held }
-    ensures board { IsBoard M.network M.budget M.workers result }
+    requires board { IsBoard M.start M.budget M.workers held }
+    ensures board { IsBoard M.start M.budget M.workers result }
     ensures same { reach worker.new ≡ reach worker.old }
 {
     let board = Mutex::new(Board::new(held));
@@ -169,6 +172,7 @@ fn after_work<M: Incumbent + Crew, R: AllocGlobal + Wait>(
         board: &board,
         changed: &changed,
         gate: &OpenGate,
+        halt: &Never,
     };
     worker.work(rt, rt.alloc(), &shared);
     board.into_inner().into_pool()
@@ -176,9 +180,9 @@ fn after_work<M: Incumbent + Crew, R: AllocGlobal + Wait>(
 
 /// Lets a single worker go: what is left in its lane is given back.
 fn let_go<M: Incumbent>(alloc: Global, held: &mut Pool<M>, mut worker: Worker<M>)
-    requires search { IsSearch M.network (pool held.old) }
+    requires search { IsSearch M.start (pool held.old) }
     requires all { AreAll (reach worker ∷ []) }
-    ensures goes { GoesOn M.network (pool held.old) (pool held.new) }
+    ensures goes { GoesOn M.start (pool held.old) (pool held.new) }
 {
     let mut others = Vec::new(alloc);
     worker.gather(others.as_mut_slice());
@@ -198,7 +202,7 @@ fn free_after_work<M: Incumbent + Crew, R: AllocGlobal + Wait>(
 ) -> bool
     requires network { network.now ≡ M.network }
     requires explorers { explorers.now.divers ≡ M.network }
-    requires board { IsBoard M.network M.budget M.workers held }
+    requires board { IsBoard M.start M.budget M.workers held }
     requires all { AreAll (reach worker ∷ []) }
 {
     let mut held = after_work(rt, network, explorers, low, held, &mut worker);
@@ -215,7 +219,7 @@ fn free_without_work<M: Incumbent>(
     worker: Worker<M>,
 ) -> bool
     requires own { network.now ≡ M.network }
-    requires search { IsSearch M.network (pool held) }
+    requires search { IsSearch M.start (pool held) }
     requires all { AreAll (reach worker ∷ []) }
 {
     let_go(alloc, &mut held, worker);
@@ -242,6 +246,7 @@ fn asked<M: Incumbent + Crew, R: AllocGlobal + Wait>(
 ) -> Result<(bool, bool, bool), AllocError>
     requires table { M.table ≡ unnamed.table }
     requires network { M.network ≡ unnamed.network }
+    requires start { M.start ≡ fresh unnamed.network }
     requires own { network.now ≡ unnamed.network }
     requires budget { M.budget ≡ 1000 }
     requires crew { M.workers ≡ 1 }

@@ -70,7 +70,7 @@ fn end_of<R: Env + AllocGlobal + Files + Print + Eprint + Clock + Threads + Wait
     match env::args(rt) {
         Ok(words) => run_words(rt, words, &mut desk, &progress),
         Err(e) if e.kind() == ErrorKind::OutOfMemory => Err(AllocError),
-        Err(_) => Ok(run(rt, rt.alloc(), &[], &mut desk, &progress)),
+        Err(_) => Ok(run(rt, rt.alloc(), &[], &mut desk, &progress, rt)),
     }
 }
 
@@ -92,5 +92,5 @@ fn run_words<R: AllocGlobal + Files + Print + Eprint + Clock + Threads + Wait + 
     for word in &kept {
         borrowed.push(word.as_str())?;
     }
-    Ok(run(rt, rt.alloc(), &borrowed, desk, progress))
+    Ok(run(rt, rt.alloc(), &borrowed, desk, progress, rt))
 }

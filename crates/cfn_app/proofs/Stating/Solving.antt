@@ -1,5 +1,5 @@
 -- What each status of `solve` says, from how a run of it ends.
-use Rattle.std.proofs.Common.{◌≡◌, ◌⊎◌, inl, inr, ℕ, suc, ◌<◌, true, List, refl, sym, ap, ◌∙◌, arith}
+use Rattle.std.proofs.Common.{◌≡◌, ◌⊎◌, inl, inr, ℕ, suc, ◌<◌, true, false, List, refl, sym, ap, ◌∙◌, arith}
 use Rattle.cfn_model.specs.declared.report.Row.{Row}
 use Rattle.cfn_model.specs.declared.report.ResultWord.{ResultWord}
 use Rattle.cfn_model.specs.declared.report.ResultWord.TheVariants as words
@@ -12,12 +12,13 @@ use Rattle.cfn_cli.specs.Request.Solving.{SolveRequest}
 use Rattle.cfn_app.specs.declared.status.Status.{Status}
 use Rattle.cfn_app.specs.declared.status.Status.TheVariants.{Refused}
 use Rattle.cfn_app.specs.Endings.{Ending, Ends, IsHindered}
+use Rattle.cfn_outcome.specs.Outcome.{fresh}
 use Rattle.cfn_app.specs.Headline.{Promise}
 use Rattle.cfn_app.specs.Loading.{ReadsAs, RefusesAs, Tells, loaded}
 use Rattle.cfn_app.specs.Loading as loading
 use Rattle.cfn_app.specs.Endings.{Outputs}
 use Rattle.cfn_app.specs.Endings as endings
-use Rattle.cfn_app.specs.Runs.Solving.{Searches, Solves, status_of}
+use Rattle.cfn_app.specs.Runs.Solving.{Searches, Solves, limits_of, status_of}
 use Rattle.cfn_app.specs.Runs.Solving as solving
 use Rattle.cfn_app.specs.Saying.{Counts}
 use Rattle.cfn_app.specs.Runs.Solving.{SolveSays, Solved, IsReported, SolveStatus}
@@ -25,15 +26,20 @@ use Rattle.cfn_app.proofs.Counting.{by, counted, ends_idle, hindered, unheard, b
 use Rattle.cfn_app.proofs.Writing.{stored_at, output_counts, output_idle}
 use Rattle.cfn_app.proofs.Files.{same_bytes, read_refused}
 
+no_part : false ≡ true → ⊥
+no_part e = cc
+
 module _ (ask : SolveRequest) (old new : Outside) where
   reported : (word : ResultWord) → Solved ask old new word → SolveSays ask old new (status_of word)
   reported words.Optimum solved = solved
   reported words.Nothing solved = solved
-  reported words.Budget solved = solved
+  reported words.Budget solved = inl solved
+  reported words.Time solved = inr solved
+  reported words.Part solved = absurd (no_part (solved.promise.causes.left_to_others refl).0)
   reported words.Memory solved = inr solved
 
   module _ (status : Status) where
-    says_output : (bytes : List ℕ) (P : Network) (nodes : ℕ) (c : Certificate) (rows : List Row) (word : ResultWord) → HasFile old ask.file bytes → ReadsAs ask.format bytes P → Promise P ask.budget nodes c rows word →
+    says_output : (bytes : List ℕ) (P : Network) (nodes : ℕ) (c : Certificate) (rows : List Row) (word : ResultWord) → HasFile old ask.file bytes → ReadsAs ask.format bytes P → Promise P (fresh P) (limits_of ask) nodes c rows word →
         Outputs (spelling c) (report ask.workers c rows nodes word) (status_of word) (after (Open ask.certificate true) (after (Load ask.file (Bytes bytes)) old)) new status → SolveSays ask old new status
     says_output bytes P nodes c rows word has reads promise (endings.unwritten middle not same ends) = by (SolveSays ask old new) _ new.calls status ends (λ calls. tt) tt
     says_output bytes P nodes c rows word has reads promise (endings.wrote middle wrote same ends) = by (SolveSays ask old new) _ new.calls status ends (λ calls. reported word (record {
@@ -77,6 +83,8 @@ module _ (ask : SolveRequest) (old new : Outside) where
     word_reported words.Optimum = inl (inl refl)
     word_reported words.Nothing = inl (inr (inl refl))
     word_reported words.Budget = inl (inr (inr refl))
+    word_reported words.Time = inl (inr (inr refl))
+    word_reported words.Part = inl (inr (inr refl))
     word_reported words.Memory = inr (inr refl)
 
     search_reported : (P : Network) (before : Outside) → Searches P ask before new status → IsReported status ⊎ IsHindered status
@@ -113,6 +121,8 @@ module _ (ask : SolveRequest) (old new : Outside) where
     word_counts before now words.Optimum same = same
     word_counts before now words.Nothing same = same
     word_counts before now words.Budget same = same
+    word_counts before now words.Time same = same
+    word_counts before now words.Part same = same
     word_counts before now words.Memory same = same
 
     search_counts : (P : Network) (start : List Call) (before : Outside) → faults before.calls ≡ faults start → Searches P ask before new status → Counts start new.calls status

@@ -9,7 +9,7 @@ use Rattle.cfn_report.specs.Texts.{verified_text, refused_text}
 use Rattle.cfn_desk.specs.Outside.{Outside, Call}
 use Rattle.cfn_cli.specs.Request.Checking.{CheckRequest}
 use Rattle.cfn_app.specs.declared.status.Status.{Status}
-use Rattle.cfn_app.specs.declared.status.Status.TheVariants.{Done, NoMemory, Disproved, Nothing, BudgetSpent, Usage, Refused, Fault}
+use Rattle.cfn_app.specs.declared.status.Status.TheVariants.{Done, NoMemory, Disproved, Nothing, LimitSpent, Usage, Refused, Fault}
 use Rattle.cfn_app.specs.Endings.{Ends, IsHindered}
 use Rattle.cfn_app.specs.Loading.{Paired, Unpaired, ReadsAs, RefusesAs, Tells}
 use Rattle.cfn_wcnf.specs.declared.fault.Unread.{Unread as FirstUnread}
@@ -45,7 +45,7 @@ Verified ask old new =
 abbrev pub CheckSays : CheckRequest → Outside → Outside → Status → Type 0
 CheckSays ask old new Done = Verified ask old new
 CheckSays ask old new Nothing = ⊥
-CheckSays ask old new BudgetSpent = ⊥
+CheckSays ask old new LimitSpent = ⊥
 CheckSays ask old new Usage = ⊥
 CheckSays ask old new Refused = PairRefused ask.format ask.file ask.certificate old new
 CheckSays ask old new Fault = Unit {0}

@@ -6,7 +6,7 @@ use Rattle.cfn_net.specs.Fitting.{IsFirstMisfit}
 use Rattle.cfn_desk.specs.Outside.{Outside, Call, HasFile}
 use Rattle.cfn_cli.specs.Request.Costing.{CostRequest}
 use Rattle.cfn_app.specs.declared.status.Status.{Status}
-use Rattle.cfn_app.specs.declared.status.Status.TheVariants.{Done, Refused, Nothing, BudgetSpent, Usage, Fault, NoMemory, Disproved}
+use Rattle.cfn_app.specs.declared.status.Status.TheVariants.{Done, Refused, Nothing, LimitSpent, Usage, Fault, NoMemory, Disproved}
 use Rattle.cfn_app.specs.Endings.{Ends, IsHindered}
 use Rattle.cfn_app.specs.Loading.{ReadsAs, Unloaded, Unread, loaded, RefusesAs, Tells}
 use Rattle.cfn_wcnf.specs.declared.fault.Unread.{Unread as FirstUnread}
@@ -44,7 +44,7 @@ ValuesRefused ask old new = (bytes : List ℕ) × (P : Network) × HasFile old a
 abbrev pub CostSays : CostRequest → Outside → Outside → Status → Type 0
 CostSays ask old new Done = Costed ask old new
 CostSays ask old new Nothing = ⊥
-CostSays ask old new BudgetSpent = ⊥
+CostSays ask old new LimitSpent = ⊥
 CostSays ask old new Usage = ⊥
 CostSays ask old new Refused = FileRefused ask.format (λ bytes. loaded ask.file bytes old.calls) ask.file old new ⊎ ValuesRefused ask old new
 CostSays ask old new Fault = Unit {0}

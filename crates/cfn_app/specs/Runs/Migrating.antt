@@ -8,7 +8,7 @@ use Rattle.cfn_report.specs.Texts.{refused_text, migrated_text}
 use Rattle.cfn_desk.specs.Outside.{Outside, Open, after, Close, Writing, Stored, puts, says}
 use Rattle.cfn_cli.specs.Request.Migrating.{MigrateRequest}
 use Rattle.cfn_app.specs.declared.status.Status.{Status}
-use Rattle.cfn_app.specs.declared.status.Status.TheVariants.{Done, Fault, NoMemory, Disproved, Nothing, BudgetSpent, Usage, Refused}
+use Rattle.cfn_app.specs.declared.status.Status.TheVariants.{Done, Fault, NoMemory, Disproved, Nothing, LimitSpent, Usage, Refused}
 use Rattle.cfn_cli.specs.declared.format.Format.TheVariants.{Wcsp}
 use Rattle.cfn_app.specs.Endings.{Ends, IsHindered, Outputs}
 use Rattle.cfn_app.specs.Loading.{Paired, Unpaired, ReadsAs, RefusesAs, Tells}
@@ -53,7 +53,7 @@ pub record Migrated (ask : MigrateRequest) (old new : Outside) : Type 0 where
 abbrev pub MigrateSays : MigrateRequest → Outside → Outside → Status → Type 0
 MigrateSays ask old new Done = Migrated ask old new
 MigrateSays ask old new Nothing = ⊥
-MigrateSays ask old new BudgetSpent = ⊥
+MigrateSays ask old new LimitSpent = ⊥
 MigrateSays ask old new Usage = ⊥
 MigrateSays ask old new Refused = PairRefused Wcsp ask.file ask.certificate old new
 MigrateSays ask old new Fault = Unit {0}

@@ -6,7 +6,7 @@ use Rattle.cfn_desk.specs.Outside.{Outside, Call, HasFile}
 use Rattle.cfn_cli.specs.Request.Normalizing.{NormalRequest}
 use Rattle.cfn_cli.specs.declared.format.Format.TheVariants.{Wcsp}
 use Rattle.cfn_app.specs.declared.status.Status.{Status}
-use Rattle.cfn_app.specs.declared.status.Status.TheVariants.{Done, Nothing, BudgetSpent, Usage, Refused, Fault, NoMemory, Disproved}
+use Rattle.cfn_app.specs.declared.status.Status.TheVariants.{Done, Nothing, LimitSpent, Usage, Refused, Fault, NoMemory, Disproved}
 use Rattle.cfn_app.specs.Endings.{Ends, IsHindered}
 use Rattle.cfn_app.specs.Loading.{ReadsAs, Unloaded, Unread, loaded, RefusesAs, Tells}
 use Rattle.cfn_wcnf.specs.declared.fault.Unread.{Unread as FirstUnread}
@@ -30,7 +30,7 @@ Normalized ask old new =
 abbrev pub NormalSays : NormalRequest → Outside → Outside → Status → Type 0
 NormalSays ask old new Done = Normalized ask old new
 NormalSays ask old new Nothing = ⊥
-NormalSays ask old new BudgetSpent = ⊥
+NormalSays ask old new LimitSpent = ⊥
 NormalSays ask old new Usage = ⊥
 NormalSays ask old new Refused = FileRefused ask.format (λ bytes. loaded ask.file bytes old.calls) ask.file old new
 NormalSays ask old new Fault = Unit {0}

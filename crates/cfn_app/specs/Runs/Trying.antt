@@ -7,7 +7,7 @@ use Rattle.cfn_report.specs.Texts.{trial_text}
 use Rattle.cfn_desk.specs.Outside.{Call, Outside}
 use Rattle.cfn_cli.specs.Request.Trying.{TrialRequest}
 use Rattle.cfn_app.specs.declared.status.Status.{Status}
-use Rattle.cfn_app.specs.declared.status.Status.TheVariants.{Done, NoMemory, Nothing, BudgetSpent, Usage, Refused, Fault, Disproved}
+use Rattle.cfn_app.specs.declared.status.Status.TheVariants.{Done, NoMemory, Nothing, LimitSpent, Usage, Refused, Fault, Disproved}
 use Rattle.cfn_app.specs.Endings.{Ends, IsHindered}
 use Rattle.cfn_app.specs.Saying.{Says, SaysNoMemory}
 
@@ -30,7 +30,7 @@ Tried ask old new =
 abbrev pub TrialSays : TrialRequest → Outside → Outside → Status → Type 0
 TrialSays ask old new Done = Tried ask old new
 TrialSays ask old new Nothing = ⊥
-TrialSays ask old new BudgetSpent = ⊥
+TrialSays ask old new LimitSpent = ⊥
 TrialSays ask old new Usage = ⊥
 TrialSays ask old new Refused = ⊥
 TrialSays ask old new Fault = Unit {0}

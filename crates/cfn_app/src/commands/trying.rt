@@ -12,8 +12,8 @@ use cfn_desk::Desk;
 use cfn_gen::{allowing_law, instance};
 use cfn_model::GREATEST;
 use cfn_net::Network;
-use cfn_proof::Stop;
-use cfn_solve::Gate;
+use cfn_outcome::Stop;
+use cfn_solve::{Gate, Never};
 use std::alloc::{AllocError, Global};
 use std::sync::Wait;
 use std::thread::Threads;
@@ -65,9 +65,9 @@ fn least_cost<R: Threads + Wait + Sync, G: Gate + Sync>(
     ensures { IfOk result (λ least. Least network.now least) }
 {
     network.limits();
-    let found = search(rt, alloc, network, workers, GREATEST, false, gate)?;
+    let found = search(rt, alloc, network, workers, GREATEST, false, gate, &Never)?;
     match found.outcome.stop {
         Stop::Done => Ok(found.outcome.certificate.lower),
-        Stop::Budget | Stop::Memory => Err(AllocError),
+        Stop::Budget | Stop::Time | Stop::Part | Stop::Memory => Err(AllocError),
     }
 }

@@ -5,15 +5,18 @@ ghost use Rattle.clap.specs.Words.{found_of, rows_of};
 ghost use Rattle.cfn_cli.specs.Building.{Builds};
 ghost use Rattle.cfn_cli.specs.Request.Solving.{IsSolveWithin, solve_app, solve_in, solve_of, spoken_solve};
 
-use crate::arguments::{budget, certificate, file, progress, wcnf, workers};
+use crate::arguments::{budget, certificate, file, progress, seconds, wcnf, workers};
 use crate::fault::CliFault;
 use crate::format::Format;
-use crate::found::{MOST_WORKERS, flag, format, number, text};
+use crate::found::{MOST_WORKERS, flag, format, number, optional, text};
 use clap::{ArgMatches, Command};
 use std::alloc::{AllocError, Global};
 
 /// The greatest budget, 2^63 - 1.
 const MOST_BUDGET: u64 = 9_223_372_036_854_775_807;
+
+/// The greatest limit of time, in seconds.
+const MOST_SECONDS: u64 = 1_000_000_000;
 
 /// What to solve, and how far to go.
 #[derive(Drop)]
@@ -27,6 +30,8 @@ pub struct SolveArguments {
     /// How many nodes the search may expand: 0 to 2^63 - 1, and the greatest where the words give
     /// no number.
     pub budget: u64,
+    /// After how many seconds the search ends: 0 to 1,000,000,000, and never where the words give no number.
+    pub seconds: Option<u64>,
     /// The format of the file: wcnf exactly where the words say so.
     pub format: Format,
     /// Whether the words ask to be told how far the search is.
@@ -41,6 +46,7 @@ pub(crate) fn line<'a>(alloc: Global) -> Result<Command<'a>, AllocError>
         .arg(certificate(alloc))?
         .arg(workers(alloc))?
         .arg(budget(alloc))?
+        .arg(seconds(alloc))?
         .arg(wcnf(alloc))?
         .arg(progress(alloc))
 }
@@ -70,11 +76,13 @@ fn arguments(alloc: Global, found: &ArgMatches<'_>) -> Result<SolveArguments, Cl
     let certificate = text(found, "certificate")?;
     let workers = number(found, "workers", 1, MOST_WORKERS)?;
     let budget = number(found, "budget", 0, MOST_BUDGET)?;
+    let seconds = optional(found, "seconds", 0, MOST_SECONDS)?;
     Ok(SolveArguments {
         file: String::from_str(alloc, file)?,
         certificate: String::from_str(alloc, certificate)?,
         workers: workers as u8,
         budget,
+        seconds,
         format: format(found),
         progress: flag(found, "progress"),
     })

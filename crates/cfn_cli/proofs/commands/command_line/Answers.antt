@@ -2,7 +2,7 @@ use Rattle.std.proofs.Common.{◌≡◌, ◌∙◌, ap, refl, true}
 use Rattle.std.proofs.lemmas.Result.{IfOk-weaker}
 use Rattle.clap.specs.Words.{is_simple, is_simple_and_free}
 use Rattle.clap.specs.declared.builder.Command.{Command}
-use Rattle.cfn_cli.specs.Arguments.{budget_rule, certificate_rule, file_rule, progress_rule, wcnf_rule, workers_rule}
+use Rattle.cfn_cli.specs.Arguments.{budget_rule, certificate_rule, file_rule, progress_rule, seconds_rule, wcnf_rule, workers_rule}
 use Rattle.cfn_cli.specs.Building.{Builds}
 use Rattle.cfn_cli.specs.Request.{IsLine, command_line}
 use Rattle.cfn_cli.specs.Request.Checking.{check_app}
@@ -15,11 +15,11 @@ use Rattle.cfn_cli.proofs.Building.{begun, command_required, under_added}
 use Rattle.cfn_cli.proofs.commands.command_line.Goals as goal
 
 line_is_simple : is_simple command_line ≡ true
-unfolding command_line solve_app check_app cost_app normal_app trial_app migrate_app file_rule certificate_rule out_rule seed_rule size_rule workers_rule budget_rule values_rule wcnf_rule progress_rule
+unfolding command_line solve_app check_app cost_app normal_app trial_app migrate_app file_rule certificate_rule out_rule seed_rule size_rule workers_rule budget_rule seconds_rule values_rule wcnf_rule progress_rule
 line_is_simple = refl
 
 line_is_free : is_simple_and_free command_line ≡ true
-unfolding command_line solve_app check_app cost_app normal_app trial_app migrate_app file_rule certificate_rule out_rule seed_rule size_rule workers_rule budget_rule values_rule wcnf_rule progress_rule
+unfolding command_line solve_app check_app cost_app normal_app trial_app migrate_app file_rule certificate_rule out_rule seed_rule size_rule workers_rule budget_rule seconds_rule values_rule wcnf_rule progress_rule
 line_is_free = refl
 
 is_line : (c : Command) → Builds command_line c → IsLine c

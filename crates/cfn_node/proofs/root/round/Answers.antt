@@ -6,7 +6,7 @@ use Rattle.cfn_node.proofs.Rounds.{goes_still, goes_by, goes_along}
 use Rattle.cfn_node.proofs.root.round.Goals as goal
 
 pub raise-requires-clause-ready : goal.raise-requires-clause-ready
-raise-requires-clause-ready c =
+raise-requires-clause-ready g c =
     let s = c.args.store.now in
     let r = c.reserve.new.self in
     let way : history r ≡ history s = ap (λ b. after b r.base) c.reserve.ensures.block ∙ ap (after s.block) c.reserve.ensures.base in
@@ -24,7 +24,7 @@ raise-requires-clause-ready c =
     }
 
 pub returns-clause-goes : goal.returns-clause-goes
-returns-clause-goes c =
+returns-clause-goes g c =
     let still = goes_still c.args.store.now c.reserve.new.self c.args.asked.threshold c.reserve.ensures.network c.reserve.ensures.base c.reserve.ensures.block in
     let raised = goes_by c.reserve.new.self c.raise.new.store c.limits_from-limits.result c.args.asked.threshold c.limits_from-limits.ensures.threshold c.raise.ensures.adds in
     let settled = goes_by c.raise.new.store c.settle.new.store c.limits_from-limits-2.result c.args.asked.threshold c.limits_from-limits-2.ensures.threshold c.settle.ensures.adds in

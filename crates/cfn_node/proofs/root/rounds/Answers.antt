@@ -3,7 +3,7 @@ use Rattle.cfn_node.proofs.Rounds.{goes_along}
 use Rattle.cfn_node.proofs.root.rounds.Goals as goal
 
 pub loop-round-preserved : goal.loop-round-preserved
-loop-round-preserved c = record {
+loop-round-preserved g c = record {
   goes = goes_along _ _ _ _ c.loop-round.invariant.goes c.round.ensures.goes;
   finds = c.in-Some.ensures.finds;
   spent = c.in-Some.ensures.spent;

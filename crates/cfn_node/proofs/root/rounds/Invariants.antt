@@ -4,7 +4,7 @@ use Rattle.cfn_node.specs.Enforcing.{GoesOn, Finds, IsSpent}
 use Rattle.cfn_node.proofs.root.rounds.Given as goal
 
 abbrev pub invariant-loop-round : goal.invariant-loop-round
-invariant-loop-round l = record {
+invariant-loop-round g l = record {
   goes : GoesOn l.fn.store l.store l.asked.threshold;
   finds : Finds l.store.network (history l.store) l.asked.threshold l.found;
   spent : IsSpent l.asked.steps l.store l.found;

@@ -7,7 +7,7 @@ use Rattle.cfn_model.specs.Certificate.{Certificate, threshold_of}
 use Rattle.cfn_model.specs.declared.version.Version.TheVariants.{Second}
 use Rattle.cfn_proof.specs.Certificates.{solution_of}
 use Rattle.cfn_proof.specs.Nodes as nodes
-use Rattle.cfn_proof.specs.Outcome.{IsSearched}
+use Rattle.cfn_outcome.specs.Outcome.{IsSearched, timed_nodes}
 use Rattle.cfn_proof.proofs.CallerLemmas.{spelled_law, lines_law}
 use Rattle.cfn_machine.specs.Pool.{tree_of}
 use Rattle.cfn_pool.specs.Views.{pool}
@@ -34,12 +34,14 @@ returns-clause-outcome g c =
     let P = g.M.Incumbent.network in
     let held = pool c.args.held in
     let finished = c.finish-finished.result in
+    let timed = g.H.Halt.limited c.args.halt.now in
+    let limits = timed_nodes held.budget timed in
     let network = subst IsNetwork c.requires.own c.limits.ensures in
     let certificate : Certificate = record { version = Second; variables = c.variables.result; functions = c.functions.result; upper = c.ub.result; best = solution_of c.below.result; lower = c.bound-lower.result; tree = nodes.tree_of finished.tree } in
-    subst (λ (Q : Network). IsSearched Q held.budget finished.nodes certificate finished.rows.items c.stop_of-stop.result) (sym c.requires.own)
-    (subst (λ (rows : List Row). IsSearched P held.budget finished.nodes certificate rows c.stop_of-stop.result) (sym c.finish-finished.ensures.rows)
-    (subst (λ (n : ℕ). IsSearched P held.budget n certificate held.rows c.stop_of-stop.result) (sym c.finish-finished.ensures.nodes)
-    (searched P held network c.kept.ensures.pool c.kept.ensures.rows c.requires.search c.requires.last certificate c.stop_of-stop.result
+    subst (λ (Q : Network). IsSearched Q g.M.Incumbent.start limits finished.nodes certificate finished.rows.items c.stop_of-stop.result) (sym c.requires.own)
+    (subst (λ (rows : List Row). IsSearched P g.M.Incumbent.start limits finished.nodes certificate rows c.stop_of-stop.result) (sym c.finish-finished.ensures.rows)
+    (subst (λ (n : ℕ). IsSearched P g.M.Incumbent.start limits n certificate held.rows c.stop_of-stop.result) (sym c.finish-finished.ensures.nodes)
+    (searched P held network c.kept.ensures.pool c.kept.ensures.rows g.M.Incumbent.start c.requires.search c.requires.last certificate c.stop_of-stop.result timed
     (c.variables.ensures ∙ ap (λ (Q : Network). Rattle.std.proofs.Common.length Q.sizes) c.requires.own)
     (c.functions.ensures ∙ ap (λ (Q : Network). Rattle.std.proofs.Common.length Q.functions) c.requires.own)
     (c.ub.ensures ∙ ap (λ (Q : Network). Q.upper) c.requires.own)
@@ -49,9 +51,9 @@ returns-clause-outcome g c =
     (spelled_law finished.tree c.linked.ensures)
     (lines_law finished.tree)
     c.bound-lower.ensures
-    (subst (λ (b : ℕ). IsStop c.stop_of-stop.result (open_leaves (tree_of held.tree)) held.nodes b) c.budget.ensures
-    (subst (λ (n : ℕ). IsStop c.stop_of-stop.result (open_leaves (tree_of held.tree)) n c.budget.result) c.nodes.ensures
-    (subst (λ (l : ℕ). IsStop c.stop_of-stop.result l c.nodes.result c.budget.result) c.open_leaves.ensures c.stop_of-stop.ensures))))))
+    (subst (λ (b : ℕ). IsStop c.stop_of-stop.result (open_leaves (tree_of held.tree)) held.nodes b timed) c.budget.ensures
+    (subst (λ (n : ℕ). IsStop c.stop_of-stop.result (open_leaves (tree_of held.tree)) n c.budget.result timed) c.nodes.ensures
+    (subst (λ (l : ℕ). IsStop c.stop_of-stop.result l c.nodes.result c.budget.result timed) c.open_leaves.ensures c.stop_of-stop.ensures))))))
 
 -- the threshold is what the pool has seen
 pub returns-clause-threshold : goal.returns-clause-threshold

@@ -6,7 +6,7 @@ use Rattle.cfn_search.proofs.search.dive_all.Given as goal
 
 abbrev pub invariant-loop-next : goal.invariant-loop-next
 invariant-loop-next g l = record {
-  goes : GoesOn g.M.Incumbent.network (pool l.fn.held) (pool l.held);
+  goes : GoesOn g.M.Incumbent.start (pool l.fn.held) (pool l.held);
   within : (pool l.held).nodes ≤ (pool l.held).budget;
   shares : l.account.part.shares ≡ l.fn.account.part.shares;
   falls : l.account.least ≤ l.fn.account.least;

@@ -8,7 +8,7 @@ use Rattle.cfn_search.proofs.team.end_workers.Given as goal
 
 abbrev pub invariant-loop-worker : goal.invariant-loop-worker
 invariant-loop-worker g l = record {
-  search : IsSearch g.M.Incumbent.network (pool l.held);
+  search : IsSearch g.M.Incumbent.start (pool l.held);
   budget : (pool l.held).budget ≡ (pool l.fn.held).budget;
   shares : (pool l.held).view.shares + length l.crew.items ≡ all_shares;
   all : AreAll (map reach l.crew.items);

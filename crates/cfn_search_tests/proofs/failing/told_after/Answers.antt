@@ -1,6 +1,7 @@
 use denote.Ref.{NamedLft}
 use denote.Param.Send.{IsSend, IsSync, sendable}
 use denote.Param.SendFields.{declared_send}
+use Rattle.cfn_clock.proofs.CallerLemmas.{never_sync}
 use Rattle.cfn_dive.proofs.CallerLemmas.{diver_send, divers_sync}
 use Rattle.cfn_search_tests.specs.contracts.failing.Failing as Failing
 use Rattle.cfn_search_tests.specs.contracts.failing.FailingDivers as FailingDivers
@@ -20,3 +21,6 @@ solve_together-requires-send-X-Explorer g c κs within = search (sendable, faili
 
 pub solve_together-requires-sync-X : goal.solve_together-requires-sync-X
 solve_together-requires-sync-X g c κs within = search (sendable, failing_sync) depth 40
+
+pub solve_together-requires-sync-H : goal.solve_together-requires-sync-H
+solve_together-requires-sync-H g c κs within = search (sendable, never_sync) depth 40

@@ -1,6 +1,11 @@
 use Rattle.cfn_cli.specs.Request.Solving.{spoken_solve}
 use Rattle.cfn_app.proofs.Ends.{solves_read, solves_unread}
+use denote.Param.Send.{sendable}
+use Rattle.cfn_clock.proofs.CallerLemmas.{deadline_sync}
 use Rattle.cfn_app.proofs.commands.solving.solve_file.Goals as goal
+
+pub open_and_search-requires-sync-H : goal.open_and_search-requires-sync-H
+open_and_search-requires-sync-H g c κs within = search (sendable, deadline_sync) depth 40
 
 pub returns-in-Ok-read_bytes : goal.returns-in-Ok-read_bytes
 returns-in-Ok-read_bytes g c =

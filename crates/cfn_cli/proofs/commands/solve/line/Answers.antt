@@ -11,5 +11,6 @@ returns c =
     let with_certificate = argument_added _ _ _ _ _ c.in_ok-arg-2.ensures with_file c.certificate.ensures.rule c.certificate.ensures.local in
     let with_workers = argument_added _ _ _ _ _ c.in_ok-arg-3.ensures with_certificate c.workers.ensures.rule c.workers.ensures.local in
     let with_budget = argument_added _ _ _ _ _ c.in_ok-arg-4.ensures with_workers c.budget.ensures.rule c.budget.ensures.local in
-    let with_wcnf = argument_added _ _ _ _ _ c.in_ok-arg-5.ensures with_budget c.wcnf.ensures.rule c.wcnf.ensures.local in
-    IfOk-weaker c.arg-6.result _ _ (λ new adds. argument_added _ new _ _ _ adds with_wcnf c.progress.ensures.rule c.progress.ensures.local) c.arg-6.ensures
+    let with_seconds = argument_added _ _ _ _ _ c.in_ok-arg-5.ensures with_budget c.seconds.ensures.rule c.seconds.ensures.local in
+    let with_wcnf = argument_added _ _ _ _ _ c.in_ok-arg-6.ensures with_seconds c.wcnf.ensures.rule c.wcnf.ensures.local in
+    IfOk-weaker c.arg-7.result _ _ (λ new adds. argument_added _ new _ _ _ adds with_wcnf c.progress.ensures.rule c.progress.ensures.local) c.arg-7.ensures

@@ -13,6 +13,7 @@ pub returns-then-floor-from-clause-made : goal.returns-then-floor-from-clause-ma
 returns-then-floor-from-clause-made g c =
     let P = c.args.self.now.store.network in
     let task = c.args.task.now.task in
+    let timed = g.H.Halt.limited c.args.halt.now in
     let seen = c.look.new.holder.seen in
     let upper = c.kept.ensures.seen in
     let great = c.limits.ensures.upper in
@@ -20,8 +21,8 @@ returns-then-floor-from-clause-made g c =
     let from = c.from.ensures in
     let is_floor = c.floor.ensures in
     let is_seen = c.seen.ensures in
-    made_ok c.closed_at_once.result (λ made. IsMade P task c.args.backtracks seen made.tree made.cut) c.closed_at_once.ensures.tree c.closed_at_once.ensures.cut
-    (λ made tree cut. closed_made P task c.args.backtracks seen made.tree made.cut tree cut (subst (λ Q. IsTask Q task) c.requires.task c.kept-2.ensures) (omega (arith, reached, from, is_floor, is_seen)) (omega (arith, upper, great, ap (λ (Q : Network). Q.upper) (c.requires.word ∙ sym c.requires.network))) c.requires.some)
+    made_ok c.closed_at_once.result (λ made. IsMade P task c.args.backtracks timed seen made.tree made.cut) c.closed_at_once.ensures.tree c.closed_at_once.ensures.cut
+    (λ made tree cut. closed_made P task c.args.backtracks timed seen made.tree made.cut tree cut (subst (λ Q. IsTask Q task) c.requires.task c.kept-2.ensures) (omega (arith, reached, from, is_floor, is_seen)) (omega (arith, upper, great, ap (λ (Q : Network). Q.upper) (c.requires.word ∙ sym c.requires.network))) c.requires.some)
 
 pub loop-next-init : goal.loop-next-init
 loop-next-init g c =
@@ -38,27 +39,28 @@ loop-next-init g c =
       granted = begins.granted;
       threshold = begins.threshold ∙ c.seen-2.ensures;
       falls = look_falls c.args.self.now.store.network c.args.holder.now c.look.new.holder c.look.result c.look.ensures.seen c.look.ensures.falls;
-      next = goes_first start c.grant-grant.result (omega (arith, nodes, some, grants)) (omega (arith, left, back));
+      next = goes_first start c.grant-grant.result (g.H.Halt.limited c.args.halt.now) (omega (arith, nodes, some, grants)) (omega (arith, left, back));
       some = λ none. absurd (begins.some none);
       few = omega (arith, nodes);
     }
 
 pub expand-requires-clause-few : goal.expand-requires-clause-few
 expand-requires-clause-few g c =
-    let below = next_below c.loop-next.growth c.grant-grant.result c.loop-next.next c.in-Some.leaf c.loop-next.invariant.next c.in-Some.is in
+    let below = next_below c.loop-next.growth c.grant-grant.result (g.H.Halt.limited c.args.halt.now) c.loop-next.next c.in-Some.leaf c.loop-next.invariant.next c.in-Some.is in
     let fits = c.grant-grant.type_inv in
     omega (arith, below, fits)
 
 pub returns-clause-made : goal.returns-clause-made
 returns-clause-made g c =
     let P = c.args.self.now.store.network in
+    let timed = g.H.Halt.limited c.args.halt.now in
     let inv = c.loop-next.invariant in
     let none = next_none c.loop-next.next c.in_default.not-Some in
     let grants = c.grant-grant.ensures in
     let few = inv.few in
     let upper = c.kept-3.ensures.seen in
     let great = c.limits.ensures.upper in
-    subst (λ (tree : List Node). IsMade P c.args.task.now.task c.args.backtracks c.loop-next.holder.seen tree (c.loop-next.growth.left == 0)) (sym c.in_ok-shared.ensures)
-    (made P c.loop-next.self c.loop-next.growth c.args.task.now.task c.args.backtracks c.loop-next.holder.seen _ inv.diving inv.base inv.threshold
+    subst (λ (tree : List Node). IsMade P c.args.task.now.task c.args.backtracks timed c.loop-next.holder.seen tree (c.loop-next.growth.left == 0)) (sym c.in_ok-shared.ensures)
+    (made P c.loop-next.self c.loop-next.growth c.args.task.now.task c.args.backtracks timed c.loop-next.holder.seen _ inv.diving inv.base inv.threshold
     (omega (arith, upper, great, ap (λ (Q : Network). Q.upper) (c.requires.word ∙ sym c.requires.network))) inv.granted (inv.some none) (omega (arith, few, grants))
-    (subst (λ o. GoesOn c.loop-next.growth c.args.task.now.task.grant o) none (subst (λ n. GoesOn c.loop-next.growth n c.loop-next.next) grants inv.next)) refl)
+    (subst (λ o. GoesOn c.loop-next.growth c.args.task.now.task.grant timed o) none (subst (λ n. GoesOn c.loop-next.growth n timed c.loop-next.next) grants inv.next)) refl)

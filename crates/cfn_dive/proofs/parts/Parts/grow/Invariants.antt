@@ -11,7 +11,7 @@ invariant-loop-next g l = record {
   granted : l.growth.granted ≡ l.backtracks;
   threshold : l.growth.threshold ≡ l.holder.seen;
   falls : HasFallen l.fn.self.store.network l.fn.holder l.holder;
-  next : GoesOn l.growth l.grant l.next;
+  next : GoesOn l.growth l.grant (g.H.Halt.limited l.halt) l.next;
   some : l.next ≡ None → 1 ≤ l.growth.nodes;
   few : l.growth.nodes ≤ l.grant;
 }

@@ -8,13 +8,13 @@ use Rattle.cfn_vac.specs.Roots.{IsReady}
 use Rattle.cfn_vac.proofs.vac.RootVac.halve.Goals as goal
 
 pub returns-else-q-gt1-clause-adds : goal.returns-else-q-gt1-clause-adds
-returns-else-q-gt1-clause-adds c = adds_then c.args.store.now c.loop-limits.store c.raise_at.new.store c.args.limits c.loop-limits.invariant.adds c.raise_at.ensures.adds
+returns-else-q-gt1-clause-adds g c = adds_then c.args.store.now c.loop-limits.store c.raise_at.new.store c.args.limits c.loop-limits.invariant.adds c.raise_at.ensures.adds
 
 pub returns-after-loop-limits-clause-adds : goal.returns-after-loop-limits-clause-adds
-returns-after-loop-limits-clause-adds c = adds_then c.args.store.now c.loop-limits.store c.raise_at.new.store c.args.limits c.loop-limits.invariant.adds c.raise_at.ensures.adds
+returns-after-loop-limits-clause-adds g c = adds_then c.args.store.now c.loop-limits.store c.raise_at.new.store c.args.limits c.loop-limits.invariant.adds c.raise_at.ensures.adds
 
 pub loop-limits-preserved : goal.loop-limits-preserved
-loop-limits-preserved c =
+loop-limits-preserved g c =
     let v = c.loop-limits.invariant in let next = c.raise_at.new.store in let same = c.raise_at.ensures.network ∙ v.network in let more = c.if-q-gt1.true in
     record {
       network = c.lower.ensures.network ∙ same;

@@ -7,7 +7,7 @@ use Rattle.cfn_vac.specs.Roots.{IsReady}
 use Rattle.cfn_vac.proofs.vac.RootVac.halve.Given as goal
 
 abbrev pub invariant-loop-limits : goal.invariant-loop-limits
-invariant-loop-limits l = record {
+invariant-loop-limits g l = record {
   network : l.self.network ≡ l.initial.self.network;
   some : 0 < l.q;
   adds : Adds l.initial.store l.store l.limits;
@@ -17,4 +17,4 @@ invariant-loop-limits l = record {
 }
 
 abbrev pub decreases-loop-limits : goal.decreases-loop-limits
-decreases-loop-limits l = l.q
+decreases-loop-limits g l = l.q

@@ -12,7 +12,7 @@ level : (a b c d : ℕ) → nat_lt a b ≡ false → a ≡ c → b ≡ d → c �
 level a b c d h e f l = grind (arith, h, e, f, l)
 
 pub returns-clause-still : goal.returns-clause-still
-returns-clause-still c = λ h. elim c.if-limits-gt0.branch [
+returns-clause-still g c = λ h. elim c.if-limits-gt0.branch [
   | then-limits-gt0 w ↦
       (let P = c.args.self.now.network in let s = c.args.store.now in let now = c.if-limits-gt0.store in
       let adds = subst (λ t. Adds s t c.args.limits) (sym w.store-is) w.halve.ensures.adds in

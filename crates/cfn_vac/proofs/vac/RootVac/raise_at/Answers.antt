@@ -7,7 +7,7 @@ use Rattle.cfn_vac.specs.Roots.{IsReady}
 use Rattle.cfn_vac.proofs.vac.RootVac.raise_at.Goals as goal
 
 pub loop-blocks-preserved : goal.loop-blocks-preserved
-loop-blocks-preserved c =
+loop-blocks-preserved g c =
     let v = c.loop-blocks.invariant in let is = c.attempt.ensures in let next = c.attempt.new.store in
     record {
       network = is.network ∙ v.network;

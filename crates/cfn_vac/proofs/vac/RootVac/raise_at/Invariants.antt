@@ -7,7 +7,7 @@ use Rattle.cfn_vac.specs.Roots.{IsReady}
 use Rattle.cfn_vac.proofs.vac.RootVac.raise_at.Given as goal
 
 abbrev pub invariant-loop-blocks : goal.invariant-loop-blocks
-invariant-loop-blocks l = record {
+invariant-loop-blocks g l = record {
   network : l.self.network ≡ l.initial.self.network;
   adds : Adds l.initial.store l.store l.limits;
   ready : IsReady l.initial.self.network l.store l.limits;
@@ -15,4 +15,4 @@ invariant-loop-blocks l = record {
 }
 
 abbrev pub decreases-loop-blocks : goal.decreases-loop-blocks
-decreases-loop-blocks l = (l.limits.threshold - floor l.fn.self.network (history l.store)) * 1025 + (1024 - l.blocks)
+decreases-loop-blocks g l = (l.limits.threshold - floor l.fn.self.network (history l.store)) * 1025 + (1024 - l.blocks)

@@ -5,7 +5,7 @@ use Rattle.cfn_worker.proofs.worker.Worker.give_left.Given as goal
 
 abbrev pub invariant-loop-task : goal.invariant-loop-task
 invariant-loop-task g l = record {
-  goes : GoesOn g.M.Incumbent.network (pool l.fn.held) (pool l.held);
+  goes : GoesOn g.M.Incumbent.start (pool l.fn.held) (pool l.held);
   whole : l.self.ends.lane.parts ≡ 128;
   least : l.self.least ≡ l.fn.self.least;
 }

@@ -1,7 +1,7 @@
 //! What a search hands out.
 
-use crate::certificate::Certificate;
 use cfn_model::Row;
+use cfn_proof::Certificate;
 
 /// Why a search stopped.
 #[derive(Clone, Copy, PartialEq, Eq)]
@@ -10,6 +10,10 @@ pub enum Stop {
     Done,
     /// A leaf is open, and as many nodes were expanded as the budget allows.
     Budget,
+    /// A leaf is open, fewer nodes were expanded than the budget allows, and the limit of time is past.
+    Time,
+    /// A leaf is open, fewer nodes were expanded than the budget allows, and the open leaves are left to others.
+    Part,
     /// A leaf is open, and fewer nodes were expanded than the budget allows: memory was refused.
     Memory,
 }

@@ -4,7 +4,7 @@ use Rattle.std.specs.Prelude.{IfSome}
 use Rattle.cfn_model.specs.declared.report.Row.{Row}
 use Rattle.cfn_model.specs.Network.{Network, Fits, cost}
 use Rattle.cfn_model.specs.Certificate.{Certificate}
-use Rattle.cfn_proof.specs.Outcome.{RowHolds, UpperHolds}
+use Rattle.cfn_outcome.specs.Outcome.{RowHolds, UpperHolds}
 
 -- no row has an upper number that no assignment costs
 pub none_invented : (P : Network) (c : Certificate) (row : Row) (u : ℕ) → row.upper ≡ Some u → ((values : List ℕ) → Fits P.sizes values → cost P values ≢ u) → RowHolds P c row → ⊥

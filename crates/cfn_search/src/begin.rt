@@ -1,0 +1,32 @@
+//! What a search goes on from.
+
+ghost use Rattle.std.specs.Prelude.{◌≡◌, [], ◌∷◌, None, IfOk};
+ghost use Rattle.cfn_proof.specs.Nodes.{open_node};
+ghost use Rattle.cfn_search.specs.Beginning.{MayBegin, start_of};
+ghost use Rattle.cfn_outcome.specs.Outcome.{fresh};
+
+use cfn_net::{Network, Scored};
+use cfn_proof::Tree;
+use std::alloc::{AllocError, Global};
+
+/// What a search goes on from: a tree that is kept of an earlier one, and the best assignment that is known, in a buffer that
+/// may be empty.
+#[derive(Drop)]
+pub struct Begin {
+    pub tree: Tree,
+    pub best: Scored,
+}
+
+impl Begin {
+    /// One open leaf, and nothing known. An `Err` is want of memory.
+    pub fn fresh(alloc: Global, network: &Network) -> Result<Begin, AllocError>
+        ensures may { IfOk result (MayBegin network.now) }
+        ensures start { IfOk result (λ begin. start_of network.now begin ≡ fresh network.now) }
+    {
+        network.limits();
+        Ok(Begin {
+            tree: Tree::new(alloc)?,
+            best: Scored::empty(alloc, network)?,
+        })
+    }
+}
