@@ -1,7 +1,7 @@
 //! Runs under a limit of time, by clocks that stand still or jump.
 
 use cfn_testing::clocks::{Jumping, Still};
-use cfn_testing::running::{Run, TRI, check_answers, has_line};
+use cfn_testing::running::{Run, SOLVE, TRI, check_answers, has_line};
 use std::alloc::{AllocError, AllocGlobal, Global};
 use std::sync::Wait;
 use std::test::*;
@@ -104,12 +104,10 @@ fn the_same_search_is_longer_without_a_limit(rt: HostRuntime) -> Result<(), Fail
 /// What comes of words on `TRI` by a clock that stands still: the status, whether this line is said, and the nodes.
 fn short_run<R: AllocGlobal + Threads + Wait + Sync>(
     rt: &R,
-    more: &[&str],
+    words: &[&str],
     line: &[u8],
 ) -> Result<(u8, bool, Option<u64>), AllocError> {
-    let mut words = Vec::from_slice(rt.alloc(), &["wcspsolve", "solve", "in", "out"])?;
-    words.extend_from_slice(more)?;
-    let run = Run::timed(rt, &words, TRI, &Still)?;
+    let run = Run::timed(rt, words, TRI, &Still)?;
     Ok((
         run.status,
         has_line(run.said(), line),
@@ -119,21 +117,32 @@ fn short_run<R: AllocGlobal + Threads + Wait + Sync>(
 
 #[test]
 fn no_seconds_make_no_node(rt: HostRuntime) -> Result<(), Fail> {
-    assert!(rt; short_run(&rt, &["--seconds", "0"], b"result time")? == (2, true, Some(0)));
+    let words = ["wcspsolve", "solve", "in", "out", "--seconds", "0"];
+    assert!(rt; short_run(&rt, &words, b"result time")? == (2, true, Some(0)));
     Ok(())
 }
 
 #[test]
 fn spent_budget_is_told_before_time(rt: HostRuntime) -> Result<(), Fail> {
-    let more = ["--seconds", "0", "--budget", "0"];
-    assert!(rt; short_run(&rt, &more, b"result budget")? == (2, true, Some(0)));
+    let words = [
+        "wcspsolve",
+        "solve",
+        "in",
+        "out",
+        "--seconds",
+        "0",
+        "--budget",
+        "0",
+    ];
+    assert!(rt; short_run(&rt, &words, b"result budget")? == (2, true, Some(0)));
     Ok(())
 }
 
 #[test]
 fn limit_that_is_not_past_changes_nothing(rt: HostRuntime) -> Result<(), Fail> {
-    let limited = short_run(&rt, &["--seconds", "1"], b"result optimum")?;
-    assert!(rt; limited == short_run(&rt, &[], b"result optimum")?);
+    let words = ["wcspsolve", "solve", "in", "out", "--seconds", "1"];
+    let limited = short_run(&rt, &words, b"result optimum")?;
+    assert!(rt; limited == short_run(&rt, &SOLVE, b"result optimum")?);
     assert!(rt; limited.0 == 0 && limited.1);
     Ok(())
 }
@@ -141,7 +150,7 @@ fn limit_that_is_not_past_changes_nothing(rt: HostRuntime) -> Result<(), Fail> {
 /// How often a clock is read in a run on `TRI` without a limit of time.
 fn readings<R: AllocGlobal + Threads + Wait + Sync>(rt: &R) -> Result<u64, AllocError> {
     let clock = Jumping::behind(0);
-    let _run = Run::timed(rt, &["wcspsolve", "solve", "in", "out"], TRI, &clock)?;
+    let _run = Run::timed(rt, &SOLVE, TRI, &clock)?;
     Ok(clock.readings())
 }
 

@@ -1,0 +1,5 @@
+pub mod Narrowed
+pub mod Growing
+pub mod Telling
+pub mod NodeLines
+pub mod Whole

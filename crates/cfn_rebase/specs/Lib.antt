@@ -1,0 +1,4 @@
+pub mod Balancing
+pub mod Making
+pub mod Fronts
+pub mod Walking

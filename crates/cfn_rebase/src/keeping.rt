@@ -1,0 +1,34 @@
+//! What is kept of an old tree.
+
+ghost use Rattle.std.specs.Prelude.{◌≡◌, [], IfOk};
+ghost use Rattle.cfn_proof.specs.Nodes.{tree_of};
+ghost use Rattle.cfn_mending.specs.Keeping.{Kept};
+
+use crate::walk::Walk;
+use cfn_net::{Network, Tables};
+use cfn_proof::Tree;
+use std::alloc::{AllocError, Global};
+
+/// What is kept of an old tree in a network, at a threshold, a cost: each block up to its first step that is not allowed, or
+/// leaves a cost of 2^64 or more; behind a block that is kept whole a closed leaf that may be closed, and a split that is in range
+/// and takes a live value away on both sides; else an open leaf. The old tree may be one of another network. An `Err` is want of
+/// memory, or of a node's number: it leaves all as it was.
+pub fn keep(
+    alloc: Global,
+    network: &Network,
+    tables: &Tables,
+    old: &Tree,
+    threshold: u64,
+) -> Result<Tree, AllocError>
+    requires tables { tables.now ≡ network.now }
+    ensures kept { IfOk result (λ new. Kept network.now [] threshold (tree_of old.now) (tree_of new)) }
+{
+    let mut walk = Walk::make(alloc, network, tables, old, threshold)?;
+    walk.keep_node(alloc, old, Tree::ROOT, Tree::ROOT)?;
+    let mut more = true;
+    while more {
+        more = walk.next(alloc, old)?;
+    }
+    walk.tree.linked();
+    Ok(walk.tree)
+}

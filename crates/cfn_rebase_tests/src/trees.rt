@@ -1,0 +1,142 @@
+//! Trees that are kept of certificates, in their own network and in another.
+
+use cfn_certread::read;
+use cfn_net::{Builder, Network, Tables};
+use cfn_proof::{End, NodeId, Tree};
+use cfn_rebase::keep;
+use std::alloc::{AllocError, Global};
+use std::test::Fail;
+
+/// How many nodes of a tree are open leaves, closed leaves and splits, and how many steps they have.
+#[derive(Clone, Copy, PartialEq, Eq)]
+struct Counts {
+    open: u64,
+    closed: u64,
+    split: u64,
+    steps: u64,
+}
+
+/// Counts the nodes of a tree.
+fn count_nodes(tree: &Tree) -> Counts {
+    let mut counts = Counts {
+        open: 0,
+        closed: 0,
+        split: 0,
+        steps: 0,
+    };
+    for number in 0..tree.len() {
+        let Ok(number) = u32::try_from(number) else {
+            return counts;
+        };
+        let node = tree.node(NodeId { number });
+        for _step in node.block.cursor() {
+            counts.steps = counts.steps.saturating_add(1);
+        }
+        match node.end {
+            End::Free => counts.open = counts.open.saturating_add(1),
+            End::Shut => counts.closed = counts.closed.saturating_add(1),
+            End::Split { .. } => counts.split = counts.split.saturating_add(1),
+        }
+    }
+    counts
+}
+
+/// One variable with two values, of the costs 3 and that, below 10.
+fn tiny(alloc: Global, cost: u64) -> Result<Network, AllocError> {
+    let mut builder = Builder::make(alloc, b"tiny", &[2], 10)?;
+    builder.function(&[0], 3, &[([1].as_slice(), cost)])?;
+    builder.finish()
+}
+
+/// Three variables with two values, of which each two cost this where they agree.
+fn tri(alloc: Global, cost: u64) -> Result<Network, AllocError> {
+    let mut builder = Builder::make(alloc, b"tri", &[2, 2, 2], 10)?;
+    let agree = [([0, 0].as_slice(), cost), ([1, 1].as_slice(), cost)];
+    builder.function(&[0, 1], 0, &agree)?;
+    builder.function(&[0, 2], 0, &agree)?;
+    builder.function(&[1, 2], 0, &agree)?;
+    builder.finish()
+}
+
+/// The counts of a text's tree, and of what is kept of it in a network at a threshold.
+fn kept(
+    rt: &HostRuntime,
+    network: &Network,
+    text: &[u8],
+    threshold: u64,
+) -> Result<(Counts, Counts), Fail> {
+    let alloc = rt.alloc();
+    let tables = Tables::expand(alloc, network)?;
+    match read(alloc, text)? {
+        Ok(old) => {
+            let tree = keep(alloc, network, &tables, &old.tree, threshold)?;
+            Ok((count_nodes(&old.tree), count_nodes(&tree)))
+        }
+        Err(_) => Err(Fail::new("the text was refused")),
+    }
+}
+
+/// The certificate of `tiny` where the second value costs 1.
+const TINY: &[u8] =
+    b"wcspcert 2\nnetwork 1 1 10\nlower 1\nbest 1\nvalues 1\ntree\np 0 0 0 3\np 0 0 1 1\nu 0 1\nclosed\nend\n";
+
+/// The certificate of `tri` where each cost is 1.
+const TRI: &[u8] =
+    b"wcspcert 2\nnetwork 3 3 10\nlower 1\nbest 1\nvalues 0 0 1\ntree\nsplit 0 0\np 0 1 0 1\np 1 1 0 1\ne 2 1 0 1\np 2 0 1 1\nu 1 1\nsplit 1 0\np 2 1 0 2\nsplit 2 1\nclosed\nclosed\nclosed\np 0 1 1 1\nv 1 1\np 1 1 1 1\nv 2 1\np 2 0 0 1\nv 1 0\nclosed\nend\n";
+
+#[test]
+fn all_is_kept_where_nothing_has_changed(rt: HostRuntime) -> Result<(), Fail> {
+    let (old, new) = kept(&rt, &tri(rt.alloc(), 1)?, TRI, 1)?;
+    assert!(rt; old == new);
+    assert!(rt; 0 < new.split && 0 < new.closed && 0 < new.steps);
+    Ok(())
+}
+
+#[test]
+fn closed_leaf_is_open_below_a_higher_threshold(rt: HostRuntime) -> Result<(), Fail> {
+    let (_, new) = kept(&rt, &tiny(rt.alloc(), 2)?, TINY, 2)?;
+    assert!(rt;
+        new == Counts {
+            open: 1,
+            closed: 0,
+            split: 0,
+            steps: 3
+        }
+    );
+    Ok(())
+}
+
+#[test]
+fn block_ends_before_a_step_that_is_not_allowed(rt: HostRuntime) -> Result<(), Fail> {
+    let (_, new) = kept(&rt, &tiny(rt.alloc(), 0)?, TINY, 0)?;
+    assert!(rt;
+        new == Counts {
+            open: 1,
+            closed: 0,
+            split: 0,
+            steps: 1
+        }
+    );
+    Ok(())
+}
+
+#[test]
+fn steps_out_of_range_are_not_kept(rt: HostRuntime) -> Result<(), Fail> {
+    let (_, new) = kept(&rt, &tiny(rt.alloc(), 1)?, TRI, 10)?;
+    assert!(rt;
+        new == Counts {
+            open: 2,
+            closed: 0,
+            split: 1,
+            steps: 0
+        }
+    );
+    Ok(())
+}
+
+#[test]
+fn tree_at_lower_costs_is_kept_in_part(rt: HostRuntime) -> Result<(), Fail> {
+    let (old, new) = kept(&rt, &tri(rt.alloc(), 0)?, TRI, 1)?;
+    assert!(rt; new.steps < old.steps && 0 < new.open);
+    Ok(())
+}
