@@ -1,5 +1,9 @@
-//! Tests of trees that are kept, and no code of its own.
+//! Tests of trees that are kept, and of searches' beginnings, and no code of its own.
 #![tactic(auto)]
 
+#[cfg(test)]
+mod beginnings;
+#[cfg(test)]
+mod samples;
 #[cfg(test)]
 mod trees;

@@ -1,0 +1,4 @@
+pub mod Small
+pub mod Narrowed
+pub mod Counted
+pub mod Beginning

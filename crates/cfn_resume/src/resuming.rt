@@ -1,0 +1,59 @@
+//! A search's beginning from a certificate's text.
+
+ghost use Rattle.std.specs.Prelude.{◌≡◌, length, IfOk};
+ghost use Rattle.cfn_resume.specs.Resuming.{IsResumed, Begins};
+
+use crate::best::kept_best;
+use cfn_certread::{ReadCertificate, read};
+use cfn_mending::laws::law_kept;
+use cfn_net::{Network, Tables};
+use cfn_rebase::keep;
+use cfn_search::Begin;
+use std::alloc::{AllocError, Global};
+
+/// What a certificate's text comes to.
+#[derive(Drop)]
+pub enum Resumed {
+    /// A search may go on from this.
+    Goes(Begin),
+    /// It spells no certificate: this line, counted from 1, follows those before it in none.
+    Refused { line: u64 },
+}
+
+/// Reads the text of a certificate of an earlier state of a network, of either version, and keeps of it what holds: its best
+/// assignment, where it fits and costs less than the upper bound; and its tree, at the cost of that assignment, or at the upper
+/// bound, as far as its steps are allowed and its splits take values away. An `Err` is want of memory.
+pub fn resume(alloc: Global, network: &Network, text: &[u8]) -> Result<Resumed, AllocError>
+    ensures { IfOk result (IsResumed network.now text.now) }
+{
+    match read(alloc, text)? {
+        Ok(old) => Ok(Resumed::Goes(begin(alloc, network, text, &old)?)),
+        Err(fault) => Ok(Resumed::Refused { line: fault.line }),
+    }
+}
+
+/// What is kept of a certificate that was read from a text.
+fn begin(
+    alloc: Global,
+    network: &Network,
+    text: &[u8],
+    old: &ReadCertificate,
+) -> Result<Begin, AllocError>
+    ensures { IfOk result (Begins network.now text.now old.now) }
+{
+    network.limits();
+    law_kept();
+    let _bytes = length_of(text);
+    let best = kept_best(alloc, network, &old.best)?;
+    best.priced();
+    let tables = Tables::expand(alloc, network)?;
+    let tree = keep(alloc, network, &tables, &old.tree, best.price())?;
+    Ok(Begin { tree, best })
+}
+
+/// How many bytes a text has.
+fn length_of(text: &[u8]) -> usize
+    ensures { result ≡ length text.now }
+{
+    text.len()
+}
