@@ -27,7 +27,7 @@ use Rattle.cfn_cli.specs.declared.format.Format.{Format}
 use Rattle.cfn_app.specs.declared.status.Status.{Status}
 use Rattle.cfn_app.specs.declared.status.Status.TheVariants.{Done, Fault}
 use Rattle.cfn_app.specs.Endings.{Ends, said, cut}
-use Rattle.cfn_outcome.specs.Outcome.{fresh}
+use Rattle.cfn_outcome.specs.Outcome.{Start, fresh}
 use Rattle.cfn_app.specs.Headline.{Promise}
 use Rattle.cfn_app.specs.Loading.{ReadsAs, RefusesAs, SaysUnread, read_as, Unloaded, Unread, loaded}
 use Rattle.cfn_app.specs.Loading as loading
@@ -95,11 +95,11 @@ outputs_written text said_text due old middle new (Ok x) spoken status fine wrot
 outputs_written text said_text due old middle new (Err e) spoken status fine wrote one is = absurd (let no : true ≡ false = fine in cc)
 
 -- a search behind a file that was opened
-pub searched_behind : {T E : Type 0} (P : Network) (ask : SolveRequest) (old middle new : Outside) (opened : Result T E) (status : Status) (nodes : ℕ) (c : Certificate) (rows : List Row) (word : ResultWord) → is_err opened ≡ false → middle ≡ after (Open ask.certificate (is_ok opened)) old →
-    Promise P (fresh P) (limits_of ask) nodes c rows word → Outputs (spelling c) (report ask.workers c rows nodes word) (status_of word) middle new status → Searches P ask old new status
-searched_behind P ask old middle new (Ok x) status nodes c rows word fine at promise out =
+pub searched_behind : {T E : Type 0} (P : Network) (start : Start) (ask : SolveRequest) (old middle new : Outside) (opened : Result T E) (status : Status) (nodes : ℕ) (c : Certificate) (rows : List Row) (word : ResultWord) → is_err opened ≡ false → middle ≡ after (Open ask.certificate (is_ok opened)) old →
+    Promise P start (limits_of ask) nodes c rows word → Outputs (spelling c) (report ask.workers c rows nodes word) (status_of word) middle new status → Searches P start ask old new status
+searched_behind P start ask old middle new (Ok x) status nodes c rows word fine at promise out =
     solving.searched nodes c rows word promise (subst (λ o. Outputs (spelling c) (report ask.workers c rows nodes word) (status_of word) o new status) at out)
-searched_behind P ask old middle new (Err e) status nodes c rows word fine at promise out = absurd (let no : true ≡ false = fine in cc)
+searched_behind P start ask old middle new (Err e) status nodes c rows word fine at promise out = absurd (let no : true ≡ false = fine in cc)
 
 -- a text that is written behind a file that was opened
 pub rewritten_behind : {T E : Type 0} (second out : List ℕ) (old middle new : Outside) (opened : Result T E) (status : Status) → is_err opened ≡ false → middle ≡ after (Open out (is_ok opened)) old →
@@ -136,9 +136,9 @@ module _ (old new : Outside) (status : Status) where
   solves_unread middle ask bytes has at same unread =
       solving.unread bytes has (same ∙ ap (λ o. o.files) at) (subst (λ (cs : List Call). Unread ask.format bytes cs new.calls status) (ap (λ o. o.calls) at) unread)
 
-  pub solves_read : (middle last : Outside) (ask : SolveRequest) (bytes : List ℕ) (P : Network) → HasFile old ask.file bytes → middle ≡ after (Load ask.file (Bytes bytes)) old → ReadsAs ask.format bytes P → last ≡ middle → Searches P ask last new status → Solves ask old new status
+  pub solves_read : (middle last : Outside) (ask : SolveRequest) (bytes : List ℕ) (P : Network) → HasFile old ask.file bytes → middle ≡ after (Load ask.file (Bytes bytes)) old → ReadsAs ask.format bytes P → last ≡ middle → Searches P (fresh P) ask last new status → Solves ask old new status
   solves_read middle last ask bytes P has at reads same searches =
-      solving.read bytes P has reads (subst (λ o. Searches P ask o new status) (same ∙ at) searches)
+      solving.read bytes P has reads (subst (λ o. Searches P (fresh P) ask o new status) (same ∙ at) searches)
 
 -- a network was drawn and solved
 pub tried : {T E : Type 0} (ask : TrialRequest) (P : Network) (least variables functions : ℕ) (before now : Outside) (result : Result T E) (status : Status) → P ≡ instance ask.seed ask.size → variables ≡ length P.sizes → functions ≡ length P.functions → Least P least →

@@ -8,6 +8,7 @@ mod checking;
 mod costing;
 mod migrating;
 mod normalizing;
+mod rebasing;
 mod solving;
 mod trying;
 
@@ -19,6 +20,7 @@ use checking::check_file;
 use costing::cost_file;
 use migrating::migrate_file;
 use normalizing::normalize_file;
+use rebasing::rebase_file;
 use solving::solve_file;
 use std::alloc::Global;
 use std::sync::Wait;
@@ -46,5 +48,6 @@ pub(crate) fn do_command<R: Threads + Wait + Sync, D: Desk, G: Gate + Sync, C: C
         Command::Normal(ask) => normalize_file(alloc, ask, desk),
         Command::Trial(ask) => try_drawn(rt, alloc, ask, desk, gate),
         Command::Migrate(ask) => migrate_file(alloc, ask, desk),
+        Command::Rebase(ask) => rebase_file(rt, alloc, ask, desk, gate, clock),
     }
 }

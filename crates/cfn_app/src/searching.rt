@@ -2,33 +2,36 @@
 
 ghost use Rattle.std.specs.Prelude.{◌≡◌, ◌≤◌, length, IfOk};
 ghost use Rattle.cfn_model.specs.declared.limits.TheConstants.{GREATEST};
-ghost use Rattle.cfn_outcome.specs.Outcome.{IsOutcome, fresh, timed_nodes};
+ghost use Rattle.cfn_outcome.specs.Outcome.{IsOutcome, timed_nodes};
+ghost use Rattle.cfn_search.specs.Beginning.{MayBegin, start_of};
 
 use cfn_net::Network;
-use cfn_solve::{Gate, Halt, Teamwork, solve_together};
+use cfn_solve::{Begin, Gate, Halt, Teamwork, solve_from};
 use std::alloc::{AllocError, Global};
 use std::sync::Wait;
 use std::thread::Threads;
 
-/// Searches a network by as many workers as are asked for, until `halt` is past. `asked` is whether the words ask to be told how far the search is.
+/// Goes on from a beginning by as many workers as are asked for, until `halt` is past. `asked` is whether the words ask to be told how far the search is.
 pub fn search<R: Threads + Wait + Sync, G: Gate + Sync, H: Halt + Sync>(
     rt: &R,
     alloc: Global,
     network: &Network,
+    begin: Begin,
     workers: u32,
     budget: u64,
     asked: bool,
     gate: &G,
     halt: &H,
 ) -> Result<Teamwork, AllocError>
+    requires may { MayBegin network.now begin }
     requires some { 1 ≤ workers }
     requires few { workers ≤ 64 }
     requires budget { budget ≤ GREATEST }
-    ensures outcome { IfOk result (λ found. IsOutcome network.now (fresh network.now) (timed_nodes budget (H.limited halt.now)) found.outcome) }
+    ensures outcome { IfOk result (λ found. IsOutcome network.now (start_of network.now begin) (timed_nodes budget (H.limited halt.now)) found.outcome) }
     ensures count { IfOk result (λ found. length found.thresholds.items ≡ workers) }
 {
     gate.begin(asked);
-    let found = solve_together(rt, alloc, network, workers, budget, gate, halt);
+    let found = solve_from(rt, alloc, network, begin, workers, budget, gate, halt);
     gate.end();
     found
 }

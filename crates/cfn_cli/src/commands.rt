@@ -8,6 +8,7 @@ mod check;
 mod cost;
 mod migrate;
 mod normal;
+mod rebase;
 mod solve;
 mod trial;
 
@@ -17,6 +18,7 @@ use clap::{ArgMatches, Command as Line};
 pub use cost::CostArguments;
 pub use migrate::MigrateArguments;
 pub use normal::NormalArguments;
+pub use rebase::RebaseArguments;
 pub use solve::SolveArguments;
 use std::alloc::{AllocError, Global};
 pub use trial::TrialArguments;
@@ -36,6 +38,8 @@ pub enum Command {
     Trial(TrialArguments),
     /// `migrate FILE CERT OUT`
     Migrate(MigrateArguments),
+    /// `rebase FILE OLD CERT [--workers W] [--budget B] [--seconds S] [--wcnf] [--progress]`
+    Rebase(RebaseArguments),
 }
 
 /// The program with its commands, of which one has to be given.
@@ -48,7 +52,8 @@ pub(crate) fn command_line<'a>(alloc: Global) -> Result<Line<'a>, AllocError>
     let line = under(line, cost::line(alloc))?;
     let line = under(line, normal::line(alloc))?;
     let line = under(line, trial::line(alloc))?;
-    under(line, migrate::line(alloc))
+    let line = under(line, migrate::line(alloc))?;
+    under(line, rebase::line(alloc))
 }
 
 /// A command with one more below it, where that was built.
@@ -90,6 +95,8 @@ fn named(alloc: Global, name: &str, found: &ArgMatches<'_>) -> Result<Command, C
         Ok(Command::Trial(trial::read(found)?))
     } else if name == "migrate" {
         Ok(Command::Migrate(migrate::read(alloc, found)?))
+    } else if name == "rebase" {
+        Ok(Command::Rebase(rebase::read(alloc, found)?))
     } else {
         Err(CliFault::Usage)
     }

@@ -16,6 +16,7 @@ usage_text =
     ∷ (codes "wcspsolve" ∷ codes "normal" ∷ codes "FILE" ∷ codes "[--wcnf]" ∷ [])
     ∷ (codes "wcspsolve" ∷ codes "trial" ∷ codes "SEED" ∷ codes "SIZE" ∷ codes "[--workers" ∷ codes "W]" ∷ [])
     ∷ (codes "wcspsolve" ∷ codes "migrate" ∷ codes "FILE" ∷ codes "CERT" ∷ codes "OUT" ∷ [])
+    ∷ (codes "wcspsolve" ∷ codes "rebase" ∷ codes "FILE" ∷ codes "OLD" ∷ codes "CERT" ∷ codes "[--workers" ∷ codes "W]" ∷ codes "[--budget" ∷ codes "B]" ∷ codes "[--seconds" ∷ codes "S]" ∷ codes "[--wcnf]" ∷ codes "[--progress]" ∷ [])
     ∷ [])
 
 -- What is said of a wcnf file whose header is not `p wcnf`: the word that differs.

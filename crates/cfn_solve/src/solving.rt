@@ -5,6 +5,7 @@ ghost use Rattle.cfn_model.specs.Certificate.{threshold};
 ghost use Rattle.cfn_model.specs.declared.limits.TheConstants.{GREATEST};
 ghost use Rattle.cfn_proof.specs.Certificates.{certificate_of};
 ghost use Rattle.cfn_outcome.specs.Outcome.{IsOutcome, fresh, nodes_alone, timed_nodes};
+ghost use Rattle.cfn_search.specs.Beginning.{MayBegin, start_of};
 
 use cfn_clock::Halt;
 use cfn_dive::Divers;
@@ -12,7 +13,7 @@ use cfn_explore::Problem;
 use cfn_gate::Gate;
 use cfn_net::{Network, Tables};
 use cfn_outcome::Outcome;
-use cfn_search::Teamwork;
+use cfn_search::{Begin, Teamwork};
 use std::alloc::{AllocError, Global};
 use std::sync::Wait;
 use std::thread::Threads;
@@ -54,8 +55,32 @@ pub fn solve_together<R: Threads + Wait + Sync, G: Gate + Sync, H: Halt + Sync>(
     ensures most { IfOk result (λ found. All (λ k. k ≤ network.now.upper) found.thresholds.items) }
     ensures least { IfOk result (λ found. All (λ k. threshold (certificate_of found.outcome.certificate) ≤ k) found.thresholds.items) }
 {
+    let begin = Begin::fresh(alloc, network)?;
+    solve_from(rt, alloc, network, begin, workers, budget, gate, halt)
+}
+
+/// Goes on so from the tree and the assignment of an earlier search. The nodes are those that it makes itself.
+pub fn solve_from<R: Threads + Wait + Sync, G: Gate + Sync, H: Halt + Sync>(
+    rt: &R,
+    alloc: Global,
+    network: &Network,
+    begin: Begin,
+    workers: u32,
+    budget: u64,
+    gate: &G,
+    halt: &H,
+) -> Result<Teamwork, AllocError>
+    requires may { MayBegin network.now begin }
+    requires some { 1 ≤ workers }
+    requires few { workers ≤ 64 }
+    requires budget { budget ≤ GREATEST }
+    ensures outcome { IfOk result (λ found. IsOutcome network.now (start_of network.now begin) (timed_nodes budget (H.limited halt.now)) found.outcome) }
+    ensures count { IfOk result (λ found. length found.thresholds.items ≡ workers) }
+    ensures most { IfOk result (λ found. All (λ k. k ≤ network.now.upper) found.thresholds.items) }
+    ensures least { IfOk result (λ found. All (λ k. threshold (certificate_of found.outcome.certificate) ≤ k) found.thresholds.items) }
+{
     let tables = Tables::expand(alloc, network)?;
     let divers = Divers::over(network, &tables);
     let problem = Problem::of(network, &divers);
-    cfn_search::solve_together(rt, alloc, &problem, workers, budget, gate, halt)
+    cfn_search::solve_from(rt, alloc, &problem, begin, workers, budget, gate, halt)
 }

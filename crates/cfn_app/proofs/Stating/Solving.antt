@@ -12,7 +12,7 @@ use Rattle.cfn_cli.specs.Request.Solving.{SolveRequest}
 use Rattle.cfn_app.specs.declared.status.Status.{Status}
 use Rattle.cfn_app.specs.declared.status.Status.TheVariants.{Refused}
 use Rattle.cfn_app.specs.Endings.{Ending, Ends, IsHindered}
-use Rattle.cfn_outcome.specs.Outcome.{fresh}
+use Rattle.cfn_outcome.specs.Outcome.{Start, fresh}
 use Rattle.cfn_app.specs.Headline.{Promise}
 use Rattle.cfn_app.specs.Loading.{ReadsAs, RefusesAs, Tells, loaded}
 use Rattle.cfn_app.specs.Loading as loading
@@ -55,7 +55,8 @@ module _ (ask : SolveRequest) (old new : Outside) where
       calls = calls ∙ ap (says (report ask.workers c rows nodes word)) wrote.calls;
     })) tt
 
-    says_search : (bytes : List ℕ) (P : Network) → HasFile old ask.file bytes → ReadsAs ask.format bytes P → Searches P ask (after (Load ask.file (Bytes bytes)) old) new status → SolveSays ask old new status
+    says_search : (bytes : List ℕ) (P : Network) → HasFile old ask.file bytes → ReadsAs ask.format bytes P → Searches P (fresh P) ask (after (Load ask.file (Bytes bytes)) old) new status → SolveSays ask old new status
+    says_search bytes P has reads (solving.unbegun same ends) = by (SolveSays ask old new) _ new.calls status ends (λ calls. inl (_, (calls, same))) tt
     says_search bytes P has reads (solving.unopened same ends) = by (SolveSays ask old new) _ new.calls status ends (λ calls. tt) tt
     says_search bytes P has reads (solving.no_memory same ends) = by (SolveSays ask old new) _ new.calls status ends (λ calls. inl (_, (calls, same))) tt
     says_search bytes P has reads (solving.searched nodes c rows word promise out) = says_output bytes P nodes c rows word has reads promise out
@@ -87,11 +88,12 @@ module _ (ask : SolveRequest) (old new : Outside) where
     word_reported words.Part = inl (inr (inr refl))
     word_reported words.Memory = inr (inr refl)
 
-    search_reported : (P : Network) (before : Outside) → Searches P ask before new status → IsReported status ⊎ IsHindered status
-    search_reported P before (solving.unopened same ends) = by_result _ ends (inr (inl refl))
-    search_reported P before (solving.no_memory same ends) = by_result _ ends (inr (inr refl))
-    search_reported P before (solving.searched nodes c rows word promise (endings.unwritten middle not same ends)) = by_result _ ends (inr (inl refl))
-    search_reported P before (solving.searched nodes c rows word promise (endings.wrote middle wrote same ends)) = by_result _ ends (word_reported word)
+    pub search_reported : (P : Network) (begin : Start) (before : Outside) → Searches P begin ask before new status → IsReported status ⊎ IsHindered status
+    search_reported P begin before (solving.unbegun same ends) = by_result _ ends (inr (inr refl))
+    search_reported P begin before (solving.unopened same ends) = by_result _ ends (inr (inl refl))
+    search_reported P begin before (solving.no_memory same ends) = by_result _ ends (inr (inr refl))
+    search_reported P begin before (solving.searched nodes c rows word promise (endings.unwritten middle not same ends)) = by_result _ ends (inr (inl refl))
+    search_reported P begin before (solving.searched nodes c rows word promise (endings.wrote middle wrote same ends)) = by_result _ ends (word_reported word)
 
     says_solved : (bytes : List ℕ) (P : Network) → Tells old ask.file bytes → ReadsAs ask.format bytes P → Solves ask old new status → IsReported status ⊎ IsHindered status
     says_solved bytes P told reads (solving.unloaded same (loading.unread ends)) = by_result _ ends (inr (inl refl))
@@ -99,7 +101,7 @@ module _ (ask : SolveRequest) (old new : Outside) where
     says_solved bytes P told reads (solving.unread other has same (loading.refused refusal refuses ends)) =
         absurd (read_refused ask.format bytes other P refusal (sym (same_bytes old ask.file other bytes told has)) reads refuses)
     says_solved bytes P told reads (solving.unread other has same (loading.no_memory ends)) = by_result _ ends (inr (inr refl))
-    says_solved bytes P told reads (solving.read other Q has also search) = search_reported Q _ search
+    says_solved bytes P told reads (solving.read other Q has also search) = search_reported Q _ _ search
 
     -- memory was refused before the words were understood
     pub solve_unheard : new.files ≡ old.files → Ends (unheard old) new.calls status → SolveStatus ask old new status
@@ -125,26 +127,28 @@ module _ (ask : SolveRequest) (old new : Outside) where
     word_counts before now words.Part same = same
     word_counts before now words.Memory same = same
 
-    search_counts : (P : Network) (start : List Call) (before : Outside) → faults before.calls ≡ faults start → Searches P ask before new status → Counts start new.calls status
-    search_counts P start before same (solving.unopened also ends) = counted start _ new.calls status ends (let more : faults start < suc (faults before.calls) = omega (arith, same) in more)
-    search_counts P start before same (solving.no_memory also ends) = counted start _ new.calls status ends same
-    search_counts P start before same (solving.searched nodes c rows word promise out) = output_counts _ new (spelling c) _ (status_of word) status start same (λ now. word_counts start now word) out
+    pub search_counts : (P : Network) (begin : Start) (start : List Call) (before : Outside) → faults before.calls ≡ faults start → Searches P begin ask before new status → Counts start new.calls status
+    search_counts P begin start before same (solving.unbegun also ends) = counted start _ new.calls status ends same
+    search_counts P begin start before same (solving.unopened also ends) = counted start _ new.calls status ends (let more : faults start < suc (faults before.calls) = omega (arith, same) in more)
+    search_counts P begin start before same (solving.no_memory also ends) = counted start _ new.calls status ends same
+    search_counts P begin start before same (solving.searched nodes c rows word promise out) = output_counts _ new (spelling c) _ (status_of word) status start same (λ now. word_counts start now word) out
 
-    search_idle : (P : Network) (before : Outside) → Searches P ask before new status → IsIdle new.calls
-    search_idle P before (solving.unopened also ends) = ends_idle _ new.calls status ends refl
-    search_idle P before (solving.no_memory also ends) = ends_idle _ new.calls status ends refl
-    search_idle P before (solving.searched nodes c rows word promise out) = output_idle _ new (spelling c) _ (status_of word) status out
+    pub search_idle : (P : Network) (begin : Start) (before : Outside) → IsIdle before.calls → Searches P begin ask before new status → IsIdle new.calls
+    search_idle P begin before idle (solving.unbegun also ends) = ends_idle _ new.calls status ends idle
+    search_idle P begin before idle (solving.unopened also ends) = ends_idle _ new.calls status ends refl
+    search_idle P begin before idle (solving.no_memory also ends) = ends_idle _ new.calls status ends refl
+    search_idle P begin before idle (solving.searched nodes c rows word promise out) = output_idle _ new (spelling c) _ (status_of word) status out
 
     pub solve_counts : Solves ask old new status → Counts old.calls new.calls status
     solve_counts (solving.unloaded same (loading.unread ends)) = counted old.calls _ new.calls status ends (one_more old.calls)
     solve_counts (solving.unloaded same (loading.no_memory ends)) = counted old.calls _ new.calls status ends refl
     solve_counts (solving.unread bytes has same (loading.refused refusal refuses ends)) = counted old.calls _ new.calls status ends refl
     solve_counts (solving.unread bytes has same (loading.no_memory ends)) = counted old.calls _ new.calls status ends refl
-    solve_counts (solving.read bytes P has reads search) = search_counts P old.calls _ refl search
+    solve_counts (solving.read bytes P has reads search) = search_counts P _ old.calls _ refl search
 
     pub solve_idle : Solves ask old new status → IsIdle old.calls → IsIdle new.calls
     solve_idle (solving.unloaded same (loading.unread ends)) idle = ends_idle _ new.calls status ends idle
     solve_idle (solving.unloaded same (loading.no_memory ends)) idle = ends_idle _ new.calls status ends idle
     solve_idle (solving.unread bytes has same (loading.refused refusal refuses ends)) idle = ends_idle _ new.calls status ends idle
     solve_idle (solving.unread bytes has same (loading.no_memory ends)) idle = ends_idle _ new.calls status ends idle
-    solve_idle (solving.read bytes P has reads search) idle = search_idle P _ search
+    solve_idle (solving.read bytes P has reads search) idle = search_idle P _ _ idle search

@@ -11,7 +11,7 @@ use Rattle.cfn_cli.specs.Request.Solving.{SolveRequest}
 use Rattle.cfn_app.specs.declared.status.Status.{Status}
 use Rattle.cfn_app.specs.declared.status.Status.TheVariants.{Done, Nothing, LimitSpent, Fault, NoMemory, Usage, Refused, Disproved}
 use Rattle.cfn_app.specs.Endings.{Ends, Outputs, IsHindered}
-use Rattle.cfn_outcome.specs.Outcome.{Limits, fresh, timed_nodes}
+use Rattle.cfn_outcome.specs.Outcome.{Limits, Start, fresh, timed_nodes}
 use Rattle.cfn_app.specs.Headline.{Promise}
 use Rattle.cfn_app.specs.Loading.{ReadsAs, Unloaded, Unread, loaded, RefusesAs, Tells}
 use Rattle.cfn_wcnf.specs.declared.fault.Unread.{Unread as FirstUnread}
@@ -44,19 +44,21 @@ word_of stops.Memory best = words.Memory
 abbrev pub limits_of : SolveRequest → Limits
 limits_of ask = timed_nodes ask.budget (is_some ask.seconds)
 
--- How a run ends that searches a network: its certificate can't be opened for writing; or memory is refused before there
--- is anything to report, and the file is dropped; or what the search promises is written and said.
-pub data Searches (P : Network) (ask : SolveRequest) (old new : Outside) (status : Status) : Type 0 where
-  unopened : new.files ≡ old.files → Ends (record { calls = Open ask.certificate false ∷ old.calls; text = write_fault_text; status = Fault }) new.calls status → Searches P ask old new status
-  no_memory : new.files ≡ old.files → Ends (record { calls = Discard ∷ Open ask.certificate true ∷ old.calls; text = memory_fault_text; status = NoMemory }) new.calls status → Searches P ask old new status
-  searched : (nodes : ℕ) (c : Certificate) (rows : List Row) (word : ResultWord) → Promise P (fresh P) (limits_of ask) nodes c rows word →
-      Outputs (spelling c) (report ask.workers c rows nodes word) (status_of word) (after (Open ask.certificate true) old) new status → Searches P ask old new status
+-- How a run ends that searches a network, from what the search begins with: memory is refused before it begins; or its
+-- certificate can't be opened for writing; or memory is refused before there is anything to report, and the file is dropped; or
+-- what the search promises is written and said.
+pub data Searches (P : Network) (start : Start) (ask : SolveRequest) (old new : Outside) (status : Status) : Type 0 where
+  unbegun : new.files ≡ old.files → Ends (record { calls = old.calls; text = memory_fault_text; status = NoMemory }) new.calls status → Searches P start ask old new status
+  unopened : new.files ≡ old.files → Ends (record { calls = Open ask.certificate false ∷ old.calls; text = write_fault_text; status = Fault }) new.calls status → Searches P start ask old new status
+  no_memory : new.files ≡ old.files → Ends (record { calls = Discard ∷ Open ask.certificate true ∷ old.calls; text = memory_fault_text; status = NoMemory }) new.calls status → Searches P start ask old new status
+  searched : (nodes : ℕ) (c : Certificate) (rows : List Row) (word : ResultWord) → Promise P start (limits_of ask) nodes c rows word →
+      Outputs (spelling c) (report ask.workers c rows nodes word) (status_of word) (after (Open ask.certificate true) old) new status → Searches P start ask old new status
 
 -- How a run of `solve` ends: the file is not loaded, or not read, or searched.
 pub data Solves (ask : SolveRequest) (old new : Outside) (status : Status) : Type 0 where
   unloaded : new.files ≡ old.files → Unloaded ask.file old.calls new.calls status → Solves ask old new status
   unread : (bytes : List ℕ) → HasFile old ask.file bytes → new.files ≡ old.files → Unread ask.format bytes (loaded ask.file bytes old.calls) new.calls status → Solves ask old new status
-  read : (bytes : List ℕ) (P : Network) → HasFile old ask.file bytes → ReadsAs ask.format bytes P → Searches P ask (after (Load ask.file (Bytes bytes)) old) new status → Solves ask old new status
+  read : (bytes : List ℕ) (P : Network) → HasFile old ask.file bytes → ReadsAs ask.format bytes P → Searches P (fresh P) ask (after (Load ask.file (Bytes bytes)) old) new status → Solves ask old new status
 
 -- ---- what its statuses say
 

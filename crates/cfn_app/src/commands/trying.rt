@@ -13,7 +13,7 @@ use cfn_gen::{allowing_law, instance};
 use cfn_model::GREATEST;
 use cfn_net::Network;
 use cfn_outcome::Stop;
-use cfn_solve::{Gate, Never};
+use cfn_solve::{Begin, Gate, Never};
 use std::alloc::{AllocError, Global};
 use std::sync::Wait;
 use std::thread::Threads;
@@ -65,7 +65,10 @@ fn least_cost<R: Threads + Wait + Sync, G: Gate + Sync>(
     ensures { IfOk result (λ least. Least network.now least) }
 {
     network.limits();
-    let found = search(rt, alloc, network, workers, GREATEST, false, gate, &Never)?;
+    let begin = Begin::fresh(alloc, network)?;
+    let found = search(
+        rt, alloc, network, begin, workers, GREATEST, false, gate, &Never,
+    )?;
     match found.outcome.stop {
         Stop::Done => Ok(found.outcome.certificate.lower),
         Stop::Budget | Stop::Time | Stop::Part | Stop::Memory => Err(AllocError),

@@ -27,3 +27,6 @@ returns-in-Trial g c = run_of _ _ _ _ _ c.in-Trial.is (c.try_drawn.ensures.files
 
 pub returns-in-Migrate : goal.returns-in-Migrate
 returns-in-Migrate g c = run_of _ _ _ _ _ c.in-Migrate.is c.migrate_file.ensures
+
+pub returns-in-Rebase : goal.returns-in-Rebase
+returns-in-Rebase g c = run_of _ _ _ _ _ c.in-Rebase.is c.rebase_file.ensures

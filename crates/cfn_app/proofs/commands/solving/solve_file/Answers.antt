@@ -4,14 +4,14 @@ use denote.Param.Send.{sendable}
 use Rattle.cfn_clock.proofs.CallerLemmas.{deadline_sync}
 use Rattle.cfn_app.proofs.commands.solving.solve_file.Goals as goal
 
-pub open_and_search-requires-sync-H : goal.open_and_search-requires-sync-H
-open_and_search-requires-sync-H g c κs within = search (sendable, deadline_sync) depth 40
+pub begin_and_search-requires-sync-H : goal.begin_and_search-requires-sync-H
+begin_and_search-requires-sync-H g c κs within = search (sendable, deadline_sync) depth 40
 
 pub returns-in-Ok-read_bytes : goal.returns-in-Ok-read_bytes
 returns-in-Ok-read_bytes g c =
     solves_read _ _ _ _ _ (spoken_solve c.args.ask.now) c.in-Ok.bytes.items c.in-Ok-read_bytes.network
     (rw c.as_str.ensures.value at c.in-Ok.ensures.has) (rw c.as_str.ensures.value at c.in-Ok.ensures.loaded)
-    (rw c.deref.ensures.value at c.in-Ok-read_bytes.ensures.reads) c.in-Ok-read_bytes.ensures.same c.open_and_search.ensures
+    (rw c.deref.ensures.value at c.in-Ok-read_bytes.ensures.reads) c.in-Ok-read_bytes.ensures.same c.begin_and_search.ensures
 
 pub returns : goal.returns
 returns g c =

@@ -1,0 +1,29 @@
+use Rattle.std.proofs.Common.{◌≡◌, List, Option, Some, None, refl, codes}
+use Rattle.clap.specs.Words.{Row, Text, first_of}
+use Rattle.cfn_cli.specs.Request.Rebasing.{rebase_of}
+use Rattle.cfn_cli.specs.Request.Solving.{SolveRequest, solve_of}
+use Rattle.cfn_cli.proofs.Asking.{nothing_asked, passed_on}
+use Rattle.cfn_cli.proofs.commands.rebase.read.Goals as goal
+
+rebase_made : (rows : List Row) (old : Text) (solve : SolveRequest) → first_of (codes "old") rows ≡ Some old → solve_of rows ≡ Some solve
+    → rebase_of rows ≡ Some (record { old = old; solve = solve })
+unfolding rebase_of
+rebase_made rows old solve e1 e2 = rw (e1, e2) refl
+
+rebase_without_old : (rows : List Row) → first_of (codes "old") rows ≡ None → rebase_of rows ≡ None
+unfolding rebase_of
+rebase_without_old rows e1 = rw e1 refl
+
+rebase_without_solve : (rows : List Row) (old : Text) → first_of (codes "old") rows ≡ Some old → solve_of rows ≡ None → rebase_of rows ≡ None
+unfolding rebase_of
+rebase_without_solve rows old e1 e2 = rw (e1, e2) refl
+
+pub returns-in_err-old-clause-usage : goal.returns-in_err-old-clause-usage
+returns-in_err-old-clause-usage c = nothing_asked _ _ (rebase_without_old _ c.in_err-old.ensures.missing)
+
+pub returns-in_err-solve-clause-usage : goal.returns-in_err-solve-clause-usage
+returns-in_err-solve-clause-usage c =
+    passed_on _ _ _ c.from_residual-in_err-solve.ensures.1 (λ is. rebase_without_solve _ _ c.in_ok-old.ensures.text (c.in_err-solve.ensures.usage is))
+
+pub returns-clause-arguments : goal.returns-clause-arguments
+returns-clause-arguments c = rw c.in_ok-from_str.ensures.ok (rebase_made _ _ _ c.in_ok-old.ensures.text c.in_ok-solve.ensures.arguments)
