@@ -91,7 +91,7 @@ impl<'n> World<'n> {
     {
         network.limits();
         let tree = Tree::new(alloc)?;
-        let leaves = Leaves::start(alloc, network, tree, network.ub(), budget)?;
+        let leaves = Leaves::start(alloc, network, tree, None, network.ub(), budget)?;
         Ok(World {
             network,
             leaves,

@@ -1,14 +1,16 @@
 -- A leaf is handed out.
-use Rattle.std.proofs.Common.{◌≡◌, ◌≢◌, ℕ, ◌+◌, ◌-◌, ◌≤◌, List, [], ◌∷◌, length, min, set, refl, sym, ap, ap₂, ◌∙◌, subst, arith, Option, Some, None, IsPermutation, MatchOption}
+use Rattle.std.proofs.Common.{◌≡◌, ◌≢◌, ℕ, ◌+◌, ◌-◌, ◌≤◌, inl, inr, List, [], ◌∷◌, length, min, set, refl, sym, ap, ap₂, ◌∙◌, subst, arith, Option, Some, None, IsPermutation, MatchOption}
+use Rattle.std.proofs.lemmas.Bool.{cases_eq}
 use Rattle.std.proofs.lemmas.List.{length-set}
+use Rattle.std.proofs.lemmas.List.Elements.{All-head}
 use Rattle.cfn_model.specs.declared.step.Event.{Event}
 use Rattle.cfn_model.specs.Network.{Network}
 use Rattle.cfn_model.specs.Sums.{floor}
 use Rattle.cfn_open.specs.declared.list.OpenLeaf.{OpenLeaf}
 use Rattle.cfn_open.specs.Listing.{Listing, IsLeast}
 use Rattle.cfn_proof.specs.Local.{BeforeOnceLaw}
-use Rattle.cfn_machine.specs.Pool.{Free, Out, PoolTree, Leaf, IsLeaf, Replaced, granted, Task, IsTask, View}
-use Rattle.cfn_machine.proofs.CallerLemmas.{hands_out}
+use Rattle.cfn_machine.specs.Pool.{Free, Out, PoolTree, Leaf, IsLeaf, Replaced, granted, active_leaves, Task, IsTask, View}
+use Rattle.cfn_machine.proofs.CallerLemmas.{hands_out, free_active, granted_active, none_active}
 use Rattle.cfn_open.proofs.CallerLemmas.{least_once}
 use Rattle.cfn_leaves.specs.Answers.{IsSoundPool}
 use Rattle.cfn_machine.specs.Steps.{PoolTakes, IsFirst}
@@ -19,7 +21,8 @@ use Rattle.cfn_leaves.specs.Ways.{IsPathOf}
 use Rattle.cfn_leaves.specs.Value.{Holding, pool_of, pool_tree, Body, IsBody}
 use Rattle.cfn_leaves.proofs.Trees.{marked_is, leaf_node}
 use Rattle.cfn_leaves.proofs.Lists.{free_listed}
-use Rattle.cfn_leaves.proofs.Bodies.{path_once, first_held, body_taken}
+use Rattle.cfn_leaves.specs.Listed.{IsFreeIn, IsListed}
+use Rattle.cfn_leaves.proofs.Bodies.{path_once, first_held, body_taken, is_held, free_is}
 
 -- what is kept beside the nodes and the table
 abbrev pub body_of : Holding → Listing → ℕ → ℕ → Body
@@ -32,6 +35,30 @@ module _ (P : Network) (b : Body) (tree : PoolTree) (once : BeforeOnceLaw) (body
       let node = leaf_node P b.nodes b.table tree once body.are n Free path leaf in
       let listed = free_listed b.table b.listing.leaves n (entry node.node Free (floor P path)) body.listed node.is refl in
       omega (arith, listed.1.1, ap length none)
+
+  -- no leaf is active exactly where none is listed and nothing is granted
+  pub none_then : length b.listing.leaves ≡ 0 → b.granted ≡ 0 → active_leaves tree ≡ 0
+  none_then nothing none = none_active tree [] (none_free (empty b.listing.leaves nothing)) (let g = body.granted in omega (arith, g, none)) where
+    empty : (leaves : List OpenLeaf) → length leaves ≡ 0 → leaves ≡ []
+    empty [] none = refl
+    empty (leaf ∷ leaves) none = absurd (omega (arith, none))
+
+  pub nothing_granted : active_leaves tree ≡ 0 → b.granted ≡ 0
+  nothing_granted none = elim (cases_eq b.granted 0) [
+    | inl nothing ↦ nothing
+    | inr some ↦ (let more = granted_active tree (λ nothing. some (body.granted ∙ nothing)) in absurd (omega (arith, more, none)))
+  ]
+
+  pub nothing_listed : active_leaves tree ≡ 0 → length b.listing.leaves ≡ 0
+  nothing_listed none = by_leaves b.listing.leaves body.listed where
+    by_leaves : (leaves : List OpenLeaf) → IsListed b.table leaves → length leaves ≡ 0
+    by_leaves [] listed = refl
+    by_leaves (leaf ∷ leaves) listed =
+        let free = All-head (IsFreeIn b.table) leaf leaves listed.each in
+        let h = is_held P b tree leaf.leaf free.entry once body free.is in
+        let mark = free_is h.mark (sym free.free ∙ h.mark_is) in
+        let more = free_active tree [] leaf.leaf h.path (subst (λ k. IsLeaf tree [] leaf.leaf k h.path) mark h.leaf) in
+        absurd (omega (arith, more, none))
 
 -- the step
 pub record Handed (h new : Holding) (b : Body) (worker want : ℕ) (task : Task) : Type 0 where

@@ -8,6 +8,7 @@ pub mod HandingOut
 pub mod Insides
 pub mod Recalled
 pub mod FreedAll
+pub mod Asides
 pub mod ClosedFree
 pub mod Sweeps
 pub mod Bounds

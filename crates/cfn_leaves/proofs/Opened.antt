@@ -1,5 +1,5 @@
 -- The leaves of a tree at the opening.
-use Rattle.std.proofs.Common.{◌≡◌, ℕ, ◌+◌, ◌<◌, ◌≤◌, ◌^◌, List, [], ◌∷◌, ◌++◌, map, length, refl, sym, ap, ◌∙◌, subst, arith, Option, append-nil, All}
+use Rattle.std.proofs.Common.{◌≡◌, ℕ, ◌+◌, ◌<◌, ◌≤◌, ◌^◌, List, [], ◌∷◌, ◌++◌, map, length, refl, sym, ap, ◌∙◌, subst, arith, Option, append-nil, All, Bool}
 use Rattle.std.proofs.lemmas.List.{length-map}
 use Rattle.std.proofs.lemmas.List.Elements.{All-weaker, All-nil}
 use Rattle.cfn_model.specs.Network.{Network}
@@ -11,11 +11,11 @@ use Rattle.cfn_proof.specs.declared.tree.Node.{Node}
 use Rattle.cfn_proof.specs.Nodes.{tree_of, IsLinked}
 use Rattle.cfn_proof.specs.Local.{BeforeOnceLaw}
 use Rattle.cfn_machine.specs.Pool as pool
-use Rattle.cfn_machine.specs.Pool.{Free, IsLeaf, granted, numbered, Pool, row_of, opening_with}
+use Rattle.cfn_machine.specs.Pool.{Free, IsLeaf, granted, numbered, dealt, Pool, row_of, opening_part}
 use Rattle.cfn_machine.specs.Steps.{PoolNotes, pool_noted}
 use Rattle.cfn_model.specs.declared.report.Row.{Row}
 use Rattle.cfn_model.specs.Tree.{Tree}
-use Rattle.cfn_machine.proofs.CallerLemmas.{numbered_is, numbered_granted, numbered_once}
+use Rattle.cfn_machine.proofs.CallerLemmas.{numbered_is, numbered_granted, numbered_once, dealt_is}
 use Rattle.cfn_leaves.specs.declared.entry.Entry.{Entry}
 use Rattle.cfn_leaves.specs.declared.walk.Spot.{Spot}
 use Rattle.cfn_leaves.specs.Standing.{marked, Are}
@@ -93,9 +93,10 @@ all_kept P Q nodes nodes' table listing listing' count count' budget noted capac
 }
 
 -- the opening's pool, once the first row is noted
-pub first_row : (P : Network) (shares budget : ℕ) (tree : Tree) (best : Option (List ℕ)) (seen : ℕ) (old new : Pool) → pool.price P best ≡ seen →
-    old ≡ record { tree = numbered 0 tree; next = open_leaves tree; budget = budget; begun = count tree; nodes = 0; rows = []; view = record { best = best; seen = seen; shares = shares } } → PoolNotes P old new → new ≡ opening_with P shares budget tree best
-first_row P shares budget tree best seen old new price old_is notes =
-    let bare : ℕ → Pool = λ k. record { tree = numbered 0 tree; next = open_leaves tree; budget = budget; begun = count tree; nodes = 0; rows = []; view = record { best = best; seen = k; shares = shares } } in
-    let row : pool_noted P (bare (pool.price P best)) ≡ record (bare (pool.price P best)) { rows = row_of P (pool.tree_of (numbered 0 tree)) (pool.price P best) ∷ [] } = refl in
-    notes ∙ ap (pool_noted P) old_is ∙ ap (λ k. pool_noted P (bare k)) (sym price) ∙ row ∙ ap (λ t. record (bare (pool.price P best)) { rows = row_of P t (pool.price P best) ∷ [] }) (numbered_is tree 0)
+pub first_row : (mine : ℕ → Bool) (P : Network) (shares budget : ℕ) (tree : Tree) (best : Option (List ℕ)) (seen : ℕ) (old new : Pool) → pool.price P best ≡ seen →
+    old ≡ record { tree = dealt mine (numbered 0 tree); next = open_leaves tree; budget = budget; begun = count tree; nodes = 0; rows = []; view = record { best = best; seen = seen; shares = shares } } → PoolNotes P old new → new ≡ opening_part mine P shares budget tree best
+first_row mine P shares budget tree best seen old new price old_is notes =
+    let whole = dealt mine (numbered 0 tree) in
+    let bare : ℕ → Pool = λ k. record { tree = whole; next = open_leaves tree; budget = budget; begun = count tree; nodes = 0; rows = []; view = record { best = best; seen = k; shares = shares } } in
+    let row : pool_noted P (bare (pool.price P best)) ≡ record (bare (pool.price P best)) { rows = row_of P (pool.tree_of whole) (pool.price P best) ∷ [] } = refl in
+    notes ∙ ap (pool_noted P) old_is ∙ ap (λ k. pool_noted P (bare k)) (sym price) ∙ row ∙ ap (λ t. record (bare (pool.price P best)) { rows = row_of P t (pool.price P best) ∷ [] }) (dealt_is mine (numbered 0 tree) ∙ numbered_is tree 0)

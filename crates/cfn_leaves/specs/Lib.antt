@@ -4,6 +4,7 @@ pub mod Value
 pub mod Ways
 pub mod Answers
 pub mod Returned
+pub mod Asides
 pub mod Swept
 pub mod Read
 pub mod Walked

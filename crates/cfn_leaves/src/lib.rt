@@ -2,7 +2,7 @@
 //! as in Allouche et al. 2015).
 //!
 //! `Leaves` is the pool's state but for its view of the word, and each call on it one of the pool's steps as cfn_machine
-//! defines them: `start` is the opening, also with a kept tree; `take` hands out a leaf, `give` puts a piece in its place,
+//! defines them: `start` is the opening, also with a kept tree, of which a part of a search may leave leaves to others; `take` hands out a leaf, `give` puts a piece in its place,
 //! `back` and `recall` free leaves, `sweep` closes those whose floor reaches the word, and `note` notes a row of bounds.
 //! Whether the pool is sound is for the caller to keep: only `take` asks for it.
 //!
@@ -22,6 +22,7 @@ mod opening;
 mod placing;
 mod reading;
 mod returning;
+mod setting_aside;
 mod sweeping;
 mod taking;
 mod walk;

@@ -1,15 +1,17 @@
 //! The opening of a pool.
 
-ghost use Rattle.std.specs.Prelude.{◌≡◌, ℕ, ◌<◌, ◌^◌, [], List, Option, IfOk};
+ghost use Rattle.std.specs.Prelude.{◌≡◌, ℕ, ◌<◌, ◌^◌, [], List, Option, IfOk, IfSome};
 ghost use Rattle.cfn_model.specs.Tree.{count};
 ghost use Rattle.cfn_proof.specs.Nodes.{tree_of};
-ghost use Rattle.cfn_machine.specs.Pool.{opening_with, price};
+ghost use Rattle.cfn_machine.specs.Pool.{opening_part, price};
+ghost use Rattle.cfn_machine.specs.Parts.{IsPart, has_leaf};
 ghost use Rattle.cfn_leaves.specs.Value.{pool_of};
 ghost use Rattle.cfn_leaves.specs.Placed.{IsOpening};
 
 use crate::leaves::{Leaves, ROWS};
 use crate::placing::{place, reserve};
 use crate::walk::open_spots;
+use cfn_machine::Part;
 use cfn_net::{Network, NetworkSnapshot};
 use cfn_open::OpenList;
 use cfn_proof::Tree;
@@ -18,21 +20,24 @@ use std::alloc::{AllocError, Global};
 
 impl Leaves {
     /// The leaves of a tree that a pool begins with, such as one open leaf: each open leaf is free, with numbers in the order
-    /// of the tree's text; no node is made yet; and the first row of bounds is that of the threshold. An `Err` is want of
-    /// memory, or of a number for a floor.
+    /// of the tree's text, but those that a part of a search leaves to others, which are set aside; no node is made yet; and the
+    /// first row of bounds is that of the threshold. An `Err` is want of memory, or of a number for a floor.
     pub fn start(
         alloc: Global,
         network: &Network,
         tree: Tree,
+        part: Option<Part>,
         threshold: u64,
         budget: u64,
     ) -> Result<Leaves, AllocError>
-        requires { count (tree_of tree) < 2 ^ 64 }
+        requires few { count (tree_of tree) < 2 ^ 64 }
+        requires part { IfSome part IsPart }
         ensures network { IfOk result (λ leaves. leaves.network ≡ network.now) }
         ensures pool { IfOk result (λ leaves. (shares : ℕ) (best : Option (List ℕ)) → price network.now best ≡ threshold →
-            pool_of leaves (record { best = best; seen = threshold; shares = shares }) ≡ opening_with network.now shares budget (tree_of tree) best) }
+            pool_of leaves (record { best = best; seen = threshold; shares = shares }) ≡ opening_part (has_leaf part) network.now shares budget (tree_of tree) best) }
     {
         let mut leaves = Leaves::bare(alloc, network, tree, budget)?;
+        leaves.deal(part)?;
         leaves.note(network, threshold);
         Ok(leaves)
     }

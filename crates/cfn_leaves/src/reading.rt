@@ -1,6 +1,6 @@
 //! What is read of the leaves.
 
-ghost use Rattle.std.specs.Prelude.{◌≡◌, ◌+◌, [], min};
+ghost use Rattle.std.specs.Prelude.{◌≡◌, ◌+◌, ◌≤◌, ◌^◌, [], min};
 ghost use Rattle.cfn_model.specs.Tree.{bound, open_leaves};
 ghost use Rattle.cfn_proof.specs.Nodes.{tree_of};
 ghost use Rattle.cfn_machine.specs.Pool.{granted};
@@ -21,9 +21,10 @@ impl Leaves {
         self.nodes
     }
 
-    /// How many leaves are open, free or out.
+    /// How many leaves are open, free or out, at most 2^32.
     pub fn open_leaves(&self) -> u64
-        ensures { result ≡ open_leaves (pool.tree_of (pool_tree self.now)) }
+        ensures is { result ≡ open_leaves (pool.tree_of (pool_tree self.now)) }
+        ensures few { result ≤ 2 ^ 32 }
     {
         self.opened
     }

@@ -1,6 +1,8 @@
 //! A leaf is handed out.
 
-ghost use Rattle.std.specs.Prelude.{◌≡◌, ◌≤◌, ◌<◌, length, slice_set, vec_len, vec_capacity, Some, None};
+ghost use Rattle.std.specs.Prelude.{◌≡◌, ◌↔◌, ◌≤◌, ◌<◌, length, slice_set, vec_len, vec_capacity, Some, None, IsTrue};
+ghost use Rattle.cfn_machine.specs.Pool.{active_leaves};
+ghost use Rattle.cfn_leaves.specs.Value.{pool_tree};
 ghost use Rattle.cfn_leaves.specs.Answers.{IsSoundPool, Takes};
 ghost use Rattle.cfn_leaves.specs.Standing.{entry_at};
 
@@ -16,7 +18,7 @@ use cfn_task::Task;
 pub enum Taken {
     /// The task of the leaf that is handed out.
     Given { task: Task },
-    /// No leaf is open.
+    /// No leaf is open, but such as are set aside.
     Empty,
     /// The budget of nodes is spent.
     Spent,
@@ -38,7 +40,7 @@ impl Leaves {
         ensures takes { Takes self.old worker want result self.new }
     {
         same_before();
-        if self.opened == 0 {
+        if self.has_none_active() {
             return Taken::Empty;
         }
         if self.nodes == self.budget {
@@ -69,6 +71,16 @@ impl Leaves {
         let leaf = u64::from(first.leaf);
         let task = Task::of(network, leaf, worker, grant, first.floor, path);
         Taken::Given { task }
+    }
+}
+
+impl Leaves {
+    /// Whether no leaf is active: none is free, and below none that is out may a node be made.
+    fn has_none_active(&self) -> bool
+        ensures { IsTrue result ↔ (active_leaves (pool_tree self.now) ≡ 0) }
+    {
+        same_before();
+        self.list.len() == 0 && self.granted == 0
     }
 }
 

@@ -32,7 +32,7 @@ impl Incumbent for Brand {
 
     ghost network = { record { name = []; sizes = []; upper = 0; functions = [] } };
 
-    ghost start = { record { begun = 0; first = record { lower = 0; upper = None } } };
+    ghost start = { record { begun = 0; first = record { lower = 0; upper = None }; aside = [] } };
 }
 
 /// The rule, for a network: its upper bound is the top.

@@ -1,12 +1,13 @@
 -- Each step can be done or not, and leaves one pool where leaves have numbers of their own.
-use Rattle.std.proofs.Common.{◌≡◌, ℕ, ◌+◌, ◌<◌, ◌≤◌, inl, inr, List, [], ◌∷◌, refl, sym, ap, ◌∙◌, subst, arith}
+use Rattle.std.proofs.Common.{◌≡◌, ◌≢◌, ℕ, ◌+◌, ◌<◌, ◌≤◌, inl, inr, List, [], ◌∷◌, refl, sym, ap, ◌∙◌, subst, arith, Bool, true, false, if◌then◌else◌, ◌==◌, eq-eqb, eqb-true}
+use Rattle.cfn_model.specs.declared.step.Step.{Step}
 use Rattle.std.proofs.lemmas.Bool.{cases_lt, cases_eq}
 use Rattle.cfn_model.specs.declared.step.Event.{Event}
 use Rattle.cfn_model.specs.declared.step.Event.TheVariants.{Took, Refused}
 use Rattle.cfn_model.specs.Network.{Network}
 use Rattle.cfn_model.specs.Steps.{after}
 use Rattle.cfn_model.specs.Tree.{count, open_leaves}
-use Rattle.cfn_machine.specs.Pool.{Mark, Free, Out, PoolTree, Leaf, Shut, Fork, tree_of, IsLeaf, Replaced, granted, numbered, Task, Piece, Pool, leaves_with, AreNumbered}
+use Rattle.cfn_machine.specs.Pool.{Mark, Free, Out, PoolTree, Leaf, Shut, Fork, tree_of, IsLeaf, Replaced, granted, grant_of, numbered, active_mark, active_leaves, Task, Piece, Pool, leaves_with, AreNumbered}
 use Rattle.cfn_machine.specs.Steps.{task_for, NoneOpen, AllSpent, AllOut, PoolGives, PoolReturns, Takes, Gives, Returns, Recalls, Sweeps, Meets}
 use Rattle.cfn_machine.specs.Steps.{Notes}
 use Rattle.cfn_machine.specs.Laws.{TakesOrNone, NeverBoth, OneLack, GivesOrNot, GivesOut, ReturnsOrNot, ReturnsOut, OneTask, OnePool}
@@ -46,9 +47,43 @@ leaf_open (Shut block) history n mark path at = absurd at
 leaf_open (Fork block d first second) history n mark path (inl at) = omega (arith, leaf_open first (Took d ∷ after block history) n mark path at)
 leaf_open (Fork block d first second) history n mark path (inr at) = omega (arith, leaf_open second (Refused d ∷ after block history) n mark path at)
 
+pub free_active : (tree : PoolTree) (history : List Event) (n : ℕ) (path : List Event) → IsLeaf tree history n Free path → 0 < active_leaves tree
+free_active (Leaf number m block) history n path at = (let e = ap active_mark at.1 in omega (arith, e))
+free_active (Shut block) history n path at = absurd at
+free_active (Fork block d first second) history n path (inl at) = omega (arith, free_active first (Took d ∷ after block history) n path at)
+free_active (Fork block d first second) history n path (inr at) = omega (arith, free_active second (Refused d ∷ after block history) n path at)
+
+-- where nodes may be made below a leaf that is out, a leaf is active; where none may and no leaf is free, none is
+granted_mark : (mark : Mark) → grant_of mark ≢ 0 → 0 < active_mark mark
+granted_mark Free some = absurd (some refl)
+granted_mark (Out worker grant) some = by_grant (grant == 0) refl where
+  by_grant : (t : Bool) → (grant == 0) ≡ t → 0 < (if t then 0 else 1)
+  by_grant true none = absurd (some (eqb-true grant 0 none))
+  by_grant false other = omega arith
+
+pub granted_active : (tree : PoolTree) → granted tree ≢ 0 → 0 < active_leaves tree
+granted_active (Leaf number mark block) some = granted_mark mark some
+granted_active (Shut block) some = absurd (some refl)
+granted_active (Fork block d first second) some = elim (cases_eq (granted first) 0) [
+  | inl none ↦ (let more = granted_active second (λ also. some (omega (arith, none, also))) in omega (arith, more))
+  | inr other ↦ (let more = granted_active first other in omega (arith, more))
+]
+
+ungranted_mark : (number : ℕ) (mark : Mark) (block : List Step) (history : List Event) → ((n : ℕ) (path : List Event) → IsLeaf (Leaf number mark block) history n Free path → ⊥) → grant_of mark ≡ 0 → active_mark mark ≡ 0
+ungranted_mark number Free block history none nothing = absurd (none number (after block history) (refl, refl, refl))
+ungranted_mark number (Out worker grant) block history none nothing = let e : (grant == 0) ≡ true = eq-eqb grant 0 nothing in rw e refl
+
+pub none_active : (tree : PoolTree) (history : List Event) → ((n : ℕ) (path : List Event) → IsLeaf tree history n Free path → ⊥) → granted tree ≡ 0 → active_leaves tree ≡ 0
+none_active (Leaf number mark block) history none nothing = ungranted_mark number mark block history none nothing
+none_active (Shut block) history none nothing = refl
+none_active (Fork block d first second) history none nothing =
+    let one = none_active first (Took d ∷ after block history) (λ n path at. none n path (inl at)) (omega (arith, nothing)) in
+    let two = none_active second (Refused d ∷ after block history) (λ n path at. none n path (inr at)) (omega (arith, nothing)) in
+    omega (arith, one, two)
+
 -- a leaf is taken, or there is none to take
 pub takes_or_none : TakesOrNone
-takes_or_none P pool worker want wants = elim (cases_lt 0 (open_leaves (tree_of pool.tree))) [
+takes_or_none P pool worker want wants = elim (cases_lt 0 (active_leaves pool.tree)) [
   | inr none ↦ inr (NoneOpen, omega arith)
   | inl some ↦ elim (cases_eq pool.nodes pool.budget) [
     | inl spent ↦ inr (AllSpent, (some, spent))
@@ -79,7 +114,7 @@ takes_or_none P pool worker want wants = elim (cases_lt 0 (open_leaves (tree_of 
 ]
 
 pub never_both : NeverBoth
-never_both P pool new worker want task NoneOpen takes none = (let o = leaf_open pool.tree [] task.leaf Free task.path takes.first.leaf in omega (arith, o, none))
+never_both P pool new worker want task NoneOpen takes none = (let o = free_active pool.tree [] task.leaf task.path takes.first.leaf in omega (arith, o, none))
 never_both P pool new worker want task AllSpent takes none = takes.unspent none.1
 never_both P pool new worker want task AllOut takes (some, unspent, inl out) = out task.leaf task.path takes.first.leaf
 never_both P pool new worker want task AllOut takes (some, unspent, inr all_granted) = takes.room all_granted

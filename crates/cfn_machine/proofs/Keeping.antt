@@ -40,7 +40,7 @@ replaced_small P n mark path place (Fork block d first second) history new (inr 
     replaced_small P n mark path place second (Refused d ∷ after block history) at.0 at.1 tame.2
 
 -- each row keeps what rows keep, where leaves lie behind leaves and less was seen
-rows_kept : (P : Network) (tree new : PoolTree) (seen word : ℕ) (rows : List Row) → word ≤ seen →
+pub rows_kept : (P : Network) (tree new : PoolTree) (seen word : ℕ) (rows : List Row) → word ≤ seen →
     ((n : ℕ) (mark : Mark) (path : List Event) → IsLeaf new [] n mark path → (m : ℕ) × (other : Mark) × (before : List Event) × IsLeaf tree [] m other before × (floor P before ≤ floor P path)) →
     AllByRecursion (IsRow P tree seen) rows → AllByRecursion (IsRow P new word) rows
 rows_kept P tree new seen word [] low from all = tt

@@ -7,6 +7,7 @@ pub mod Agreeing
 pub mod Covering
 pub mod Tracing
 pub mod Outgoing
+pub mod Parting
 pub mod CallerLemmas
 pub mod Rows
 pub mod Words

@@ -1,11 +1,12 @@
 -- What holds of the pool, whatever steps are done and in whatever order.
-use Rattle.std.specs.Prelude.{◌≡◌, ℕ, ◌+◌, ◌<◌, ◌≤◌, ◌⊎◌, min, List, [], ◌∷◌, ◌++◌, length, Option}
+use Rattle.std.specs.Prelude.{◌≡◌, Bool, ℕ, ◌+◌, ◌<◌, ◌≤◌, ◌⊎◌, min, List, [], ◌∷◌, ◌++◌, length, Contains, Option}
 use Rattle.cfn_model.specs.declared.step.Event.{Event}
 use Rattle.cfn_model.specs.Sums.{floor}
 use Rattle.cfn_model.specs.Network.{Network, IsNetwork, Fits, cost}
-use Rattle.cfn_model.specs.Tree.{Tree, OpenBelow}
+use Rattle.cfn_model.specs.Tree.{Tree, OpenBelow, open_leaves}
 use Rattle.cfn_model.specs.Paths.{Agrees}
-use Rattle.cfn_machine.specs.Pool.{Mark, Out, PoolTree, Leaf, Shut, Fork, tree_of, IsLeaf, IsAnyLeaf, leaf_of, Task, IsTask, Piece, View, Pool, IsSound, AreNumbered, price, KeepsFitting, IsKept, opening_with, opening_pool, row_of}
+use Rattle.cfn_machine.specs.Pool.{Mark, Out, PoolTree, Leaf, Shut, Fork, tree_of, IsLeaf, IsAnyLeaf, leaf_of, Task, IsTask, Piece, View, Pool, IsSound, AreNumbered, price, KeepsFitting, IsKept, opening_with, opening_part, opening_pool, row_of, numbered, dealt, recalled, swept}
+use Rattle.cfn_machine.specs.Parts.{others_from, others_among, IsAside, EndsAt}
 use Rattle.cfn_machine.specs.Steps.{PoolTakes, Lack, HasNone, IsOut, PoolGives, IsNotOut, PoolReturns, PoolSweeps, joined, PoolStep, Takes, Gives, Returns, Recalls, Sweeps, Meets, Notes, PoolSteps, IsLegal, Move, PoolRuns}
 
 -- The pool is sound, its leaves have numbers of their own, and what it keeps fits.
@@ -20,6 +21,35 @@ Opens = (P : Network) (shares budget : ℕ) → IsNetwork P → IsPool P (openin
 
 abbrev pub OpensWith : Type 0
 OpensWith = (P : Network) (shares budget : ℕ) (tree : Tree) (best : Option (List ℕ)) → IsNetwork P → IsKept P tree best → IsPool P (opening_with P shares budget tree best)
+
+-- So with leaves set aside.
+abbrev pub OpensPart : Type 0
+OpensPart = (mine : ℕ → Bool) (P : Network) (shares budget : ℕ) (tree : Tree) (best : Option (List ℕ)) → IsNetwork P → IsKept P tree best → IsPool P (opening_part mine P shares budget tree best)
+
+-- The leaves that are left to others are set aside then; so many they are; and where all leaves were called back and swept each is
+-- still there, open or closed.
+abbrev pub SetsAside : Type 0
+SetsAside = (mine : ℕ → Bool) (tree : Tree) (path : List Event) → Contains (others_from mine 0 [] tree) path → IsAside (dealt mine (numbered 0 tree)) path
+
+abbrev pub CountsOthers : Type 0
+CountsOthers = (mine : ℕ → Bool) (tree : Tree) → length (others_from mine 0 [] tree) ≡ others_among mine 0 (open_leaves tree)
+
+abbrev pub EndsOthers : Type 0
+EndsOthers = (P : Network) (k : ℕ) (tree : PoolTree) (path : List Event) → IsAside tree path → EndsAt (tree_of (swept P k (recalled tree) [])) [] path
+
+-- A leaf that is set aside stays so until all leaves are called back, where a task that is given back may make a node at least.
+abbrev pub MayMake : PoolStep → Type 0
+MayMake (Takes worker want task) = Unit {0}
+MayMake (Gives piece) = Unit {0}
+MayMake (Returns task) = 1 ≤ task.grant
+MayMake Recalls = ⊥
+MayMake Sweeps = Unit {0}
+MayMake (Meets view) = Unit {0}
+MayMake Notes = Unit {0}
+
+abbrev pub KeepsAside : Type 0
+KeepsAside = (P : Network) (pool new : Pool) (word : ℕ) (step : PoolStep) → AreNumbered pool → IsLegal P pool word step → MayMake step → PoolSteps P pool word step new →
+    (n worker : ℕ) (path : List Event) → IsLeaf pool.tree [] n (Out worker 0) path → IsLeaf new.tree [] n (Out worker 0) path
 
 abbrev pub KeepsSound : Type 0
 KeepsSound = (P : Network) (pool new : Pool) (word : ℕ) (step : PoolStep) → IsLegal P pool word step → IsSound P pool → PoolSteps P pool word step new → IsSound P new

@@ -1,4 +1,5 @@
 pub mod Pool
+pub mod Parts
 pub mod Steps
 pub mod Word
 pub mod Laws

@@ -1,5 +1,5 @@
 -- The pool: a search tree whose open leaves are handed out to workers (branch and bound as in Allouche et al. 2015).
-use Rattle.std.specs.Prelude.{◌≡◌, ℕ, ◌+◌, ◌<◌, ◌≤◌, ◌⊎◌, List, [], ◌∷◌, ◌++◌, Option, Some, None, IfSome, if◌then◌else◌, nat_le, nat_lt, ◌==◌}
+use Rattle.std.specs.Prelude.{◌≡◌, ℕ, ◌+◌, ◌<◌, ◌≤◌, ◌⊎◌, Bool, true, false, List, [], ◌∷◌, ◌++◌, Option, Some, None, IfSome, if◌then◌else◌, nat_le, nat_lt, ◌==◌}
 use Rattle.cfn_model.specs.declared.step.Step.{Step}
 use Rattle.cfn_model.specs.declared.step.Decision.{Decision}
 use Rattle.cfn_model.specs.declared.step.Event.{Event}
@@ -81,6 +81,27 @@ abbrev pub numbered : ℕ → Tree → PoolTree
 numbered next (Open block) = Leaf next Free block
 numbered next (Closed block) = Shut block
 numbered next (Split block d first second) = Fork block d (numbered next first) (numbered (next + open_leaves first) second)
+
+-- Open leaves that a part does not have are set aside: each is out with a grant of 0, and so to nobody, since a task may
+-- make a node at least.
+abbrev pub mark_for : Bool → Mark
+mark_for true = Free
+mark_for false = Out 0 0
+
+abbrev pub dealt : (ℕ → Bool) → PoolTree → PoolTree
+dealt mine (Leaf number mark block) = Leaf number (mark_for (mine number)) block
+dealt mine (Shut block) = Shut block
+dealt mine (Fork block d first second) = Fork block d (dealt mine first) (dealt mine second)
+
+-- How many open leaves are active: free, or in a worker's hand. Those that are set aside are not.
+abbrev pub active_mark : Mark → ℕ
+active_mark Free = 1
+active_mark (Out worker grant) = if grant == 0 then 0 else 1
+
+abbrev pub active_leaves : PoolTree → ℕ
+active_leaves (Leaf number mark block) = active_mark mark
+active_leaves (Shut block) = 0
+active_leaves (Fork block d first second) = active_leaves first + active_leaves second
 
 -- Every leaf that is out is free again.
 abbrev pub recalled : PoolTree → PoolTree
@@ -204,6 +225,10 @@ opening_with P shares budget tree best = record {
   rows = row_of P tree (price P best) ∷ [];
   view = record { best = best; seen = price P best; shares = shares };
 }
+
+-- The same with the leaves set aside that a part does not have.
+abbrev pub opening_part : (ℕ → Bool) → Network → ℕ → ℕ → Tree → Option (List ℕ) → Pool
+opening_part mine P shares budget tree best = record (opening_with P shares budget tree best) { tree = dealt mine (numbered 0 tree) }
 
 -- What a kept tree and a kept assignment have to be.
 pub record IsKept (P : Network) (tree : Tree) (best : Option (List ℕ)) : Type 0 where

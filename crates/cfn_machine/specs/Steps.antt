@@ -6,7 +6,7 @@ use Rattle.cfn_model.specs.declared.report.Row.{Row}
 use Rattle.cfn_model.specs.Network.{Network, IsNetwork}
 use Rattle.cfn_model.specs.Sums.{floor}
 use Rattle.cfn_model.specs.Tree.{count, open_leaves}
-use Rattle.cfn_machine.specs.Pool.{Free, Out, PoolTree, Leaf, tree_of, IsLeaf, Replaced, granted, numbered, recalled, swept, Task, Piece, IsPiece, View, Pool, cheaper, KeepsFitting, row_of}
+use Rattle.cfn_machine.specs.Pool.{Free, Out, PoolTree, Leaf, tree_of, IsLeaf, Replaced, granted, numbered, active_leaves, recalled, swept, Task, Piece, IsPiece, View, Pool, cheaper, KeepsFitting, row_of}
 
 -- A free leaf is handed out: one of least floor, the least number among those.
 pub record IsFirst (P : Network) (tree : PoolTree) (n : ℕ) (path : List Event) : Type 0 where
@@ -42,9 +42,9 @@ pub data Lack : Type 0 where
   AllOut : Lack
 
 abbrev pub HasNone : Pool → Lack → Type 0
-HasNone pool NoneOpen = open_leaves (tree_of pool.tree) ≡ 0
-HasNone pool AllSpent = (0 < open_leaves (tree_of pool.tree)) × (pool.nodes ≡ pool.budget)
-HasNone pool AllOut = (0 < open_leaves (tree_of pool.tree)) × (pool.nodes ≢ pool.budget)
+HasNone pool NoneOpen = active_leaves pool.tree ≡ 0
+HasNone pool AllSpent = (0 < active_leaves pool.tree) × (pool.nodes ≡ pool.budget)
+HasNone pool AllOut = (0 < active_leaves pool.tree) × (pool.nodes ≢ pool.budget)
     × (((n : ℕ) (path : List Event) → IsLeaf pool.tree [] n Free path → ⊥) ⊎ (pool.nodes + granted pool.tree ≡ pool.budget))
 
 -- A task's leaf is out to its worker with its grant, and has its path.

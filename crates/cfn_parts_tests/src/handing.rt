@@ -18,7 +18,7 @@ fn opened(alloc: Global, network: &Network, budget: u64) -> Result<Leaves, Alloc
 {
     network.limits();
     let tree = Tree::new(alloc)?;
-    Leaves::start(alloc, network, tree, network.ub(), budget)
+    Leaves::start(alloc, network, tree, None, network.ub(), budget)
 }
 
 /// The root's task, taken by a worker to make at most so many nodes.

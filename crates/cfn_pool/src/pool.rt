@@ -1,14 +1,16 @@
 //! The pool, how it begins and how it ends.
 
-ghost use Rattle.std.specs.Prelude.{◌≡◌, ◌<◌, ◌^◌, None, IfOk, IfErr};
+ghost use Rattle.std.specs.Prelude.{◌≡◌, ◌<◌, ◌^◌, None, IfOk, IfErr, IfSome};
 ghost use Rattle.cfn_model.specs.Tree.{count};
 ghost use Rattle.cfn_proof.specs.Nodes.{tree_of};
 ghost use Rattle.cfn_machine.specs.Pool as machine;
-ghost use Rattle.cfn_machine.specs.Pool.{IsKept, opening_pool, opening_with, price};
+ghost use Rattle.cfn_machine.specs.Pool.{IsKept, opening_part, opening_pool, price};
+ghost use Rattle.cfn_machine.specs.Parts.{IsPart, has_leaf};
 ghost use Rattle.cfn_pool.specs.Views.{pool, values_of, view_of};
 
 use cfn_leaves::Leaves;
 use cfn_low::{Holder, Incumbent};
+use cfn_machine::Part;
 use cfn_net::Network;
 use cfn_proof::{Row, Tree};
 use std::alloc::{AllocError, Global};
@@ -68,11 +70,11 @@ impl<M: Incumbent> Pool<M> {
         let Ok(tree) = Tree::new(alloc) else {
             return Err(holder);
         };
-        Pool::begin_with(alloc, network, holder, budget, tree)
+        Pool::begin_with(alloc, network, holder, budget, tree, None)
     }
 
-    /// A pool with a tree of an earlier search, whose open leaves are free, and a part of the word that has seen the price of what
-    /// it keeps. No node is made of at most `budget`, and the first row of bounds is that of the price. An `Err`, want of memory or
+    /// A pool with a tree of an earlier search, whose open leaves are free, but those that a part of a search leaves to others, which
+    /// are set aside, and a part of the word that has seen the price of what it keeps. No node is made of at most `budget`, and the first row of bounds is that of the price. An `Err`, want of memory or
     /// of a number for a floor, gives the part back.
     pub fn begin_with(
         alloc: Global,
@@ -80,16 +82,18 @@ impl<M: Incumbent> Pool<M> {
         holder: Holder<M>,
         budget: u64,
         tree: Tree,
+        part: Option<Part>,
     ) -> Result<Pool<M>, Holder<M>>
         requires own { network.now ≡ M.network }
+        requires part { IfSome part IsPart }
         requires few { count (tree_of tree) < 2 ^ 64 }
         requires kept { IsKept M.network (tree_of tree) (values_of holder.held) }
         requires seen { holder.seen ≡ price M.network (values_of holder.held) }
-        ensures pool { IfOk result (λ held. pool held ≡ opening_with M.network holder.shares budget (tree_of tree) (values_of holder.held)) }
+        ensures pool { IfOk result (λ held. pool held ≡ opening_part (has_leaf part) M.network holder.shares budget (tree_of tree) (values_of holder.held)) }
         ensures back { IfErr result (λ given. given ≡ holder) }
     {
         network.limits();
-        match Leaves::start(alloc, network, tree, holder.seen(), budget) {
+        match Leaves::start(alloc, network, tree, part, holder.seen(), budget) {
             Ok(leaves) => Ok(Pool {
                 leaves,
                 holder,

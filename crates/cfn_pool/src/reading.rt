@@ -1,6 +1,6 @@
 //! What is read of the pool.
 
-ghost use Rattle.std.specs.Prelude.{◌≡◌, ◌+◌, []};
+ghost use Rattle.std.specs.Prelude.{◌≡◌, ◌+◌, ◌≤◌, ◌^◌, []};
 ghost use Rattle.cfn_model.specs.Tree.{bound, open_leaves};
 ghost use Rattle.cfn_machine.specs.Pool as machine;
 ghost use Rattle.cfn_machine.specs.Pool.{granted};
@@ -35,9 +35,10 @@ impl<M: Incumbent> Pool<M> {
         self.leaves.nodes()
     }
 
-    /// How many leaves are open, free or out.
+    /// How many leaves are open, free or out, at most 2^32.
     pub fn open_leaves(&self) -> u64
-        ensures { result ≡ open_leaves (machine.tree_of (pool self.now).tree) }
+        ensures is { result ≡ open_leaves (machine.tree_of (pool self.now).tree) }
+        ensures few { result ≤ 2 ^ 32 }
     {
         self.leaves.open_leaves()
     }

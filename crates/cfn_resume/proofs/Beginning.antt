@@ -3,17 +3,18 @@ use Rattle.std.proofs.Common.{◌≡◌, ℕ, ◌<◌, ◌≤◌, ◌^◌, inl, 
 use Rattle.std.specs.Prelude.{IfSome}
 use Rattle.std.specs.Global.{Global}
 use Rattle.cfn_model.specs.Network.{Network, IsNetwork}
-use Rattle.cfn_model.specs.Certificate.{Certificate, Solution, threshold_of}
+use Rattle.cfn_model.specs.Certificate.{Certificate, IsBest, Solution, threshold, threshold_of}
 use Rattle.cfn_model.specs.Tree.{Tree, count}
 use Rattle.cfn_model.specs.Text.{Spells}
 use Rattle.cfn_net.specs.Scoring.{IsPriced}
 use Rattle.cfn_net.proofs.CallerLemmas.{Fits-at, Fits-length}
 use Rattle.cfn_proof.specs.Nodes.{tree_of}
+use Rattle.cfn_machine.specs.Parts.{IsPart, others_of}
 use Rattle.cfn_machine.specs.Pool.{KeepsFitting, price, row_of}
 use Rattle.cfn_pool.specs.Views.{values_of}
 use Rattle.cfn_pool.proofs.CallerLemmas.{price_is}
 use Rattle.cfn_mending.specs.Keeping.{Kept}
-use Rattle.cfn_mending.specs.Laws.{KeptIsWell}
+use Rattle.cfn_mending.specs.Laws.{IsWell, KeepsAll, KeptIsWell}
 use Rattle.cfn_certread.specs.declared.certificate.ReadCertificate.{ReadCertificate}
 use Rattle.cfn_certread.specs.Reading.{IsRead, solution_of}
 use Rattle.cfn_search.specs.declared.begin.Begin.{Begin}
@@ -49,9 +50,15 @@ fits : (P : Network) (held : Option Solution) → IsPriced P held → KeepsFitti
 fits P None priced = tt
 fits P (Some best) priced = priced.0
 
-pub begins : (P : Network) (text : List ℕ) (old : ReadCertificate) (begin : Begin) (k : ℕ) → IsNetwork P → KeptIsWell → length text < 2 ^ 64 → begin.best.network ≡ P → IsPriced P begin.best.held → IsKeptBest P (solution_of old.best) begin.best.held → k ≡ threshold_of P.upper begin.best.held → Kept P [] k (tree_of old.tree) (tree_of begin.tree) →
-    (c : Certificate) → Spells c text → IsRead c old → MayBegin P begin × Resumes P text (start_of P begin)
-begins P text old begin k network well short own priced keeps_best at keeps c spells read =
+-- a best assignment that is right is kept as it is
+same_best : (P : Network) (best kept : Option Solution) → IsKeptBest P best kept → IsBest P best → kept ≡ best
+same_best P None kept is right = is
+same_best P (Some best) kept (inl is) right = is.1 ∙ ap (λ n. Some (record { cost = n; values = best.values })) right.cost
+same_best P (Some best) kept (inr is) right = absurd (let below = right.below in let same = right.cost in is.0 (right.fits, omega (arith, below, same)))
+
+pub begins : (P : Network) (text : List ℕ) (old : ReadCertificate) (begin : Begin) (k : ℕ) → IsNetwork P → KeptIsWell → KeepsAll → length text < 2 ^ 64 → begin.best.network ≡ P → IsPriced P begin.best.held → IsKeptBest P (solution_of old.best) begin.best.held → k ≡ threshold_of P.upper begin.best.held → Kept P [] k (tree_of old.tree) (tree_of begin.tree) →
+    IfSome begin.part IsPart → (c : Certificate) → Spells c text → IsRead c old → MayBegin P begin × Resumes P begin.part text (start_of P begin)
+begins P text old begin k network well all short own priced keeps_best at keeps part c spells read =
     let held = begin.best.held in
     let kept : Kept P [] k c.tree (tree_of begin.tree) = kept_of_narrowed P network [] k c.tree (tree_of begin.tree) (subst (λ t. Kept P [] k t (tree_of begin.tree)) read.tree keeps) in
     let is_well = well P [] k c.tree (tree_of begin.tree) kept in
@@ -68,6 +75,7 @@ begins P text old begin k network well short own priced keeps_best at keeps c sp
           fits = fits P held priced;
         };
         few = omega (arith, few, short);
+        part = part;
       },
       record {
         certificate = c;
@@ -76,6 +84,11 @@ begins P text old begin k network well short own priced keeps_best at keeps c sp
         keeps_best = best;
         tree = tree_of begin.tree;
         keeps = subst (λ n. Kept P [] n c.tree (tree_of begin.tree)) at kept;
-        start_is = ap (λ n. record { begun = count (tree_of begin.tree); first = row_of P (tree_of begin.tree) n }) (sym same ∙ at);
+        whole = λ good strict tame.
+            let b = same_best P c.best held best good.best in
+            let at_best : threshold c ≡ k = ap (λ u. threshold_of u c.best) good.upper ∙ ap (threshold_of P.upper) (sym b) ∙ sym at in
+            let is : IsWell P [] k c.tree = record { valid = subst (λ n. Rattle.cfn_model.specs.Tree.Valid P [] c.tree n) at_best good.valid; strict = strict; tame = tame } in
+            (b, all P [] k c.tree (tree_of begin.tree) is kept);
+        start_is = ap (λ n. record { begun = count (tree_of begin.tree); first = row_of P (tree_of begin.tree) n; aside = others_of begin.part (tree_of begin.tree) }) (sym same ∙ at);
       },
     )

@@ -1,10 +1,12 @@
 //! A search's beginning from a certificate's text.
 
-ghost use Rattle.std.specs.Prelude.{◌≡◌, length, IfOk};
+ghost use Rattle.std.specs.Prelude.{◌≡◌, length, IfOk, IfSome};
+ghost use Rattle.cfn_machine.specs.Parts.{IsPart};
 ghost use Rattle.cfn_resume.specs.Resuming.{IsResumed, Begins};
 
 use crate::best::kept_best;
 use cfn_certread::{ReadCertificate, read};
+use cfn_machine::Part;
 use cfn_mending::laws::law_kept;
 use cfn_net::{Network, Tables};
 use cfn_rebase::keep;
@@ -23,11 +25,17 @@ pub enum Resumed {
 /// Reads the text of a certificate of an earlier state of a network, of either version, and keeps of it what holds: its best
 /// assignment, where it fits and costs less than the upper bound; and its tree, at the cost of that assignment, or at the upper
 /// bound, as far as its steps are allowed and its splits take values away. An `Err` is want of memory.
-pub fn resume(alloc: Global, network: &Network, text: &[u8]) -> Result<Resumed, AllocError>
-    ensures { IfOk result (IsResumed network.now text.now) }
+pub fn resume(
+    alloc: Global,
+    network: &Network,
+    text: &[u8],
+    part: Option<Part>,
+) -> Result<Resumed, AllocError>
+    requires { IfSome part IsPart }
+    ensures { IfOk result (IsResumed network.now part text.now) }
 {
     match read(alloc, text)? {
-        Ok(old) => Ok(Resumed::Goes(begin(alloc, network, text, &old)?)),
+        Ok(old) => Ok(Resumed::Goes(begin(alloc, network, text, &old, part)?)),
         Err(fault) => Ok(Resumed::Refused { line: fault.line }),
     }
 }
@@ -38,8 +46,10 @@ fn begin(
     network: &Network,
     text: &[u8],
     old: &ReadCertificate,
+    part: Option<Part>,
 ) -> Result<Begin, AllocError>
-    ensures { IfOk result (Begins network.now text.now old.now) }
+    requires { IfSome part IsPart }
+    ensures { IfOk result (Begins network.now part text.now old.now) }
 {
     network.limits();
     law_kept();
@@ -48,7 +58,7 @@ fn begin(
     best.priced();
     let tables = Tables::expand(alloc, network)?;
     let tree = keep(alloc, network, &tables, &old.tree, best.price())?;
-    Ok(Begin { tree, best })
+    Ok(Begin { tree, best, part })
 }
 
 /// How many bytes a text has.

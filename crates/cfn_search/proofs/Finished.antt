@@ -24,11 +24,11 @@ use Rattle.cfn_proof.specs.Certificates.{solution_of}
 use Rattle.cfn_low.specs.Holding.{Holding}
 use Rattle.cfn_pool.proofs.CallerLemmas.{price_is}
 use Rattle.cfn_machine.specs.Pool.{View, Mark, PoolTree, Leaf, Shut, Fork, tree_of, IsLeaf, Pool, IsRow, price, KeepsFitting}
+use Rattle.cfn_machine.specs.Parts.{EndsAt}
 use Rattle.cfn_machine.specs.Laws.{IsPool}
 use Rattle.cfn_low.specs.Steps.{IsCost}
 use Rattle.cfn_pool.specs.Views.{view_of, AreReached}
-use Rattle.cfn_worker.specs.Searching.{IsSearch}
-use Rattle.cfn_search.specs.Stopping.{IsLast, IsStop}
+use Rattle.cfn_search.specs.Stopping.{IsEnded, IsLast, IsStop}
 
 -- an assignment's values have a spelling
 values_spelled : (sizes values : List ℕ) → ((x : ℕ) → x < length sizes → slice_index sizes x ≤ MOST_VALUES) → Fits sizes values → AllByRecursion (λ a. a ≤ greatest) values
@@ -94,12 +94,12 @@ rows_each P c tree seen best (row ∷ rows) network fits is last lower all reach
   rows_each P c tree seen best rows network fits is last lower all.1 reached.1,
 )
 
-cause_is : (stop : Stop) (leaves nodes budget : ℕ) (timed : Bool) → nodes ≤ budget → IsStop stop leaves nodes budget timed → HasCause stop leaves nodes (timed_nodes budget timed)
-cause_is Done leaves nodes budget timed allowed why = why
-cause_is Budget leaves nodes budget timed allowed why = ((let h = why.0 in omega (arith, h)), why.1)
-cause_is Time leaves nodes budget timed allowed why = ((let h = why.0 in omega (arith, h)), (let h = why.1 in omega (arith, h, allowed)), why.2)
-cause_is Part leaves nodes budget timed allowed why = absurd why
-cause_is Memory leaves nodes budget timed allowed why = ((let h = why.0 in omega (arith, h)), (let h = why.1 in omega (arith, h, allowed)))
+cause_is : (stop : Stop) (leaves nodes budget : ℕ) (timed : Bool) (others : ℕ) → nodes ≤ budget → IsStop stop leaves nodes budget timed others → HasCause stop leaves nodes (timed_nodes budget timed) others
+cause_is Done leaves nodes budget timed others allowed why = why
+cause_is Budget leaves nodes budget timed others allowed why = ((let h = why.0 in omega (arith, h)), why.1)
+cause_is Part leaves nodes budget timed others allowed why = ((let h = why.0 in omega (arith, h)), why.2, (let h = why.1 in omega (arith, h, allowed)))
+cause_is Time leaves nodes budget timed others allowed why = (why.0, (let h = why.1 in omega (arith, h, allowed)), why.2)
+cause_is Memory leaves nodes budget timed others allowed why = (why.0, (let h = why.1 in omega (arith, h, allowed)))
 
 -- the threshold is the price of what the last part of the word keeps
 pub price_held : (P : Network) (best : Scoring) (part : Holding) (view : View) (result : Option Scoring) → best ≡ record { network = P; held = part.held } → view_of part ≡ view → view.seen ≡ price P view.best → IsPriced best.network best.held →
@@ -111,9 +111,9 @@ price_held P best part view result is same seen priced price_same =
 pub best_held : (P : Network) (best : Scoring) (part : Holding) (result : Option Scoring) → best ≡ record { network = P; held = part.held } → IsBest best.network (solution_of result) → IsBest P (solution_of result)
 best_held P best part result is solution = subst (λ (s : Scoring). IsBest s.network (solution_of result)) is solution
 
-module _ (P : Network) (pool : Pool) (network : IsNetwork P) (is : IsPool P pool) (reached : AreReached P pool.rows) (start : Start) (search : IsSearch start pool) (last : IsLast P pool) where
+module _ (P : Network) (pool : Pool) (network : IsNetwork P) (is : IsPool P pool) (reached : AreReached P pool.rows) (start : Start) (search : IsEnded start pool) (last : IsLast P pool) where
   pub searched : (c : Certificate) (stop : Stop) (timed : Bool) → c.variables ≡ length P.sizes → c.functions ≡ length P.functions → c.upper ≡ P.upper → IsBest P c.best → threshold_of P.upper c.best ≡ pool.view.seen → c.tree ≡ tree_of pool.tree → IsSpelledTree c.tree → HasTree c.version c.tree →
-      c.lower ≡ bound P [] (tree_of pool.tree) pool.view.seen → IsStop stop (open_leaves (tree_of pool.tree)) pool.nodes pool.budget timed → IsSearched P start (timed_nodes pool.budget timed) pool.nodes c pool.rows stop
+      c.lower ≡ bound P [] (tree_of pool.tree) pool.view.seen → IsStop stop (open_leaves (tree_of pool.tree)) pool.nodes pool.budget timed (length start.aside) → IsSearched P start (timed_nodes pool.budget timed) pool.nodes c pool.rows stop
   searched c stop timed variables functions upper best price_same is_tree spelled has_tree lower why =
       let k : threshold c ≡ pool.view.seen = ap (λ u. threshold_of u c.best) upper ∙ price_same in
       let b : c.lower ≡ bound P [] c.tree (threshold c) = lower ∙ ap (λ t. bound P [] t pool.view.seen) (sym is_tree) ∙ ap (bound P [] c.tree) (sym k) in
@@ -147,10 +147,11 @@ module _ (P : Network) (pool : Pool) (network : IsNetwork P) (is : IsPool P pool
         expanded = let e = ap splits is_tree in omega (arith, expanded, begun, e);
         counted = let e = ap count is_tree in omega (arith, counted, begun, e);
         allowed = omega (arith, within);
+        others = λ path there. subst (λ t. EndsAt t [] path) (sym is_tree) (search.others path there);
         rows_hold = record {
-          others = search.others;
+          others = search.rest;
           begin = search.begin;
           each = rows_each P c pool.tree pool.view.seen pool.view.best pool.rows network is.keeps price_same last.seen lower is.sound.rows reached;
         };
-        cause = subst (λ t. HasCause stop (open_leaves t) pool.nodes (timed_nodes pool.budget timed)) (sym is_tree) (cause_is stop (open_leaves (tree_of pool.tree)) pool.nodes pool.budget timed (omega (arith, within)) why);
+        cause = subst (λ t. HasCause stop (open_leaves t) pool.nodes (timed_nodes pool.budget timed) (length start.aside)) (sym is_tree) (cause_is stop (open_leaves (tree_of pool.tree)) pool.nodes pool.budget timed (length start.aside) (omega (arith, within)) why);
       }

@@ -1,21 +1,28 @@
 -- What a search begins with that goes on from an earlier one.
-use Rattle.std.specs.Prelude.{◌≡◌, ℕ, ◌<◌, ◌^◌, IfSome}
+use Rattle.std.specs.Prelude.{◌≡◌, ◌<◌, ◌^◌, IfSome}
 use Rattle.cfn_model.specs.Network.{Network}
 use Rattle.cfn_model.specs.Tree.{count}
 use Rattle.cfn_proof.specs.Nodes.{tree_of}
 use Rattle.cfn_outcome.specs.Outcome.{Start}
+use Rattle.cfn_machine.specs.Parts.{IsPart, others_of}
 use Rattle.cfn_machine.specs.Pool.{IsKept, price, row_of}
 use Rattle.cfn_pool.specs.Views.{values_of}
 use Rattle.cfn_search.specs.declared.begin.Begin.{Begin}
 
--- The tree has so many splits and closed leaves, and the first row of bounds is that of the tree at the price of what is known.
+-- The tree has so many splits and closed leaves, the first row of bounds is that of the tree at the price of what is known, and
+-- these open leaves are left to others.
 abbrev pub start_of : Network → Begin → Start
-start_of P begin = record { begun = count (tree_of begin.tree); first = row_of P (tree_of begin.tree) (price P (values_of begin.best.held)) }
+start_of P begin = record {
+  begun = count (tree_of begin.tree);
+  first = row_of P (tree_of begin.tree) (price P (values_of begin.best.held));
+  aside = others_of begin.part (tree_of begin.tree);
+}
 
 -- A search may go on from a tree that is valid, strict and has small costs at that price, and from an assignment of the network
--- below its upper bound.
+-- below its upper bound; the part that it is, if it is one, is one of its parts.
 pub record MayBegin (P : Network) (begin : Begin) : Type 0 where
   pub own : begin.best.network ≡ P
   pub below : IfSome begin.best.held (λ best. best.cost < P.upper)
   pub kept : IsKept P (tree_of begin.tree) (values_of begin.best.held)
   pub few : count (tree_of begin.tree) < 2 ^ 64
+  pub part : IfSome begin.part IsPart

@@ -1,9 +1,13 @@
 -- What holds of the pool of a search that stopped, and why it stopped.
-use Rattle.std.specs.Prelude.{◌≡◌, ◌≢◌, true, ℕ, Bool, []}
+use Rattle.std.specs.Prelude.{◌≡◌, ◌≢◌, true, ℕ, ◌<◌, ◌≤◌, Bool, List, [], ◌∷◌, Contains}
+use Rattle.cfn_model.specs.declared.report.Row.{Row}
+use Rattle.cfn_model.specs.declared.step.Event.{Event}
 use Rattle.cfn_model.specs.Network.{Network}
 use Rattle.cfn_model.specs.Tree.{OpenBelow}
 use Rattle.cfn_outcome.specs.declared.outcome.Stop.{Stop}
 use Rattle.cfn_outcome.specs.declared.outcome.Stop.TheVariants.{Done, Budget, Time, Part, Memory}
+use Rattle.cfn_outcome.specs.Outcome.{Start}
+use Rattle.cfn_machine.specs.Parts.{EndsAt}
 use Rattle.cfn_machine.specs.Pool.{Pool, tree_of, price}
 use Rattle.cfn_machine.specs.Word.{all_shares}
 
@@ -13,10 +17,17 @@ pub record IsLast (P : Network) (pool : Pool) : Type 0 where
   pub seen : pool.view.seen ≡ price P pool.view.best
   pub below : OpenBelow P [] (tree_of pool.tree) pool.view.seen
 
--- Why a search stopped, by what is tested; it leaves no leaf to others.
-abbrev pub IsStop : Stop → ℕ → ℕ → ℕ → Bool → Type 0
-IsStop Done leaves nodes budget timed = leaves ≡ 0
-IsStop Budget leaves nodes budget timed = (leaves ≢ 0) × (nodes ≡ budget)
-IsStop Time leaves nodes budget timed = (leaves ≢ 0) × (nodes ≢ budget) × (timed ≡ true)
-IsStop Part leaves nodes budget timed = ⊥
-IsStop Memory leaves nodes budget timed = (leaves ≢ 0) × (nodes ≢ budget)
+-- It began as a search begins, and each leaf that was left to others is there still, open or closed.
+pub record IsEnded (start : Start) (pool : Pool) : Type 0 where
+  pub begun_is : pool.begun ≡ start.begun
+  pub rest : List Row
+  pub begin : pool.rows ≡ start.first ∷ rest
+  pub others : (path : List Event) → Contains start.aside path → EndsAt (tree_of pool.tree) [] path
+
+-- Why a search stopped, by what is tested, where so many leaves were left to others.
+abbrev pub IsStop : Stop → ℕ → ℕ → ℕ → Bool → ℕ → Type 0
+IsStop Done leaves nodes budget timed others = leaves ≡ 0
+IsStop Budget leaves nodes budget timed others = (leaves ≢ 0) × (nodes ≡ budget)
+IsStop Part leaves nodes budget timed others = (leaves ≢ 0) × (nodes ≢ budget) × (leaves ≤ others)
+IsStop Time leaves nodes budget timed others = (others < leaves) × (nodes ≢ budget) × (timed ≡ true)
+IsStop Memory leaves nodes budget timed others = (others < leaves) × (nodes ≢ budget)

@@ -5,16 +5,18 @@ ghost use Rattle.cfn_proof.specs.Nodes.{open_node};
 ghost use Rattle.cfn_search.specs.Beginning.{MayBegin, start_of};
 ghost use Rattle.cfn_outcome.specs.Outcome.{fresh};
 
+use cfn_machine::Part;
 use cfn_net::{Network, Scored};
 use cfn_proof::Tree;
 use std::alloc::{AllocError, Global};
 
-/// What a search goes on from: a tree that is kept of an earlier one, and the best assignment that is known, in a buffer that
-/// may be empty.
+/// What a search goes on from: a tree that is kept of an earlier one, the best assignment that is known, in a buffer that may be
+/// empty, and which part of the tree's open leaves it has, where it has not all.
 #[derive(Drop)]
 pub struct Begin {
     pub tree: Tree,
     pub best: Scored,
+    pub part: Option<Part>,
 }
 
 impl Begin {
@@ -27,6 +29,7 @@ impl Begin {
         Ok(Begin {
             tree: Tree::new(alloc)?,
             best: Scored::empty(alloc, network)?,
+            part: None,
         })
     }
 }

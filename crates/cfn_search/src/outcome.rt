@@ -1,6 +1,6 @@
 //! What a search that stopped hands out.
 
-ghost use Rattle.std.specs.Prelude.{◌≡◌, ◌≤◌, ◌+◌, min, IsTrue, is_some};
+ghost use Rattle.std.specs.Prelude.{◌≡◌, ◌≤◌, ◌+◌, length, min, IsTrue, is_some};
 ghost use Rattle.std.specs.Option.{ForSome};
 ghost use Rattle.cfn_model.specs.Certificate.{IsBest, threshold, threshold_of};
 ghost use Rattle.cfn_net.specs.Scoring.{IsPriced};
@@ -9,7 +9,7 @@ ghost use Rattle.cfn_outcome.specs.Outcome.{IsOutcome, timed_nodes};
 ghost use Rattle.cfn_machine.specs.Word.{all_shares};
 ghost use Rattle.cfn_pool.specs.Views.{pool};
 ghost use Rattle.cfn_worker.specs.Searching.{IsSearch};
-ghost use Rattle.cfn_search.specs.Stopping.{IsLast, IsStop};
+ghost use Rattle.cfn_search.specs.Stopping.{IsEnded, IsLast, IsStop};
 
 use cfn_clock::Halt;
 use cfn_low::{Holder, Incumbent, Low};
@@ -34,7 +34,7 @@ pub(crate) fn meet<M: Incumbent>(low: &Low<M>, held: &mut Pool<M>, part: Holder<
 pub(crate) fn wind_up<M: Incumbent>(low: &Low<M>, held: &mut Pool<M>)
     requires search { IsSearch M.start (pool held.old) }
     requires shares { (pool held.old).view.shares ≡ all_shares }
-    ensures search { IsSearch M.start (pool held.new) }
+    ensures ended { IsEnded M.start (pool held.new) }
     ensures budget { (pool held.new).budget ≡ (pool held.old).budget }
     ensures last { IsLast M.network (pool held.new) }
     ensures falls { (pool held.new).view.seen ≤ (pool held.old).view.seen }
@@ -43,15 +43,18 @@ pub(crate) fn wind_up<M: Incumbent>(low: &Low<M>, held: &mut Pool<M>)
     held.sweep(low);
 }
 
-/// The outcome of a search that was wound up: the certificate's threshold is what the pool has seen. It takes no memory.
+/// The outcome of a search that was wound up, and that left so many leaves to others: the certificate's threshold is what the pool
+/// has seen. It takes no memory.
 pub(crate) fn conclude<M: Incumbent, H: Halt>(
     network: &Network,
     low: Low<M>,
     held: Pool<M>,
+    others: u64,
     halt: &H,
 ) -> Outcome
     requires own { network.now ≡ M.network }
-    requires search { IsSearch M.start (pool held) }
+    requires ended { IsEnded M.start (pool held) }
+    requires others { others ≡ length M.start.aside }
     requires last { IsLast M.network (pool held) }
     ensures outcome { IsOutcome network.now M.start (timed_nodes (pool held).budget (H.limited halt.now)) result }
     ensures threshold { threshold (certificate_of result.certificate) ≡ (pool held).view.seen }
@@ -59,7 +62,8 @@ pub(crate) fn conclude<M: Incumbent, H: Halt>(
     network.limits();
     held.kept();
     let lower = held.bound();
-    let stop = stop_of(held.open_leaves(), held.nodes(), held.budget(), halt);
+    let leaves = held.open_leaves();
+    let stop = stop_of(leaves, held.nodes(), held.budget(), others, halt);
     let finished = held.finish();
     finished.tree.linked();
     let (best, _) = low.end(finished.holder);
@@ -78,15 +82,18 @@ pub(crate) fn conclude<M: Incumbent, H: Halt>(
     }
 }
 
-/// Why a search stopped: where leaves are open and nodes are left, time is past, or else memory was refused.
-fn stop_of<H: Halt>(leaves: u64, nodes: u64, budget: u64, halt: &H) -> Stop
-    ensures { IsStop result leaves nodes budget (H.limited halt.now) }
+/// Why a search stopped: where leaves are open and nodes are left, they are others', or time is past, or else memory was refused.
+fn stop_of<H: Halt>(leaves: u64, nodes: u64, budget: u64, others: u64, halt: &H) -> Stop
+    ensures { IsStop result leaves nodes budget (H.limited halt.now) others }
 {
     if leaves == 0 {
         return Stop::Done;
     }
     if nodes == budget {
         return Stop::Budget;
+    }
+    if leaves <= others {
+        return Stop::Part;
     }
     match halt.past() {
         Some(_) => Stop::Time,

@@ -1,12 +1,14 @@
 //! The search, and one dive of it.
 
-ghost use Rattle.std.specs.Prelude.{◌≡◌, ◌+◌, ◌<◌, ◌≤◌, ◌^◌, None, IfOk, IfSome};
-ghost use Rattle.cfn_model.specs.Tree.{count};
+ghost use Rattle.std.specs.Prelude.{◌≡◌, ◌+◌, ◌<◌, ◌≤◌, ◌^◌, length, None, IfOk, IfSome};
+ghost use Rattle.cfn_model.specs.Tree.{count, open_leaves};
 ghost use Rattle.cfn_model.specs.declared.limits.TheConstants.{GREATEST};
 ghost use Rattle.cfn_model.specs.Certificate.{threshold};
 ghost use Rattle.cfn_proof.specs.Certificates.{certificate_of};
 ghost use Rattle.cfn_proof.specs.Nodes.{tree_of};
 ghost use Rattle.cfn_outcome.specs.Outcome.{IsOutcome, fresh, nodes_alone, timed_nodes};
+ghost use Rattle.cfn_machine.specs.Parts.{IsPart, has_leaf, others_among, others_of};
+ghost use Rattle.cfn_machine.specs.Pool as machine;
 ghost use Rattle.cfn_machine.specs.Pool.{IsKept, price, row_of};
 ghost use Rattle.cfn_machine.specs.Word.{all_shares};
 ghost use Rattle.cfn_pool.specs.Views.{pool, values_of};
@@ -20,6 +22,8 @@ use cfn_clock::{Halt, Never};
 use cfn_explore::{Explore, Explorers, Problem};
 use cfn_gate::{Gate, OpenGate};
 use cfn_low::{Holder, Incumbent, Low, Unnamed};
+use cfn_machine::Part;
+use cfn_machine::laws::parts;
 use cfn_net::{Network, Scored};
 use cfn_outcome::Outcome;
 use cfn_pool::Pool;
@@ -99,10 +103,10 @@ fn search<M: Incumbent, X: Explorers, G: Gate, H: Halt>(
     ensures least { IfOk result (λ found. threshold (certificate_of found.0.certificate) ≤ found.1) }
 {
     let (low, mut holder) = unnamed.named::<M>();
-    let Begin { tree, best } = begin;
+    let Begin { tree, best, part } = begin;
     know(&low, &mut holder, &best);
     let mut account = Account::open(low.split(&mut holder, empty));
-    let mut held = open(alloc, network, &low, holder, tree, budget)?;
+    let (mut held, others) = open(alloc, network, &low, holder, tree, part, budget)?;
     work(
         alloc,
         network,
@@ -113,7 +117,7 @@ fn search<M: Incumbent, X: Explorers, G: Gate, H: Halt>(
         gate,
         halt,
     );
-    Ok(ended(network, low, held, account, halt))
+    Ok(ended(network, low, held, others, account, halt))
 }
 
 /// Lets all of the word know an assignment: its price is seen then. It takes no memory.
@@ -131,31 +135,48 @@ pub(crate) fn know<M: Incumbent>(low: &Low<M>, holder: &mut Holder<M>, best: &Sc
     low.look(holder);
 }
 
-/// A pool at the beginning of a search, with a tree and a part of the word that has seen the price of what it keeps. An `Err` is
-/// want of memory.
+/// A pool at the beginning of a search, with a tree, of which a part of a search has not all open leaves, and a part of the word that
+/// has seen the price of what it keeps; and how many leaves are left to others. An `Err` is want of memory.
 pub(crate) fn open<M: Incumbent>(
     alloc: Global,
     network: &Network,
     low: &Low<M>,
     holder: Holder<M>,
     tree: Tree,
+    part: Option<Part>,
     budget: u64,
-) -> Result<Pool<M>, AllocError>
+) -> Result<(Pool<M>, u64), AllocError>
     requires own { network.now ≡ M.network }
+    requires part { IfSome part IsPart }
     requires few { count (tree_of tree) < 2 ^ 64 }
     requires kept { IsKept M.network (tree_of tree) (values_of holder.held) }
     requires seen { holder.seen ≡ price M.network (values_of holder.held) }
     requires begun { M.start.begun ≡ count (tree_of tree) }
     requires first { M.start.first ≡ row_of M.network (tree_of tree) (price M.network (values_of holder.held)) }
-    ensures search { IfOk result (λ held. IsSearch M.start (pool held)) }
-    ensures budget { IfOk result (λ held. (pool held).budget ≡ budget) }
-    ensures shares { IfOk result (λ held. (pool held).view.shares ≡ holder.shares) }
+    requires aside { M.start.aside ≡ others_of part (tree_of tree) }
+    ensures search { IfOk result (λ made. IsSearch M.start (pool made.0)) }
+    ensures budget { IfOk result (λ made. (pool made.0).budget ≡ budget) }
+    ensures shares { IfOk result (λ made. (pool made.0).view.shares ≡ holder.shares) }
+    ensures others { IfOk result (λ made. made.1 ≡ length M.start.aside) }
 {
-    let Ok(mut held) = Pool::begin_with(alloc, network, holder, budget, tree) else {
+    parts();
+    let Ok(mut held) = Pool::begin_with(alloc, network, holder, budget, tree, part) else {
         return Err(AllocError);
     };
+    let others = others_among(part, &held);
     sweep(low, &mut held);
-    Ok(held)
+    Ok((held, others))
+}
+
+/// How many of a pool's open leaves, by their numbers, a part leaves to others.
+fn others_among<M: Incumbent>(part: Option<Part>, held: &Pool<M>) -> u64
+    requires part { IfSome part IsPart }
+    ensures { result ≡ others_among (has_leaf part) 0 (open_leaves (machine.tree_of (pool held.now).tree)) }
+{
+    match part {
+        Some(part) => part.others_among(held.open_leaves()),
+        None => 0,
+    }
 }
 
 /// The outcome of a search once its one worker has ended, and the least threshold at which that made a piece.
@@ -163,10 +184,12 @@ fn ended<M: Incumbent, H: Halt>(
     network: &Network,
     low: Low<M>,
     mut held: Pool<M>,
+    others: u64,
     account: Account<M>,
     halt: &H,
 ) -> (Outcome, Threshold)
     requires own { network.now ≡ M.network }
+    requires others { others ≡ length M.start.aside }
     requires search { IsSearch M.start (pool held) }
     requires shares { (pool held).view.shares + account.part.shares ≡ all_shares }
     ensures outcome { IsOutcome network.now M.start (timed_nodes (pool held).budget (H.limited halt.now)) result.0 }
@@ -177,7 +200,7 @@ fn ended<M: Incumbent, H: Halt>(
     let (part, threshold) = account.close();
     meet(&low, &mut held, part);
     wind_up(&low, &mut held);
-    (conclude(network, low, held, halt), threshold)
+    (conclude(network, low, held, others, halt), threshold)
 }
 
 /// Makes its explorer, and dives until there is no leaf to take, memory is refused, be it for the explorer, or `halt` is past.

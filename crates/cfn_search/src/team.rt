@@ -165,17 +165,17 @@ fn search<
 {
     let thresholds = Vec::with_capacity(alloc, workers as usize)?;
     let (low, mut holder) = unnamed.named::<M>();
-    let Begin { tree, best } = begin;
+    let Begin { tree, best, part } = begin;
     know(&low, &mut holder, &best);
     let (parts, ends) = supplies(alloc, network, &low, &mut holder, workers)?;
     let crew: Vec<Worker<M>> = Vec::with_capacity(alloc, workers as usize)?;
-    let Ok(held) = open(alloc, network, &low, holder, tree, budget) else {
+    let Ok((held, others)) = open(alloc, network, &low, holder, tree, part, budget) else {
         crew.destroy_empty();
         return Err(AllocError);
     };
     let crew = start_workers(crew, parts, ends);
     let (held, crew) = run(rt, alloc, network, explorers, &low, held, crew, gate, halt);
-    Ok(end_all(network, low, held, crew, thresholds, halt))
+    Ok(end_all(network, low, held, others, crew, thresholds, halt))
 }
 
 /// The pool and the workers once there is no leaf to take.
@@ -213,11 +213,13 @@ fn end_all<M: Incumbent, H: Halt>(
     network: &Network,
     low: Low<M>,
     mut held: Pool<M>,
+    others: u64,
     crew: Vec<Worker<M>>,
     thresholds: Vec<Threshold>,
     halt: &H,
 ) -> Teamwork
     requires own { network.now ≡ M.network }
+    requires others { others ≡ length M.start.aside }
     requires search { IsSearch M.start (pool held) }
     requires shares { (pool held).view.shares + length crew.items ≡ all_shares }
     requires all { AreAll (map reach crew.items) }
@@ -230,7 +232,7 @@ fn end_all<M: Incumbent, H: Halt>(
 {
     let thresholds = end_workers(&low, &mut held, crew, thresholds);
     wind_up(&low, &mut held);
-    let outcome = conclude(network, low, held, halt);
+    let outcome = conclude(network, low, held, others, halt);
     Teamwork {
         outcome,
         thresholds,

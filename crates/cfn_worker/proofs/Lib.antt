@@ -1,3 +1,4 @@
 pub mod Crossing
 pub mod Noted
+pub mod Keeping
 pub mod CallerLemmas

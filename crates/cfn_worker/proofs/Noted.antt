@@ -11,7 +11,7 @@ use Rattle.cfn_worker.specs.Searching.{IsSearch, GoesOn}
 goes_by : (start : Start) (pool : Pool) (a b : Bool) (row : Row) → IsSearch start pool → GoesOn start pool (if a then (if b then pool else record pool { rows = pool.rows ++ row ∷ [] }) else pool)
 goes_by start pool true true row search = record { search = search; budget_is = refl; shares_are = refl; falls = le_refl pool.view.seen }
 goes_by start pool true false row search = record {
-  search = record { begun_is = search.begun_is; others = search.others ++ row ∷ []; begin = ap (λ (rows : List Row). rows ++ row ∷ []) search.begin };
+  search = record { begun_is = search.begun_is; others = search.others ++ row ∷ []; begin = ap (λ (rows : List Row). rows ++ row ∷ []) search.begin; aside = search.aside };
   budget_is = refl;
   shares_are = refl;
   falls = le_refl pool.view.seen;

@@ -1,11 +1,13 @@
 -- What holds of the pool of a search.
-use Rattle.std.specs.Prelude.{◌≡◌, ℕ, ◌<◌, ◌≤◌, ◌⊎◌, Bool, List, ◌∷◌}
+use Rattle.std.specs.Prelude.{◌≡◌, ℕ, ◌<◌, ◌≤◌, ◌⊎◌, Bool, List, ◌∷◌, Contains}
 use Rattle.cfn_model.specs.declared.report.Row.{Row}
+use Rattle.cfn_model.specs.declared.step.Event.{Event}
 use Rattle.cfn_model.specs.Network.{Network}
 use Rattle.cfn_outcome.specs.Outcome.{Start}
 use Rattle.cfn_task.specs.Values.{TaskValue, PieceValue}
 use Rattle.cfn_pool.specs.Answers.{IsGiven, NotesOrWaits, Sweeps}
 use Rattle.cfn_explore.specs.Exploring.{Keeping, IsPieceOf}
+use Rattle.cfn_machine.specs.Parts.{IsAside}
 use Rattle.cfn_machine.specs.Pool.{Pool, Task}
 use Rattle.cfn_machine.specs.Steps.{PoolTakes, PoolReturns, IsOut, IsNotOut, HasNone, NoneOpen, AllSpent, AllOut}
 use Rattle.cfn_pool.specs.Views.{Held, pool}
@@ -14,11 +16,12 @@ use Rattle.cfn_worker.specs.declared.steps.Asked.TheVariants as asked
 use Rattle.cfn_worker.specs.declared.hand.Unplaced.{Unplaced}
 use Rattle.cfn_worker.specs.declared.hand.Unplaced.TheVariants.{Late, Memory}
 
--- It began as a search begins.
+-- It began as a search begins, and the leaves that it leaves to others are set aside.
 pub record IsSearch (start : Start) (pool : Pool) : Type 0 where
   pub begun_is : pool.begun ≡ start.begun
   pub others : List Row
   pub begin : pool.rows ≡ start.first ∷ others
+  pub aside : (path : List Event) → Contains start.aside path → IsAside pool.tree path
 
 -- From one pool of a search to another: the budget and the shares of the word stay, and what was seen never rises.
 pub record GoesOn (start : Start) (old new : Pool) : Type 0 where

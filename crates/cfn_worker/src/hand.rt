@@ -92,6 +92,8 @@ impl InHand {
         ensures goes { GoesOn M.start (pool held.old) (pool held.new) }
     {
         let InHand { task } = self;
+        held.kept();
+        task.kept();
         held.back(&task);
     }
 }
@@ -141,7 +143,9 @@ impl Made {
         ensures account { account.new ≡ account.old }
     {
         let Made { piece } = self;
+        held.kept();
         piece.kept();
+        piece.task().kept();
         let note = account.note(low);
         match held.give(low, piece, note) {
             Handed::Done => Ok(()),

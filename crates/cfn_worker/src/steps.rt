@@ -39,6 +39,7 @@ pub fn take<M: Incumbent>(network: &Network, held: &mut Pool<M>, worker: u32, wa
     ensures nodes { (pool held.new).nodes ≡ (pool held.old).nodes }
     ensures asks { Asks M.network held.old worker want result held.new }
 {
+    held.kept();
     match held.take(network, worker, want) {
         Taken::Given { task } => Asked::Task {
             task: InHand::of(task),
@@ -118,6 +119,7 @@ pub fn sweep<M: Incumbent>(low: &Low<M>, held: &mut Pool<M>)
     ensures goes { GoesOn M.start (pool held.old) (pool held.new) }
     ensures nodes { (pool held.new).nodes ≡ (pool held.old).nodes }
 {
+    held.kept();
     held.sweep(low);
 }
 

@@ -1,5 +1,6 @@
 use Rattle.cfn_machine.proofs.Keeping.{keeps_rows, opens, opens_with, keeps_sound, keeps, holds}
 use Rattle.cfn_machine.proofs.Numbering.{keeps_numbered}
+use Rattle.cfn_machine.proofs.Parting.{opens_part}
 use Rattle.cfn_machine.proofs.laws.every_step.Goals as goal
 
 pub returns-clause-opens : goal.returns-clause-opens
@@ -22,3 +23,6 @@ returns-clause-opens_with c = opens_with
 
 pub returns-clause-rows : goal.returns-clause-rows
 returns-clause-rows c = keeps_rows
+
+pub returns-clause-opens_part : goal.returns-clause-opens_part
+returns-clause-opens_part c = opens_part

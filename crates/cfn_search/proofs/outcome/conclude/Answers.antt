@@ -41,7 +41,7 @@ returns-clause-outcome g c =
     subst (λ (Q : Network). IsSearched Q g.M.Incumbent.start limits finished.nodes certificate finished.rows.items c.stop_of-stop.result) (sym c.requires.own)
     (subst (λ (rows : List Row). IsSearched P g.M.Incumbent.start limits finished.nodes certificate rows c.stop_of-stop.result) (sym c.finish-finished.ensures.rows)
     (subst (λ (n : ℕ). IsSearched P g.M.Incumbent.start limits n certificate held.rows c.stop_of-stop.result) (sym c.finish-finished.ensures.nodes)
-    (searched P held network c.kept.ensures.pool c.kept.ensures.rows g.M.Incumbent.start c.requires.search c.requires.last certificate c.stop_of-stop.result timed
+    (searched P held network c.kept.ensures.pool c.kept.ensures.rows g.M.Incumbent.start c.requires.ended c.requires.last certificate c.stop_of-stop.result timed
     (c.variables.ensures ∙ ap (λ (Q : Network). Rattle.std.proofs.Common.length Q.sizes) c.requires.own)
     (c.functions.ensures ∙ ap (λ (Q : Network). Rattle.std.proofs.Common.length Q.functions) c.requires.own)
     (c.ub.ensures ∙ ap (λ (Q : Network). Q.upper) c.requires.own)
@@ -51,9 +51,10 @@ returns-clause-outcome g c =
     (spelled_law finished.tree c.linked.ensures)
     (lines_law finished.tree)
     c.bound-lower.ensures
-    (subst (λ (b : ℕ). IsStop c.stop_of-stop.result (open_leaves (tree_of held.tree)) held.nodes b timed) c.budget.ensures
-    (subst (λ (n : ℕ). IsStop c.stop_of-stop.result (open_leaves (tree_of held.tree)) n c.budget.result timed) c.nodes.ensures
-    (subst (λ (l : ℕ). IsStop c.stop_of-stop.result l c.nodes.result c.budget.result timed) c.open_leaves.ensures c.stop_of-stop.ensures))))))
+    (subst (IsStop c.stop_of-stop.result (open_leaves (tree_of held.tree)) held.nodes held.budget timed) c.requires.others
+    (subst (λ (b : ℕ). IsStop c.stop_of-stop.result (open_leaves (tree_of held.tree)) held.nodes b timed c.args.others) c.budget.ensures
+    (subst (λ (n : ℕ). IsStop c.stop_of-stop.result (open_leaves (tree_of held.tree)) n c.budget.result timed c.args.others) c.nodes.ensures
+    (subst (λ (l : ℕ). IsStop c.stop_of-stop.result l c.nodes.result c.budget.result timed c.args.others) c.open_leaves-leaves.ensures.is c.stop_of-stop.ensures)))))))
 
 -- the threshold is what the pool has seen
 pub returns-clause-threshold : goal.returns-clause-threshold

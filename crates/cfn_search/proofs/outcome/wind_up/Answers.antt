@@ -1,6 +1,7 @@
 use Rattle.std.proofs.Common.{◌≡◌, ◌∙◌, sym, ap, subst, arith, []}
-use Rattle.cfn_machine.specs.Pool.{Pool, Out, IsLeaf}
-use Rattle.cfn_machine.proofs.CallerLemmas.{recalled_free, sweeps_all}
+use Rattle.cfn_machine.specs.Parts.{EndsAt}
+use Rattle.cfn_machine.specs.Pool.{Pool, Out, IsLeaf, tree_of, recalled, swept}
+use Rattle.cfn_machine.proofs.CallerLemmas.{ends_others, recalled_free, sweeps_all}
 use Rattle.cfn_pool.specs.Views.{pool}
 use Rattle.cfn_search.proofs.outcome.wind_up.Goals as goal
 
@@ -28,3 +29,20 @@ returns-clause-falls g c =
     let before = ap (λ (p : Pool). p.view.seen) c.recall.ensures in
     let falls = sweeps.falls in
     omega (arith, seen, falls, before)
+
+-- the leaves that were left to others are there still
+pub returns-clause-ended : goal.returns-clause-ended
+returns-clause-ended g c =
+    let P = g.M.Incumbent.network in
+    let old = pool c.args.held.now in
+    let between = pool c.recall.new.self in
+    let new = pool c.sweep.new.self in
+    let search = c.requires.search in
+    let sweeps = c.sweep.ensures in
+    let tree_is : new.tree ≡ swept P sweeps.word (recalled old.tree) [] = ap (λ (p : Pool). p.tree) sweeps.sweeps ∙ ap (λ (p : Pool). swept P sweeps.word p.tree []) c.recall.ensures in
+    record {
+      begun_is = ap (λ (p : Pool). p.begun) sweeps.sweeps ∙ ap (λ (p : Pool). p.begun) c.recall.ensures ∙ search.begun_is;
+      rest = search.others;
+      begin = ap (λ (p : Pool). p.rows) sweeps.sweeps ∙ ap (λ (p : Pool). p.rows) c.recall.ensures ∙ search.begin;
+      others = λ path there. subst (λ t. EndsAt (tree_of t) [] path) (sym tree_is) (ends_others P sweeps.word old.tree path (search.aside path there));
+    }

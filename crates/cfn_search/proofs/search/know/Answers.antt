@@ -1,4 +1,4 @@
-use Rattle.std.proofs.Common.{◌≡◌, ◌∙◌, sym, ap, subst, Option}
+use Rattle.std.proofs.Common.{◌∙◌, sym, ap, subst, Option}
 use Rattle.cfn_model.specs.Certificate.{Solution, threshold_of}
 use Rattle.cfn_net.specs.Scoring.{IsPriced}
 use Rattle.cfn_low.specs.Holding.{Holding, kept}

@@ -3,7 +3,8 @@ use Rattle.cfn_model.specs.Network.{Network}
 use Rattle.cfn_proof.specs.declared.tree.Node.{Node}
 use Rattle.cfn_proof.specs.Nodes.{tree_of, open_node}
 use Rattle.cfn_net.specs.Scoring.{Scoring}
-use Rattle.cfn_machine.specs.Pool.{opening_with, opening_pool, new_view}
+use Rattle.cfn_machine.specs.Pool.{opening_part, opening_pool, new_view}
+use Rattle.cfn_machine.specs.Parts.{has_leaf}
 use Rattle.cfn_leaves.specs.Value.{Holding as Leaves, pool_of}
 use Rattle.cfn_core.specs.World.{opening}
 use Rattle.cfn_core.specs.Machine.{Machine, found_of, seat_of, world_of}
@@ -12,9 +13,9 @@ use Rattle.cfn_core.proofs.world.World.start.Goals as goal
 
 -- one open leaf, and nothing found
 opened : (P : Network) (leaves : Leaves) (nodes : List Node) (held : Option (List ℕ)) (shares budget top seen : ℕ) → nodes ≡ open_node None ∷ [] → held ≡ None → seen ≡ top →
-    pool_of leaves (record { best = None; seen = top; shares = shares }) ≡ opening_with P shares budget (tree_of nodes) None → pool_of leaves (record { best = held; seen = seen; shares = shares }) ≡ opening_pool P shares budget
+    pool_of leaves (record { best = None; seen = top; shares = shares }) ≡ opening_part (has_leaf None) P shares budget (tree_of nodes) None → pool_of leaves (record { best = held; seen = seen; shares = shares }) ≡ opening_pool P shares budget
 opened P leaves nodes held shares budget top seen one none same is =
-    ap₂ (λ h (s : ℕ). pool_of leaves (record { best = h; seen = s; shares = shares })) none same ∙ is ∙ ap (λ ns. opening_with P shares budget (tree_of ns) None) one
+    ap₂ (λ h (s : ℕ). pool_of leaves (record { best = h; seen = s; shares = shares })) none same ∙ is ∙ ap (λ ns. opening_part (has_leaf None) P shares budget (tree_of ns) None) one
 
 same_world : (m : Machine) (P : Network) (workers budget : ℕ) → pool_of m.leaves m.view ≡ opening_pool P (127 - workers) budget → m.word ≡ P.upper → m.views ≡ replicate (workers + 1) (Some (new_view P 1)) → m.notes ≡ [] → m.hands ≡ [] → world_of m ≡ opening P workers budget
 same_world m P workers budget pool word views notes hands = cc

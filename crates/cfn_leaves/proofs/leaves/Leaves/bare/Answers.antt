@@ -1,7 +1,8 @@
 use Rattle.std.proofs.Common.{◌≡◌, ◌∙◌, [], ap, sym, subst, refl, arith, length, map, All, ◌++◌, vec_capacity}
 use Rattle.cfn_model.specs.Sums.{floor}
 use Rattle.cfn_leaves.specs.Standing.{marked}
-use Rattle.cfn_leaves.specs.Listed.{IsListed}
+use Rattle.cfn_leaves.specs.Listed.{IsListed, outs}
+use Rattle.cfn_leaves.proofs.Grafting.{outs_behind}
 use Rattle.cfn_leaves.specs.Walked.{spots_of}
 use Rattle.cfn_leaves.specs.Placed.{placed, FitsPlace}
 use Rattle.cfn_leaves.proofs.Opened.{root_fits, nothing_listed, opened, all_kept}
@@ -47,4 +48,5 @@ returns c =
       begun = c.in_ok-walk.ensures.made;
       nodes = refl;
       rows = c.in_ok-with_capacity.ensures.items;
+      none_out = ap outs table ∙ outs_behind [] 0 1 c.deref.result.now;
     }

@@ -1,6 +1,6 @@
-use Rattle.std.proofs.Common.{◌≡◌, ◌<◌, ◌+◌, ◌-◌, ◌∙◌, ap, sym, subst, refl, inl, arith, Some}
-use Rattle.cfn_machine.specs.Pool.{IsTask, tree_of, Task}
-use Rattle.cfn_model.specs.Tree.{open_leaves}
+use Rattle.std.proofs.Common.{◌≡◌, ◌<◌, ◌+◌, ◌-◌, ◌∙◌, ap, sym, subst, refl, inl, inr, arith, Some, true≢false}
+use Rattle.std.proofs.lemmas.Bool.{cases_eq}
+use Rattle.cfn_machine.specs.Pool.{IsTask, Task, active_leaves}
 use Rattle.cfn_machine.specs.Steps.{PoolTakes}
 use Rattle.cfn_leaves.specs.Standing.{entry_at}
 use Rattle.cfn_leaves.specs.Value.{Holding, pool_tree, pool_of}
@@ -15,7 +15,10 @@ pub returns-in_default-clause-takes : goal.returns-in_default-clause-takes
 returns-in_default-clause-takes c =
     let m = value c.self.inside in
     let inside = c.self.invariant in
-    let some : 0 < open_leaves (tree_of (pool_tree m)) = omega (arith, inside.body.opened, c.if-self-eq0.false) in
+    let some : 0 < active_leaves (pool_tree m) = elim (cases_eq (active_leaves (pool_tree m)) 0) [
+      | inl none ↦ absurd (true≢false (sym (c.has_none_active.ensures.1 (subst (λ (h : Holding). active_leaves (pool_tree h) ≡ 0) c.self.view_is none)) ∙ c.if-has_none_active.false))
+      | inr other ↦ omega (arith, other)
+    ] in
     subst (λ (old : Holding). Takes old c.args.worker c.args.want Again old) c.self.view_is
     (refl, λ view. (some, c.if-self.false, inl (none_free m.network (body c.self.inside) (pool_tree m) c.same_before.ensures.once inside.body c.in_default.ensures)))
 

@@ -5,7 +5,8 @@ use Rattle.cfn_model.specs.Certificate.{Solution}
 use Rattle.cfn_model.specs.Tree.{Open, count}
 use Rattle.cfn_proof.specs.Nodes.{tree_of, open_node}
 use Rattle.cfn_proof.specs.declared.tree.Node.{Node}
-use Rattle.cfn_machine.specs.Pool.{IsKept, opening_with, price}
+use Rattle.cfn_machine.specs.Pool.{IsKept, opening_part, price}
+use Rattle.cfn_machine.specs.Parts.{has_leaf}
 use Rattle.cfn_machine.proofs.CallerLemmas.{opening_small}
 use Rattle.cfn_pool.specs.Views.{Held, pool, values_of}
 use Rattle.cfn_pool.proofs.pool.Pool.begin.Goals as goal
@@ -28,5 +29,5 @@ begin_with-requires-clause-seen g c = c.requires.seen ∙ sym (ap (λ (h : Optio
 
 pub returns-clause-pool : goal.returns-clause-pool
 returns-clause-pool g c =
-    subst (λ (h : Option Solution). IfOk c.begin_with.result (λ (held : Held). pool held ≡ opening_with g.M.Incumbent.network c.args.holder.shares c.args.budget (Open []) (values_of h))) c.requires.none
-    (subst (λ (ns : List Node). IfOk c.begin_with.result (λ (held : Held). pool held ≡ opening_with g.M.Incumbent.network c.args.holder.shares c.args.budget (tree_of ns) (values_of c.args.holder.held))) c.in-Ok.ensures c.begin_with.ensures.pool)
+    subst (λ (h : Option Solution). IfOk c.begin_with.result (λ (held : Held). pool held ≡ opening_part (has_leaf None) g.M.Incumbent.network c.args.holder.shares c.args.budget (Open []) (values_of h))) c.requires.none
+    (subst (λ (ns : List Node). IfOk c.begin_with.result (λ (held : Held). pool held ≡ opening_part (has_leaf None) g.M.Incumbent.network c.args.holder.shares c.args.budget (tree_of ns) (values_of c.args.holder.held))) c.in-Ok.ensures c.begin_with.ensures.pool)
