@@ -1,5 +1,5 @@
 -- Each result of a search comes exactly with its cause.
-use Rattle.std.proofs.Common.{◌≡◌, true, false, ℕ, ◌<◌, inl, inr, List, [], ◌∷◌, refl, sym, ap, ◌∙◌, subst, arith}
+use Rattle.std.proofs.Common.{◌≡◌, true, false, ℕ, ◌<◌, inl, inr, ◌≤◌, List, [], ◌∷◌, length, refl, sym, ap, ◌∙◌, subst, arith}
 use Rattle.std.proofs.lemmas.Bool.{cases_eq}
 use Rattle.std.specs.Prelude.{Bool, Option, Some, None, IsSomeAnd, IsTrue, is_some}
 use Rattle.cfn_net.specs.Scoring.{Scoring}
@@ -53,25 +53,25 @@ not_both b off on = false_true (sym off ∙ on)
     false_true e = cc
 
 -- the causes by the best, where all leaves are closed, and where one is open
-module _ (limits : Limits) (nodes : ℕ) (c : Certificate) where
-  done : (best : Option Solution) → c.best ≡ best → open_leaves c.tree ≡ 0 → c.lower ≡ threshold_of c.upper best → HasCauses limits nodes c (word_when_done best)
+module _ (limits : Limits) (others nodes : ℕ) (c : Certificate) where
+  done : (best : Option Solution) → c.best ≡ best → open_leaves c.tree ≡ 0 → c.lower ≡ threshold_of c.upper best → HasCauses limits others nodes c (word_when_done best)
   done None is none lower = record {
     optimum = (λ e. absurd (omega (arith, ap place e)), λ has. absurd (let h : ⊥ = subst (λ b. IsSomeAnd b (λ best. c.lower ≡ best.cost)) is has in h));
     none = (λ e. (is, lower), λ has. refl);
     budget_spent = (λ e. absurd (omega (arith, ap place e)), λ cause. absurd (omega (arith, cause.0)));
+    left_to_others = (λ e. absurd (omega (arith, ap place e)), λ cause. absurd (omega (arith, cause.0)));
     time_past = λ e. absurd (omega (arith, ap place e));
-    left_to_others = λ e. absurd (omega (arith, ap place e));
     memory_refused = λ e. absurd (omega (arith, ap place e));
-    memory_alone = λ untimed whole some fewer. absurd (omega (arith, some));
+    memory_alone = λ untimed more fewer. absurd (omega (arith, more));
   }
   done (Some b) is none lower = record {
     optimum = (λ e. subst (λ o. IsSomeAnd o (λ best. c.lower ≡ best.cost)) (sym is) lower, λ has. refl);
     none = (λ e. absurd (omega (arith, ap place e)), λ has. absurd (some_none (sym is ∙ has.0)));
     budget_spent = (λ e. absurd (omega (arith, ap place e)), λ cause. absurd (omega (arith, cause.0)));
+    left_to_others = (λ e. absurd (omega (arith, ap place e)), λ cause. absurd (omega (arith, cause.0)));
     time_past = λ e. absurd (omega (arith, ap place e));
-    left_to_others = λ e. absurd (omega (arith, ap place e));
     memory_refused = λ e. absurd (omega (arith, ap place e));
-    memory_alone = λ untimed whole some fewer. absurd (omega (arith, some));
+    memory_alone = λ untimed more fewer. absurd (omega (arith, more));
   }
     where
       some_none : Some b ≡ None → ⊥
@@ -84,48 +84,48 @@ module _ (limits : Limits) (nodes : ℕ) (c : Certificate) where
   no_none : c.lower < threshold c → HasNone c → ⊥
   no_none lower has = let k : threshold c ≡ c.upper = ap (threshold_of c.upper) has.0 in omega (arith, k, has.1)
 
-  spent : c.lower < threshold c → 0 < open_leaves c.tree → nodes ≡ limits.budget → HasCauses limits nodes c words.Budget
+  spent : c.lower < threshold c → 0 < open_leaves c.tree → nodes ≡ limits.budget → HasCauses limits others nodes c words.Budget
   spent lower some same = record {
     optimum = (λ e. absurd (omega (arith, ap place e)), λ has. absurd (no_optimum c.best refl lower has));
     none = (λ e. absurd (omega (arith, ap place e)), λ has. absurd (no_none lower has));
     budget_spent = (λ e. (some, same), λ cause. refl);
+    left_to_others = (λ e. absurd (omega (arith, ap place e)), λ cause. absurd (omega (arith, same, cause.2)));
     time_past = λ e. absurd (omega (arith, ap place e));
-    left_to_others = λ e. absurd (omega (arith, ap place e));
     memory_refused = λ e. absurd (omega (arith, ap place e));
-    memory_alone = λ untimed whole more fewer. absurd (omega (arith, same, fewer));
+    memory_alone = λ untimed more fewer. absurd (omega (arith, same, fewer));
   }
 
-  past : c.lower < threshold c → 0 < open_leaves c.tree → nodes < limits.budget → limits.timed ≡ true → HasCauses limits nodes c words.Time
-  past lower some fewer timed = record {
+  left : c.lower < threshold c → 0 < open_leaves c.tree → open_leaves c.tree ≤ others → nodes < limits.budget → HasCauses limits others nodes c words.Part
+  left lower some few fewer = record {
     optimum = (λ e. absurd (omega (arith, ap place e)), λ has. absurd (no_optimum c.best refl lower has));
     none = (λ e. absurd (omega (arith, ap place e)), λ has. absurd (no_none lower has));
     budget_spent = (λ e. absurd (omega (arith, ap place e)), λ cause. absurd (omega (arith, fewer, cause.1)));
-    time_past = λ e. (timed, some, fewer);
-    left_to_others = λ e. absurd (omega (arith, ap place e));
+    left_to_others = (λ e. (some, few, fewer), λ cause. refl);
+    time_past = λ e. absurd (omega (arith, ap place e));
     memory_refused = λ e. absurd (omega (arith, ap place e));
-    memory_alone = λ untimed whole more less. absurd (not_both limits.timed untimed timed);
+    memory_alone = λ untimed more less. absurd (omega (arith, few, more));
   }
 
-  left : c.lower < threshold c → 0 < open_leaves c.tree → nodes < limits.budget → limits.part ≡ true → HasCauses limits nodes c words.Part
-  left lower some fewer part = record {
+  past : c.lower < threshold c → others < open_leaves c.tree → nodes < limits.budget → limits.timed ≡ true → HasCauses limits others nodes c words.Time
+  past lower more fewer timed = record {
     optimum = (λ e. absurd (omega (arith, ap place e)), λ has. absurd (no_optimum c.best refl lower has));
     none = (λ e. absurd (omega (arith, ap place e)), λ has. absurd (no_none lower has));
     budget_spent = (λ e. absurd (omega (arith, ap place e)), λ cause. absurd (omega (arith, fewer, cause.1)));
-    time_past = λ e. absurd (omega (arith, ap place e));
-    left_to_others = λ e. (part, some, fewer);
+    left_to_others = (λ e. absurd (omega (arith, ap place e)), λ cause. absurd (omega (arith, more, cause.1)));
+    time_past = λ e. (timed, more, fewer);
     memory_refused = λ e. absurd (omega (arith, ap place e));
-    memory_alone = λ untimed whole more less. absurd (not_both limits.part whole part);
+    memory_alone = λ untimed other less. absurd (not_both limits.timed untimed timed);
   }
 
-  out_of_memory : c.lower < threshold c → 0 < open_leaves c.tree → nodes < limits.budget → HasCauses limits nodes c words.Memory
-  out_of_memory lower some fewer = record {
+  out_of_memory : c.lower < threshold c → others < open_leaves c.tree → nodes < limits.budget → HasCauses limits others nodes c words.Memory
+  out_of_memory lower more fewer = record {
     optimum = (λ e. absurd (omega (arith, ap place e)), λ has. absurd (no_optimum c.best refl lower has));
     none = (λ e. absurd (omega (arith, ap place e)), λ has. absurd (no_none lower has));
     budget_spent = (λ e. absurd (omega (arith, ap place e)), λ cause. absurd (omega (arith, fewer, cause.1)));
+    left_to_others = (λ e. absurd (omega (arith, ap place e)), λ cause. absurd (omega (arith, more, cause.1)));
     time_past = λ e. absurd (omega (arith, ap place e));
-    left_to_others = λ e. absurd (omega (arith, ap place e));
-    memory_refused = λ e. (some, fewer);
-    memory_alone = λ untimed whole more less. refl;
+    memory_refused = λ e. (more, fewer);
+    memory_alone = λ untimed other less. refl;
   }
 
   module _ (P : Network) (start : Start) (rows : List Row) where
@@ -133,12 +133,12 @@ module _ (limits : Limits) (nodes : ℕ) (c : Certificate) where
     open_below : (stop : Stop) → IsSearched P start limits nodes c rows stop → 0 < open_leaves c.tree → c.lower < threshold c
     open_below stop s some = let b = bound_open P [] c.tree (threshold c) s.below some in omega (arith, b, s.lower)
 
-    causes : (stop : Stop) → IsSearched P start limits nodes c rows stop → HasCause stop (open_leaves c.tree) nodes limits → HasCauses limits nodes c (word_of stop c.best)
+    causes : (stop : Stop) → IsSearched P start limits nodes c rows stop → HasCause stop (open_leaves c.tree) nodes limits others → HasCauses limits others nodes c (word_of stop c.best)
     causes Done s cause = done c.best refl cause (s.lower ∙ bound_closed P [] c.tree (threshold c) cause)
     causes Budget s cause = spent (open_below Budget s cause.0) cause.0 cause.1
-    causes Time s cause = past (open_below Time s cause.0) cause.0 cause.1 cause.2
     causes Part s cause = left (open_below Part s cause.0) cause.0 cause.1 cause.2
-    causes Memory s cause = out_of_memory (open_below Memory s cause.0) cause.0 cause.1
+    causes Time s cause = past (open_below Time s (let h = cause.0 in omega (arith, h))) cause.0 cause.1 cause.2
+    causes Memory s cause = out_of_memory (open_below Memory s (let h = cause.0 in omega (arith, h))) cause.0 cause.1
 
 -- an optimum is one, and without one every assignment costs the upper bound
 least_of : (P : Network) (c : Certificate) (best : Option Solution) → c.best ≡ best → IsNetwork P → Good P c → IsSomeAnd best (λ b. c.lower ≡ b.cost) → IsSomeAnd best (λ b. Least P b.cost)
@@ -147,7 +147,7 @@ least_of P c (Some b) is network good h = optimum P c b network good is h
 
 pub promised : (P : Network) (start : Start) (limits : Limits) (nodes : ℕ) (c : Certificate) (rows : List Row) (stop : Stop) → IsNetwork P → IsSearched P start limits nodes c rows stop → Promise P start limits nodes c rows (word_of stop c.best)
 promised P start limits nodes c rows stop network s =
-    let by_cause = causes limits nodes c P start rows stop s s.cause in
+    let by_cause = causes limits (length start.aside) nodes c P start rows stop s s.cause in
     record {
       good = s.good;
       spelled = s.spelled;
@@ -159,6 +159,7 @@ promised P start limits nodes c rows stop network s =
       counted = s.counted;
       strict = s.strict;
       tame = s.tame;
+      others = s.others;
       causes = by_cause;
       network = network;
       bounds = (λ values fits. lower_bounds P c values network s.good fits);

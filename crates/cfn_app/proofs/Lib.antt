@@ -3,6 +3,7 @@ mod Counting
 mod Ends
 mod Files
 mod LeastCost
+mod Merges
 mod Pairing
 mod Stating
 mod Writing

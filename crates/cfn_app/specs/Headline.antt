@@ -1,6 +1,7 @@
 -- What a run of `solve` promises.
-use Rattle.std.specs.Prelude.{◌≡◌, ◌↔◌, true, false, ℕ, ◌+◌, ◌<◌, ◌≤◌, List, [], None, IsSomeAnd}
+use Rattle.std.specs.Prelude.{◌≡◌, ◌↔◌, true, false, ℕ, ◌+◌, ◌<◌, ◌≤◌, List, [], length, Contains, None, IsSomeAnd}
 use Rattle.cfn_model.specs.declared.report.Row.{Row}
+use Rattle.cfn_model.specs.declared.step.Event.{Event}
 use Rattle.cfn_model.specs.declared.report.ResultWord.{ResultWord}
 use Rattle.cfn_model.specs.declared.report.ResultWord.TheVariants.{Optimum, Nothing, Budget, Time, Part, Memory}
 use Rattle.cfn_model.specs.Network.{Network, IsNetwork, Fits, Least, cost}
@@ -8,6 +9,7 @@ use Rattle.cfn_model.specs.Tree.{count, splits, open_leaves, Strict, OpenBelow, 
 use Rattle.cfn_model.specs.Paths.{Tame}
 use Rattle.cfn_model.specs.Certificate.{Certificate, Good, threshold}
 use Rattle.cfn_model.specs.Text.{IsSpelled}
+use Rattle.cfn_machine.specs.Parts.{EndsAt}
 use Rattle.cfn_outcome.specs.Outcome.{Limits, RowsHold, Start}
 
 -- The best is an optimum: there is one, and the lower bound is its cost.
@@ -18,22 +20,23 @@ HasOptimum c = IsSomeAnd c.best (λ best. c.lower ≡ best.cost)
 abbrev pub HasNone : Certificate → Type 0
 HasNone c = (c.best ≡ None) × (c.lower ≡ c.upper)
 
--- Each result comes with its cause. An optimum, that there is none, and a spent budget come exactly with theirs. Time is past only
--- under a limit of time, and leaves are left to others only where that was asked for; in both a leaf is open, and nodes are left.
--- Want of memory leaves a leaf open too, with nodes left; and where neither of those two was asked for, nothing else does.
-pub record HasCauses (limits : Limits) (nodes : ℕ) (c : Certificate) (word : ResultWord) : Type 0 where
+-- Each result comes with its cause, where so many leaves were left to others. An optimum, that there is none, a spent budget, and
+-- that the leaves which are open were left to others come exactly with theirs: of the last, that no more are open, and nodes are
+-- left. Where more are, and nodes are left, time is past under a limit of time, or memory was refused, and else memory alone.
+pub record HasCauses (limits : Limits) (others nodes : ℕ) (c : Certificate) (word : ResultWord) : Type 0 where
   pub optimum : (word ≡ Optimum) ↔ HasOptimum c
   pub none : (word ≡ Nothing) ↔ HasNone c
   pub budget_spent : (word ≡ Budget) ↔ ((0 < open_leaves c.tree) × (nodes ≡ limits.budget))
-  pub time_past : word ≡ Time → (limits.timed ≡ true) × (0 < open_leaves c.tree) × (nodes < limits.budget)
-  pub left_to_others : word ≡ Part → (limits.part ≡ true) × (0 < open_leaves c.tree) × (nodes < limits.budget)
-  pub memory_refused : word ≡ Memory → (0 < open_leaves c.tree) × (nodes < limits.budget)
-  pub memory_alone : limits.timed ≡ false → limits.part ≡ false → 0 < open_leaves c.tree → nodes < limits.budget → word ≡ Memory
+  pub left_to_others : (word ≡ Part) ↔ ((0 < open_leaves c.tree) × (open_leaves c.tree ≤ others) × (nodes < limits.budget))
+  pub time_past : word ≡ Time → (limits.timed ≡ true) × (others < open_leaves c.tree) × (nodes < limits.budget)
+  pub memory_refused : word ≡ Memory → (others < open_leaves c.tree) × (nodes < limits.budget)
+  pub memory_alone : limits.timed ≡ false → others < open_leaves c.tree → nodes < limits.budget → word ≡ Memory
 
 -- What a search promises, by what it began with: the certificate is good and has a spelling, its lower bound is its tree's
 -- bound, and its open leaves have floors below the threshold; the rows hold; the nodes spent are, with those that it began
 -- with, at least the tree's splits and at most its splits and closed leaves, and at most the budget; none was spent on a split
--- that leaves all as it was, and costs stay small along the tree; and the result comes with its cause. So the lower bound is at
+-- that leaves all as it was, and costs stay small along the tree; each leaf that was left to others is there still, open or closed,
+-- with no step and no split more; and the result comes with its cause. So the lower bound is at
 -- most the cost of every assignment; an optimum is one; and without one every assignment costs the upper bound.
 pub record Promise (P : Network) (start : Start) (limits : Limits) (nodes : ℕ) (c : Certificate) (rows : List Row) (word : ResultWord) : Type 0 where
   pub good : Good P c
@@ -46,7 +49,8 @@ pub record Promise (P : Network) (start : Start) (limits : Limits) (nodes : ℕ)
   pub counted : start.begun + nodes ≤ count c.tree
   pub strict : Strict P [] c.tree
   pub tame : Tame P [] c.tree
-  pub causes : HasCauses limits nodes c word
+  pub others : (path : List Event) → Contains start.aside path → EndsAt c.tree [] path
+  pub causes : HasCauses limits (length start.aside) nodes c word
   pub network : IsNetwork P
   pub bounds : (values : List ℕ) → Fits P.sizes values → c.lower ≤ cost P values
   pub least : word ≡ Optimum → IsSomeAnd c.best (λ best. Least P best.cost)

@@ -4,7 +4,7 @@ use Rattle.std.specs.Prelude.{◌≡◌, Option, Some, None}
 use Rattle.cfn_model.specs.Text.{memory_fault_text}
 use Rattle.cfn_report.specs.Texts.{usage_text}
 use Rattle.cfn_desk.specs.Outside.{Outside, IsIdle}
-use Rattle.cfn_cli.specs.Request.{Request, solve, check, cost, normal, trial, migrate, rebase}
+use Rattle.cfn_cli.specs.Request.{Request, solve, check, cost, normal, trial, migrate, rebase, merge}
 use Rattle.cfn_app.specs.declared.status.Status.{Status}
 use Rattle.cfn_app.specs.declared.status.Status.TheVariants.{Done, Nothing, LimitSpent, Usage, Refused, Fault, NoMemory, Disproved}
 use Rattle.cfn_app.specs.Endings.{Ends}
@@ -12,12 +12,14 @@ use Rattle.cfn_app.specs.Saying.{Counts, Says, SaysNoMemory}
 use Rattle.cfn_app.specs.Runs.Solving.{Solves, SolveStatus}
 use Rattle.cfn_app.specs.Runs.Checking.{Checks, CheckStatus}
 use Rattle.cfn_app.specs.Runs.Costing.{Costs, CostStatus}
+use Rattle.cfn_app.specs.Runs.Merging.{Merges, MergeStatus}
 use Rattle.cfn_app.specs.Runs.Migrating.{Migrates, MigrateStatus}
 use Rattle.cfn_app.specs.Runs.Normalizing.{Normalizes, NormalStatus}
 use Rattle.cfn_app.specs.Runs.Rebasing.{Rebases, RebaseStatus}
 use Rattle.cfn_app.specs.Runs.Trying.{Tries, TrialStatus}
 pub mod Checking
 pub mod Costing
+pub mod Merging
 pub mod Migrating
 pub mod Normalizing
 pub mod Rebasing
@@ -26,7 +28,7 @@ pub mod Trying
 
 -- ---- the commands
 
--- How a run may end that is asked this. Only `solve`, `migrate` and `rebase` write a file.
+-- How a run may end that is asked this. Only `solve`, `migrate`, `rebase` and `merge` write a file.
 abbrev pub RunsOf : Request → Outside → Outside → Status → Type 0
 RunsOf (solve ask) old new status = Solves ask old new status
 RunsOf (check ask) old new status = (new.files ≡ old.files) × Checks ask old new.calls status
@@ -35,6 +37,7 @@ RunsOf (normal ask) old new status = (new.files ≡ old.files) × Normalizes ask
 RunsOf (trial ask) old new status = (new.files ≡ old.files) × Tries ask old.calls new.calls status
 RunsOf (migrate ask) old new status = Migrates ask old new status
 RunsOf (rebase ask) old new status = Rebases ask old new status
+RunsOf (merge ask) old new status = Merges ask old new status
 
 -- What the status of a run says that is asked this.
 abbrev pub StatusOf : Request → Outside → Outside → Status → Type 0
@@ -45,6 +48,7 @@ StatusOf (normal ask) old new status = NormalStatus ask old new status
 StatusOf (trial ask) old new status = TrialStatus ask old new status
 StatusOf (migrate ask) old new status = MigrateStatus ask old new status
 StatusOf (rebase ask) old new status = RebaseStatus ask old new status
+StatusOf (merge ask) old new status = MergeStatus ask old new status
 
 -- ---- all runs
 

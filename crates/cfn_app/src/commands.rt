@@ -6,6 +6,7 @@ ghost use Rattle.cfn_app.specs.Runs.{RunsOf};
 
 mod checking;
 mod costing;
+mod merging;
 mod migrating;
 mod normalizing;
 mod rebasing;
@@ -18,6 +19,7 @@ use cfn_desk::Desk;
 use cfn_solve::Gate;
 use checking::check_file;
 use costing::cost_file;
+use merging::merge_files;
 use migrating::migrate_file;
 use normalizing::normalize_file;
 use rebasing::rebase_file;
@@ -49,5 +51,6 @@ pub(crate) fn do_command<R: Threads + Wait + Sync, D: Desk, G: Gate + Sync, C: C
         Command::Trial(ask) => try_drawn(rt, alloc, ask, desk, gate),
         Command::Migrate(ask) => migrate_file(alloc, ask, desk),
         Command::Rebase(ask) => rebase_file(rt, alloc, ask, desk, gate, clock),
+        Command::Merge(ask) => merge_files(alloc, ask, desk),
     }
 }

@@ -43,7 +43,7 @@ pub fn put_out<D: Desk>(found: &Teamwork, workers: u32, desk: &mut D) -> Status
 
 /// Writes a certificate into the file that was opened, and closes it. It takes no memory. After an `Err` no file is being
 /// written: where a piece failed it was dropped.
-fn save<D: Desk>(certificate: &Certificate, desk: &mut D) -> Result<(), Failed>
+pub(crate) fn save<D: Desk>(certificate: &Certificate, desk: &mut D) -> Result<(), Failed>
     requires { IsWriting (D.outside desk.old).calls }
     ensures wrote { OnOk result (Wrote (spelling (certificate_of certificate.now))
         (D.outside desk.old) (D.outside desk.new)) }

@@ -25,6 +25,10 @@ file_rule = record (new_rule (codes "file")) { required = true }
 unfoldable pub certificate_rule : Rule
 certificate_rule = record (new_rule (codes "certificate")) { required = true }
 
+-- OUT
+unfoldable pub out_rule : Rule
+out_rule = record (new_rule (codes "out")) { required = true }
+
 -- [--workers W], and 1 where it is left out
 unfoldable pub workers_rule : Rule
 workers_rule = record (new_rule (codes "workers")) {

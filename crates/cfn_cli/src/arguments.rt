@@ -2,7 +2,7 @@
 
 ghost use Rattle.std.specs.Prelude.{◌≡◌, false};
 ghost use Rattle.clap.specs.Words.{rule_of};
-ghost use Rattle.cfn_cli.specs.Arguments.{budget_rule, certificate_rule, file_rule, progress_rule, seconds_rule, wcnf_rule, workers_rule};
+ghost use Rattle.cfn_cli.specs.Arguments.{budget_rule, certificate_rule, file_rule, out_rule, progress_rule, seconds_rule, wcnf_rule, workers_rule};
 
 use clap::{Arg, ArgAction, value_parser};
 use std::alloc::Global;
@@ -23,6 +23,15 @@ pub(crate) fn certificate<'a>(alloc: Global) -> Arg<'a>
     ensures local { result.global ≡ false }
 {
     Arg::new(alloc, "certificate").required(true)
+}
+
+/// OUT
+#[tactic(auto, unfolding(crate::specs::Arguments::out_rule))]
+pub(crate) fn out<'a>(alloc: Global) -> Arg<'a>
+    ensures rule { rule_of result ≡ out_rule }
+    ensures local { result.global ≡ false }
+{
+    Arg::new(alloc, "out").required(true)
 }
 
 /// `[--workers W]`, and 1 where it is left out

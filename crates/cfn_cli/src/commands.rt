@@ -6,6 +6,7 @@ ghost use Rattle.cfn_cli.specs.Request.{IsLine, IsWithin, request, request_from,
 
 mod check;
 mod cost;
+mod merge;
 mod migrate;
 mod normal;
 mod rebase;
@@ -16,6 +17,7 @@ use crate::fault::CliFault;
 pub use check::CheckArguments;
 use clap::{ArgMatches, Command as Line};
 pub use cost::CostArguments;
+pub use merge::MergeArguments;
 pub use migrate::MigrateArguments;
 pub use normal::NormalArguments;
 pub use rebase::RebaseArguments;
@@ -38,8 +40,10 @@ pub enum Command {
     Trial(TrialArguments),
     /// `migrate FILE CERT OUT`
     Migrate(MigrateArguments),
-    /// `rebase FILE OLD CERT [--workers W] [--budget B] [--seconds S] [--wcnf] [--progress]`
+    /// `rebase FILE OLD CERT [--workers W] [--budget B] [--seconds S] [--wcnf] [--progress] [--part I] [--parts N]`
     Rebase(RebaseArguments),
+    /// `merge FILE OUT CERT.. [--wcnf]`
+    Merge(MergeArguments),
 }
 
 /// The program with its commands, of which one has to be given.
@@ -53,7 +57,8 @@ pub(crate) fn command_line<'a>(alloc: Global) -> Result<Line<'a>, AllocError>
     let line = under(line, normal::line(alloc))?;
     let line = under(line, trial::line(alloc))?;
     let line = under(line, migrate::line(alloc))?;
-    under(line, rebase::line(alloc))
+    let line = under(line, rebase::line(alloc))?;
+    under(line, merge::line(alloc))
 }
 
 /// A command with one more below it, where that was built.
@@ -97,6 +102,8 @@ fn named(alloc: Global, name: &str, found: &ArgMatches<'_>) -> Result<Command, C
         Ok(Command::Migrate(migrate::read(alloc, found)?))
     } else if name == "rebase" {
         Ok(Command::Rebase(rebase::read(alloc, found)?))
+    } else if name == "merge" {
+        Ok(Command::Merge(merge::read(alloc, found)?))
     } else {
         Err(CliFault::Usage)
     }

@@ -57,6 +57,22 @@ fn migrates(alloc: Global, words: &[&str], out: &str) -> bool {
     }
 }
 
+/// Whether the words merge `c` and then so many others into `b`, for `a`.
+fn merges(alloc: Global, words: &[&str], others: usize) -> bool {
+    match parse(alloc, words) {
+        Ok(Command::Merge(asked)) => {
+            let Some(first) = asked.certificates.first() else {
+                return false;
+            };
+            asked.file.as_str() == "a"
+                && asked.out.as_str() == "b"
+                && first.as_str() == "c"
+                && asked.certificates.len() - 1 == others
+        }
+        _ => false,
+    }
+}
+
 fn says_normal(alloc: Global, words: &[&str]) -> bool {
     match parse(alloc, words) {
         Ok(Command::Normal(asked)) => asked.file.as_str() == "f",
@@ -202,6 +218,15 @@ fn migrate_is_read(rt: HostRuntime) {
     let alloc = rt.alloc();
     assert!(rt; migrates(alloc, &["w", "migrate", "a", "b", "c"], "c"));
     assert!(rt; migrates(alloc, &["w", "migrate", "a", "b", "b"], "b"));
+}
+
+#[test]
+fn reads_merge(rt: HostRuntime) {
+    let alloc = rt.alloc();
+    assert!(rt; merges(alloc, &["w", "merge", "a", "b", "c"], 0));
+    assert!(rt; merges(alloc, &["w", "merge", "a", "b", "c", "b", "d", "--wcnf"], 2));
+    assert!(rt; parse(alloc, &["w", "merge", "a", "b"]).is_err());
+    assert!(rt; parse(alloc, &["w", "merge", "a", "a", "c"]).is_err());
 }
 
 #[test]

@@ -8,17 +8,12 @@ use Rattle.cfn_model.specs.Network.{Network}
 use Rattle.cfn_model.specs.Sums.{floor}
 use Rattle.cfn_model.specs.Steps.{after}
 use Rattle.cfn_model.specs.Tree.{Tree, Open, Closed, Split, Valid, bound, count}
-use Rattle.cfn_mending.specs.Joining.{lifts, lesser, raised, height, is_below, gives_way, higher, join}
-use Rattle.cfn_mending.specs.Laws.{JoinValid, JoinBound}
+use Rattle.cfn_mending.specs.Joining.{capped, lifts, lesser, raised, height, is_below, gives_way, higher, join}
+use Rattle.cfn_mending.specs.Laws.{BoundOfHeight, JoinValid, JoinBound}
 
 floor_after : (P : Network) (block : List Step) (history : List Event) → floor P (after block history) ≡ floor P history + lifts block
 floor_after P [] history = omega arith
 floor_after P (step ∷ block) history = (let r = floor_after P block (Did step ∷ history) in omega (arith, r))
-
--- a height behind a floor, below a threshold
-abbrev capped : ℕ → ℕ → Option ℕ → ℕ
-capped k f None = k
-capped k f (Some n) = min k (f + n)
 
 capped_lesser : (k f more : ℕ) (a b : Option ℕ) → capped k f (raised more (lesser a b)) ≡ min (capped k (f + more) a) (capped k (f + more) b)
 capped_lesser k f more None None = omega arith
@@ -26,7 +21,7 @@ capped_lesser k f more None (Some m) = omega arith
 capped_lesser k f more (Some n) None = omega arith
 capped_lesser k f more (Some n) (Some m) = omega arith
 
-bound_is : (P : Network) (history : List Event) (x : Tree) (k : ℕ) → bound P history x k ≡ capped k (floor P history) (height x)
+pub bound_is : BoundOfHeight
 bound_is P history (Open block) k = ap (min k) (floor_after P block history)
 bound_is P history (Closed block) k = refl
 bound_is P history (Split block d first second) k =

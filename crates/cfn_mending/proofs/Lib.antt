@@ -2,3 +2,4 @@ pub mod Kept
 pub mod Joined
 pub mod Merged
 pub mod Rows
+pub mod CallerLemmas

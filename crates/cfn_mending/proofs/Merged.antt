@@ -1,15 +1,18 @@
 -- A merged certificate is good, and its lower bound is at least that of each.
 use Rattle.std.proofs.Common.{◌≡◌, ℕ, ◌≤◌, List, [], ◌∷◌, refl, sym, ap, ◌∙◌, arith, true, false, Bool, nat_lt, if◌then◌else◌, Some, None, min, ltb-true, ltb-false}
-use Rattle.std.specs.Prelude.{Option}
+use Rattle.std.specs.Prelude.{Option, fold}
+use Rattle.std.specs.List.{AllByRecursion}
 use Rattle.cfn_model.specs.declared.step.Event.{Event}
 use Rattle.cfn_model.specs.declared.step.Event.TheVariants.{Took, Refused}
 use Rattle.cfn_model.specs.Network.{Network, IsNetwork}
 use Rattle.cfn_model.specs.Steps.{after}
 use Rattle.cfn_model.specs.Tree.{Tree, Open, Closed, Split, bound}
+use Rattle.cfn_model.specs.Text.{IsSpelled, IsSpelledBest, IsSpelledTree}
 use Rattle.cfn_model.specs.Certificate.{Solution, Certificate, threshold, threshold_of, IsBest, Good}
-use Rattle.cfn_model.proofs.CallerLemmas.{bound_low, lower_bounds, valid_lower}
-use Rattle.cfn_mending.specs.Merging.{cheaper}
-use Rattle.cfn_mending.specs.Laws.{MergedGood, MergedLower}
+use Rattle.cfn_model.proofs.CallerLemmas.{bound_low, has_every_tree, lower_bounds, valid_lower}
+use Rattle.cfn_mending.specs.Joining.{Test, gives_way, higher, join}
+use Rattle.cfn_mending.specs.Merging.{cheaper, merged, anew}
+use Rattle.cfn_mending.specs.Laws.{IsTest, MergedGood, MergedLower, AllMergedGood, AllMergedLower, AllMergedSpelled, AllMergedAnew}
 use Rattle.cfn_mending.proofs.Joined.{join_valid, join_bound}
 
 -- at a smaller threshold a bound falls to that at most
@@ -76,3 +79,113 @@ merged_lower same P c d test network a b =
     let la = a.lower in
     let lb = b.lower in
     (omega (arith, j.0, one, mc, kp, la), omega (arith, j.1, two, md, kp, lb))
+
+-- ---- one after another
+
+anew_good : (P : Network) (c : Certificate) → Good P c → Good P (anew P c)
+anew_good P c good = record { variables = good.variables; functions = good.functions; upper = good.upper; best = good.best; valid = good.valid; lower = omega arith }
+
+module _ (same : Test) (P : Network) (test : IsTest same) (network : IsNetwork P) where
+  all_good : (m : Certificate) (others : List Certificate) → Good P m → AllByRecursion (Good P) others → Good P (fold (merged same P) m others)
+  all_good m [] good all = good
+  all_good m (d ∷ others) good all = all_good (merged same P m d) others (merged_good same P m d test network good all.0) all.1
+
+  first_lower : (m : Certificate) (others : List Certificate) → Good P m → AllByRecursion (Good P) others → m.lower ≤ (fold (merged same P) m others).lower
+  first_lower m [] good all = omega arith
+  first_lower m (d ∷ others) good all =
+      let l = merged_lower same P m d test network good all.0 in
+      let rest = first_lower (merged same P m d) others (merged_good same P m d test network good all.0) all.1 in
+      omega (arith, l.0, rest)
+
+  each_lower : (m : Certificate) (others : List Certificate) → Good P m → AllByRecursion (Good P) others → AllByRecursion (λ d. d.lower ≤ (fold (merged same P) m others).lower) others
+  each_lower m [] good all = tt
+  each_lower m (d ∷ others) good all =
+      let l = merged_lower same P m d test network good all.0 in
+      let now = merged_good same P m d test network good all.0 in
+      let rest = first_lower (merged same P m d) others now all.1 in
+      (omega (arith, l.1, rest), each_lower (merged same P m d) others now all.1)
+
+pub all_merged_good : AllMergedGood
+all_merged_good same P c others test network good all = all_good same P test network (anew P c) others (anew_good P c good) all
+
+pub all_merged_lower : AllMergedLower
+all_merged_lower same P c others test network good all =
+    let first = first_lower same P test network (anew P c) others (anew_good P c good) all in
+    let own = good.lower in
+    (omega (arith, first, own), each_lower same P test network (anew P c) others (anew_good P c good) all)
+
+stays_anew : (same : Test) (P : Network) (m : Certificate) (others : List Certificate) → m ≡ anew P m → fold (merged same P) m others ≡ anew P (fold (merged same P) m others)
+stays_anew same P m [] is = is
+stays_anew same P m (d ∷ others) is = stays_anew same P (merged same P m d) others refl
+
+pub all_merged_anew : AllMergedAnew
+all_merged_anew same P c others = stays_anew same P (anew P c) others refl
+
+-- ---- spellings
+
+chosen_spelled : (x y : Tree) (t : Bool) → IsSpelledTree x → IsSpelledTree y → IsSpelledTree (if t then y else x)
+chosen_spelled x y true a b = b
+chosen_spelled x y false a b = a
+
+higher_spelled : (x y : Tree) → IsSpelledTree x → IsSpelledTree y → IsSpelledTree (higher x y)
+higher_spelled x y a b = chosen_spelled x y (gives_way x y) a b
+
+either_spelled : (x z : Tree) (t : Bool) → IsSpelledTree z → IsSpelledTree x → IsSpelledTree (if t then z else x)
+either_spelled x z true a b = a
+either_spelled x z false a b = b
+
+join_spelled : (same : Test) (x y : Tree) → IsSpelledTree x → IsSpelledTree y → IsSpelledTree (join same x y)
+join_spelled same (Open block) other a b = higher_spelled (Open block) other a b
+join_spelled same (Closed block) other a b = higher_spelled (Closed block) other a b
+join_spelled same (Split block d first second) (Open more) a b = higher_spelled (Split block d first second) (Open more) a b
+join_spelled same (Split block d first second) (Closed more) a b = higher_spelled (Split block d first second) (Closed more) a b
+join_spelled same (Split block d first second) (Split more e third fourth) a b =
+    either_spelled (higher (Split block d first second) (Split more e third fourth)) (Split block d (join same first third) (join same second fourth)) (same block d more e)
+    (a.0, a.1, join_spelled same first third a.2 b.2, join_spelled same second fourth a.3 b.3)
+    (higher_spelled (Split block d first second) (Split more e third fourth) a b)
+
+best_by : (a b : Option Solution) (t : Bool) → IsSpelledBest a → IsSpelledBest b → IsSpelledBest (if t then b else a)
+best_by a b true x y = y
+best_by a b false x y = x
+
+cheaper_spelled : (a b : Option Solution) → IsSpelledBest a → IsSpelledBest b → IsSpelledBest (cheaper a b)
+cheaper_spelled None b x y = y
+cheaper_spelled (Some a) None x y = x
+cheaper_spelled (Some a) (Some b) x y = best_by (Some a) (Some b) (nat_lt b.cost a.cost) x y
+
+-- a tree's bound is at most the upper bound
+bound_most : (P : Network) (tree : Tree) (best : Option Solution) (u : ℕ) → u ≡ P.upper → IsBest P best → bound P [] tree (threshold_of u best) ≤ u
+bound_most P tree best u e is =
+    let low = bound_low P [] tree (threshold_of u best) in
+    let top = (cheaper_fits P None best u e tt is).first in
+    omega (arith, low, top)
+
+anew_spelled : (P : Network) (c : Certificate) → Good P c → IsSpelled c → IsSpelled (anew P c)
+anew_spelled P c good spelled =
+    let most = bound_most P c.tree c.best c.upper good.upper good.best in
+    let upper = spelled.upper in
+    record { variables = spelled.variables; functions = spelled.functions; upper = spelled.upper; best = spelled.best; lower = omega (arith, most, upper); tree = spelled.tree; has_tree = has_every_tree c.tree }
+
+module _ (same : Test) (P : Network) (test : IsTest same) (network : IsNetwork P) where
+  merged_spelled : (c d : Certificate) → Good P c → Good P d → IsSpelled c → IsSpelled d → IsSpelled (merged same P c d)
+  merged_spelled c d a b x y =
+      let now = merged_good same P c d test network a b in
+      let most = bound_most P (join same c.tree d.tree) (cheaper c.best d.best) c.upper a.upper now.best in
+      let upper = x.upper in
+      record {
+        variables = x.variables;
+        functions = x.functions;
+        upper = x.upper;
+        best = cheaper_spelled c.best d.best x.best y.best;
+        lower = omega (arith, most, upper);
+        tree = join_spelled same c.tree d.tree x.tree y.tree;
+        has_tree = has_every_tree (join same c.tree d.tree);
+      }
+
+  all_spelled : (m : Certificate) (others : List Certificate) → Good P m → AllByRecursion (Good P) others → IsSpelled m → AllByRecursion IsSpelled others → IsSpelled (fold (merged same P) m others)
+  all_spelled m [] good all x y = x
+  all_spelled m (d ∷ others) good all x y =
+      all_spelled (merged same P m d) others (merged_good same P m d test network good all.0) all.1 (merged_spelled m d good all.0 x y.0) y.1
+
+pub all_merged_spelled : AllMergedSpelled
+all_merged_spelled same P c others test network good all x y = all_spelled same P test network (anew P c) others (anew_good P c good) all (anew_spelled P c good x) y

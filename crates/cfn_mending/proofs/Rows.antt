@@ -1,10 +1,9 @@
 -- Small trees whose heights, joins and kept parts are known, as theorems.
-use Rattle.std.proofs.Common.{◌≡◌, ℕ, List, [], ◌∷◌, ◌++◌, Some, None, Bool, true, refl, sym, subst, arith, lit<}
+use Rattle.std.proofs.Common.{◌≡◌, ℕ, List, [], ◌∷◌, ◌++◌, Some, None, true, refl, sym, subst, arith, lit<}
 use Rattle.std.proofs.lemmas.Int.{ints}
 use Rattle.std.specs.Prelude.{pos, ◌≤ℤ◌}
 use Rattle.cfn_model.specs.declared.step.Step.{Step}
 use Rattle.cfn_model.specs.declared.step.Step.TheVariants.{Lift}
-use Rattle.cfn_model.specs.declared.step.Decision.{Decision}
 use Rattle.cfn_model.specs.declared.step.Decision.TheVariants.{Is}
 use Rattle.cfn_model.specs.Steps.{Allowed}
 use Rattle.cfn_model.specs.Tree.{Tree, Open, Closed, Split}

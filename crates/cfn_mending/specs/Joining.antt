@@ -27,6 +27,12 @@ height (Open block) = Some (lifts block)
 height (Closed block) = None
 height (Split block d first second) = raised (lifts block) (lesser (height first) (height second))
 
+-- The least of a threshold and of what a height comes to behind a floor.
+abbrev pub capped : ℕ → ℕ → Option ℕ → ℕ
+capped k low None = k
+capped k low (Some n) = min k (low + n)
+
+-- Whether a height is below another.
 abbrev pub is_below : Option ℕ → Option ℕ → Bool
 is_below None other = false
 is_below (Some n) None = true

@@ -1,15 +1,18 @@
 -- What kept, joined and merged trees have.
-use Rattle.std.specs.Prelude.{◌≡◌, ℕ, ◌≤◌, true, List}
+use Rattle.std.specs.Prelude.{◌≡◌, ℕ, ◌≤◌, true, List, ◌∷◌}
+use Rattle.std.specs.List.{AllByRecursion}
 use Rattle.cfn_model.specs.declared.step.Step.{Step}
 use Rattle.cfn_model.specs.declared.step.Decision.{Decision}
 use Rattle.cfn_model.specs.declared.step.Event.{Event}
 use Rattle.cfn_model.specs.Network.{Network, IsNetwork}
 use Rattle.cfn_model.specs.Paths.{Tame}
+use Rattle.cfn_model.specs.Sums.{floor}
 use Rattle.cfn_model.specs.Tree.{Tree, Valid, Strict, bound}
 use Rattle.cfn_model.specs.Certificate.{Certificate, Good}
+use Rattle.cfn_model.specs.Text.{IsSpelled}
 use Rattle.cfn_mending.specs.Keeping.{Kept}
-use Rattle.cfn_mending.specs.Joining.{Test, join}
-use Rattle.cfn_mending.specs.Merging.{merged}
+use Rattle.cfn_mending.specs.Joining.{Test, capped, height, join}
+use Rattle.cfn_mending.specs.Merging.{merged, anew, all_merged}
 
 -- ---- what is kept of a tree
 
@@ -46,6 +49,10 @@ abbrev pub JoinBound : Type 0
 JoinBound = (P : Network) (same : Test) (history : List Event) (x y : Tree) (k : ℕ) → IsTest same →
     (bound P history x k ≤ bound P history (join same x y) k) × (bound P history y k ≤ bound P history (join same x y) k)
 
+-- A tree's bound is what its height comes to behind the floor, or the threshold.
+abbrev pub BoundOfHeight : Type 0
+BoundOfHeight = (P : Network) (history : List Event) (x : Tree) (k : ℕ) → bound P history x k ≡ capped k (floor P history) (height x)
+
 -- A merged certificate is good where both are.
 abbrev pub MergedGood : Type 0
 MergedGood = (same : Test) (P : Network) (c d : Certificate) → IsTest same → IsNetwork P → Good P c → Good P d → Good P (merged same P c d)
@@ -53,3 +60,20 @@ MergedGood = (same : Test) (P : Network) (c d : Certificate) → IsTest same →
 -- Its lower bound is at least that of each.
 abbrev pub MergedLower : Type 0
 MergedLower = (same : Test) (P : Network) (c d : Certificate) → IsTest same → IsNetwork P → Good P c → Good P d → (c.lower ≤ (merged same P c d).lower) × (d.lower ≤ (merged same P c d).lower)
+
+-- What certificates come to that are merged one after another is good where each is.
+abbrev pub AllMergedGood : Type 0
+AllMergedGood = (same : Test) (P : Network) (c : Certificate) (others : List Certificate) → IsTest same → IsNetwork P → Good P c → AllByRecursion (Good P) others → Good P (all_merged same P c others)
+
+-- Its lower bound is at least that of each.
+abbrev pub AllMergedLower : Type 0
+AllMergedLower = (same : Test) (P : Network) (c : Certificate) (others : List Certificate) → IsTest same → IsNetwork P → Good P c → AllByRecursion (Good P) others →
+    AllByRecursion (λ d. d.lower ≤ (all_merged same P c others).lower) (c ∷ others)
+
+-- It has a spelling where each has.
+abbrev pub AllMergedSpelled : Type 0
+AllMergedSpelled = (same : Test) (P : Network) (c : Certificate) (others : List Certificate) → IsTest same → IsNetwork P → Good P c → AllByRecursion (Good P) others → IsSpelled c → AllByRecursion IsSpelled others → IsSpelled (all_merged same P c others)
+
+-- Its lower bound is its tree's bound.
+abbrev pub AllMergedAnew : Type 0
+AllMergedAnew = (same : Test) (P : Network) (c : Certificate) (others : List Certificate) → all_merged same P c others ≡ anew P (all_merged same P c others)

@@ -1,9 +1,9 @@
--- Two certificates of one network in one.
-use Rattle.std.specs.Prelude.{[], Option, Some, None, if◌then◌else◌, nat_lt}
+-- Certificates of one network in one.
+use Rattle.std.specs.Prelude.{List, [], Option, Some, None, if◌then◌else◌, nat_lt, fold}
 use Rattle.cfn_model.specs.declared.version.Version.TheVariants.{Second}
 use Rattle.cfn_model.specs.Network.{Network}
 use Rattle.cfn_model.specs.Tree.{bound}
-use Rattle.cfn_model.specs.Certificate.{Solution, Certificate, threshold_of}
+use Rattle.cfn_model.specs.Certificate.{Solution, Certificate, threshold, threshold_of}
 use Rattle.cfn_mending.specs.Joining.{Test, join}
 
 -- The cheaper of two, the first where both cost the same.
@@ -23,3 +23,19 @@ merged same P c d = record {
   lower = bound P [] (join same c.tree d.tree) (threshold_of c.upper (cheaper c.best d.best));
   tree = join same c.tree d.tree;
 }
+
+-- The same certificate in the second version, with its tree's bound as the lower bound.
+abbrev pub anew : Network → Certificate → Certificate
+anew P c = record {
+  version = Second;
+  variables = c.variables;
+  functions = c.functions;
+  upper = c.upper;
+  best = c.best;
+  lower = bound P [] c.tree (threshold c);
+  tree = c.tree;
+}
+
+-- A certificate, and others that are merged with it one after another.
+abbrev pub all_merged : Test → Network → Certificate → List Certificate → Certificate
+all_merged same P c others = fold (merged same P) (anew P c) others

@@ -1,6 +1,6 @@
 //! The laws that the definitions have, each the contract of a function with nothing to do.
 
-ghost use Rattle.cfn_mending.specs.Laws.{KeptIsWell, KeptOnce, KeepsAll, JoinValid, JoinBound, MergedGood, MergedLower};
+ghost use Rattle.cfn_mending.specs.Laws.{KeptIsWell, KeptOnce, KeepsAll, JoinValid, JoinBound, BoundOfHeight, MergedGood, MergedLower, AllMergedGood, AllMergedLower, AllMergedSpelled, AllMergedAnew};
 
 /// What is kept of a tree is one tree, and well formed; of a tree that is well formed all is kept.
 pub fn law_kept()
@@ -15,8 +15,22 @@ pub fn law_joined()
     ensures bound { JoinBound }
 {}
 
+/// A tree's bound is what its height comes to behind the floor.
+pub fn law_height()
+    ensures { BoundOfHeight }
+{}
+
 /// A merged certificate is good where both are, and its lower bound is at least that of each.
 pub fn law_merged()
     ensures good { MergedGood }
     ensures lower { MergedLower }
+{}
+
+/// What certificates come to that are merged one after another is good where each is, and has a spelling where each has. Its
+/// lower bound is its tree's bound, and at least that of each.
+pub fn law_all_merged()
+    ensures good { AllMergedGood }
+    ensures lower { AllMergedLower }
+    ensures spelled { AllMergedSpelled }
+    ensures anew { AllMergedAnew }
 {}

@@ -15,7 +15,7 @@ struct Known {
 
 /// What a search of a network begins with from a text.
 fn begun(rt: &HostRuntime, network: &Network, text: &[u8]) -> Result<Known, Fail> {
-    match resume(rt.alloc(), network, text)? {
+    match resume(rt.alloc(), network, text, None)? {
         Resumed::Goes(begin) => Ok(Known {
             holds_best: begin.best.values().is_some(),
             price: begin.best.price(),
@@ -63,7 +63,7 @@ fn best_that_does_not_fit_is_not_kept(rt: HostRuntime) -> Result<(), Fail> {
 #[test]
 fn other_text_is_refused_at_its_line(rt: HostRuntime) -> Result<(), Fail> {
     let text = b"wcspcert 2\nnetwork 1 1\n".as_slice();
-    match resume(rt.alloc(), &tiny(rt.alloc(), 1)?, text)? {
+    match resume(rt.alloc(), &tiny(rt.alloc(), 1)?, text, None)? {
         Resumed::Goes(_) => Err(Fail::new("the text was read")),
         Resumed::Refused { line } => {
             assert!(rt; line == 2);

@@ -1,8 +1,10 @@
-//! Tests of trees that are kept, and of searches' beginnings, and no code of its own.
+//! Tests of trees that are kept or joined, and of searches' beginnings, and no code of its own.
 #![tactic(auto)]
 
 #[cfg(test)]
 mod beginnings;
+#[cfg(test)]
+mod merging;
 #[cfg(test)]
 mod samples;
 #[cfg(test)]

@@ -16,7 +16,8 @@ usage_text =
     ∷ (codes "wcspsolve" ∷ codes "normal" ∷ codes "FILE" ∷ codes "[--wcnf]" ∷ [])
     ∷ (codes "wcspsolve" ∷ codes "trial" ∷ codes "SEED" ∷ codes "SIZE" ∷ codes "[--workers" ∷ codes "W]" ∷ [])
     ∷ (codes "wcspsolve" ∷ codes "migrate" ∷ codes "FILE" ∷ codes "CERT" ∷ codes "OUT" ∷ [])
-    ∷ (codes "wcspsolve" ∷ codes "rebase" ∷ codes "FILE" ∷ codes "OLD" ∷ codes "CERT" ∷ codes "[--workers" ∷ codes "W]" ∷ codes "[--budget" ∷ codes "B]" ∷ codes "[--seconds" ∷ codes "S]" ∷ codes "[--wcnf]" ∷ codes "[--progress]" ∷ [])
+    ∷ (codes "wcspsolve" ∷ codes "rebase" ∷ codes "FILE" ∷ codes "OLD" ∷ codes "CERT" ∷ codes "[--workers" ∷ codes "W]" ∷ codes "[--budget" ∷ codes "B]" ∷ codes "[--seconds" ∷ codes "S]" ∷ codes "[--wcnf]" ∷ codes "[--progress]" ∷ codes "[--part" ∷ codes "I]" ∷ codes "[--parts" ∷ codes "N]" ∷ [])
+    ∷ (codes "wcspsolve" ∷ codes "merge" ∷ codes "FILE" ∷ codes "OUT" ∷ codes "CERT.." ∷ codes "[--wcnf]" ∷ [])
     ∷ [])
 
 -- What is said of a wcnf file whose header is not `p wcnf`: the word that differs.
@@ -62,3 +63,11 @@ trial_text variables functions least =
 
 abbrev pub refused_text : FaultKind → ℕ → List ℕ
 refused_text kind l = line (codes "refused" ∷ fault_name kind ∷ codes "at" ∷ decimal l ∷ [])
+
+-- What is said of certificates that were merged: the bounds of what they come to. And where one of them is refused: how its first
+-- line that fails does so, and which one it is, from 1.
+abbrev pub merged_text : ℕ → Option ℕ → List ℕ
+merged_text lower best = line (codes "merged" ∷ codes "lower" ∷ decimal lower ∷ codes "best" ∷ number_or_none best ∷ [])
+
+abbrev pub refused_in_text : FaultKind → ℕ → ℕ → List ℕ
+refused_in_text kind l number = line (codes "refused" ∷ fault_name kind ∷ codes "at" ∷ decimal l ∷ codes "in" ∷ decimal number ∷ [])

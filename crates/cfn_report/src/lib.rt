@@ -7,10 +7,12 @@
 //! Each line of at most 4,096 bytes is said by one call. No call takes memory.
 #![tactic(auto)]
 
+mod merging;
 mod message;
 mod report;
 mod word;
 
+pub use merging::{write_merged, write_refused_in};
 pub use message::{
     write_cost, write_header_fault, write_memory_fault, write_migrated, write_read_fault,
     write_refusal, write_refused, write_trial, write_usage, write_value_fault, write_values_fault,

@@ -79,7 +79,7 @@ pub fn write_usage<D: Desk>(desk: &mut D) -> Result<(), Failed>
 {
     send(
         Channel::Screen,
-        b"error usage\nwcspsolve solve FILE CERT [--workers W] [--budget B] [--seconds S] [--wcnf] [--progress]\nwcspsolve check FILE CERT [--wcnf]\nwcspsolve cost FILE VALUES.. [--wcnf]\nwcspsolve normal FILE [--wcnf]\nwcspsolve trial SEED SIZE [--workers W]\nwcspsolve migrate FILE CERT OUT\nwcspsolve rebase FILE OLD CERT [--workers W] [--budget B] [--seconds S] [--wcnf] [--progress]\n",
+        b"error usage\nwcspsolve solve FILE CERT [--workers W] [--budget B] [--seconds S] [--wcnf] [--progress]\nwcspsolve check FILE CERT [--wcnf]\nwcspsolve cost FILE VALUES.. [--wcnf]\nwcspsolve normal FILE [--wcnf]\nwcspsolve trial SEED SIZE [--workers W]\nwcspsolve migrate FILE CERT OUT\nwcspsolve rebase FILE OLD CERT [--workers W] [--budget B] [--seconds S] [--wcnf] [--progress] [--part I] [--parts N]\nwcspsolve merge FILE OUT CERT.. [--wcnf]\n",
         desk,
     )
 }
@@ -185,7 +185,7 @@ pub fn write_refused<D: Desk>(kind: FaultKind, line: u64, desk: &mut D) -> Resul
 }
 
 /// The name of the way in which a certificate's line fails.
-fn fault_name(kind: FaultKind) -> &'static str
+pub(crate) fn fault_name(kind: FaultKind) -> &'static str
     ensures { result.now ≡ fault_name kind }
 {
     match kind {

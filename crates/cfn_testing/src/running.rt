@@ -50,7 +50,7 @@ impl Run {
         failing: &[u64],
         kept: &str,
     ) -> Result<Run, AllocError> {
-        let mut desk = MemoryDesk::make(rt.alloc(), files, 2000, 400, failing)?;
+        let mut desk = MemoryDesk::make(rt.alloc(), files, 2000, 500, failing)?;
         let status = run(rt, rt.alloc(), words, &mut desk, &OpenGate, &Still).code();
         Run::left(rt.alloc(), status, &desk, kept)
     }
@@ -62,7 +62,7 @@ impl Run {
         file: &[u8],
         gate: &G,
     ) -> Result<Run, AllocError> {
-        let mut desk = MemoryDesk::make(rt.alloc(), &[("in", file)], 2000, 400, &[])?;
+        let mut desk = MemoryDesk::make(rt.alloc(), &[("in", file)], 2000, 500, &[])?;
         let status = run(rt, rt.alloc(), words, &mut desk, gate, &Still).code();
         Run::left(rt.alloc(), status, &desk, "out")
     }
@@ -193,7 +193,7 @@ pub fn check_answers<R: AllocGlobal + Threads + Wait + Sync>(
     said: &[u8],
 ) -> Result<bool, AllocError> {
     let files = [("in", file), ("cert", certificate)];
-    let mut desk = MemoryDesk::make(rt.alloc(), &files, 0, 400, &[])?;
+    let mut desk = MemoryDesk::make(rt.alloc(), &files, 0, 500, &[])?;
     let words = ["wcspsolve", "check", "in", "cert"];
     let ended = run(rt, rt.alloc(), &words, &mut desk, &OpenGate, &Still).code();
     Ok(ended == status && desk.said_bytes() == said)

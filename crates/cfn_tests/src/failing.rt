@@ -35,7 +35,7 @@ const EARLIER: &[u8] = b"earlier";
 /// The words of a run over the files `in`, `cert` and `out`, how many of its calls load a file, and how many calls it makes.
 type Device = (&'static [&'static str], u64, u64);
 
-const DEVICES: [Device; 7] = [
+const DEVICES: [Device; 9] = [
     // the load, the opening, 32 puts, the closing, and the eleven lines of the report
     (&SOLVE, 1, 46),
     (&["wcspsolve", "check", "in", "cert"], 2, 3),
@@ -45,6 +45,10 @@ const DEVICES: [Device; 7] = [
     (&["wcspsolve", "trial", "7", "2"], 0, 3),
     // two loads, the opening, three puts, the closing, and the line
     (&["wcspsolve", "migrate", "in", "cert", "out"], 2, 8),
+    // two loads, the opening, 28 puts, the closing, and the nine lines of the report
+    (&["wcspsolve", "rebase", "in", "cert", "out"], 2, 41),
+    // three loads, the opening, 28 puts, the closing, and the line
+    (&["wcspsolve", "merge", "in", "out", "cert", "cert"], 3, 34),
     (&["wcspsolve"], 0, 1),
 ];
 

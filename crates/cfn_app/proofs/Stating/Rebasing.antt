@@ -22,7 +22,7 @@ use Rattle.cfn_app.specs.Loading.{ReadsAs, RefusesAs, Tells}
 use Rattle.cfn_app.specs.Saying.{Counts}
 use Rattle.cfn_app.specs.Runs.Solving.{Searches, IsReported, limits_of, status_of}
 use Rattle.cfn_app.specs.Runs.Solving as solving
-use Rattle.cfn_app.specs.Runs.Rebasing.{Rebases, Rebased, RebaseSays, RebaseStatus, WentOn}
+use Rattle.cfn_app.specs.Runs.Rebasing.{Rebases, Rebased, RebaseSays, RebaseStatus, WentOn, part_of}
 use Rattle.cfn_app.specs.Runs.Rebasing as rebasing
 use Rattle.cfn_app.proofs.Counting.{by, counted, ends_idle, hindered, unheard, by_due}
 use Rattle.cfn_app.proofs.Files.{same_bytes, read_refused}
@@ -30,20 +30,17 @@ use Rattle.cfn_app.proofs.Pairing.{unpaired_by, unpaired_refused, unpaired_hinde
 use Rattle.cfn_app.proofs.Stating.Solving.{search_reported, search_counts, search_idle}
 use Rattle.cfn_app.proofs.Writing.{stored_at}
 
-no_part : false ≡ true → ⊥
-no_part e = cc
-
 module _ (ask : RebaseRequest) (old new : Outside) where
   reported : (word : ResultWord) → WentOn ask old new word → RebaseSays ask old new (status_of word)
   reported words.Optimum went = went
   reported words.Nothing went = went
   reported words.Budget went = inl went
-  reported words.Time went = inr went
-  reported words.Part went = absurd (no_part (went.promise.causes.left_to_others refl).0)
+  reported words.Time went = inr (inl went)
+  reported words.Part went = inr (inr went)
   reported words.Memory went = inr went
 
   module _ (status : Status) where
-    says_output : (P : Network) (text : List ℕ) (middle : Outside) (start : Start) (nodes : ℕ) (c : Certificate) (rows : List Row) (word : ResultWord) → Rebased ask old P text middle → Resumes P text start → Promise P start (limits_of ask.solve) nodes c rows word →
+    says_output : (P : Network) (text : List ℕ) (middle : Outside) (start : Start) (nodes : ℕ) (c : Certificate) (rows : List Row) (word : ResultWord) → Rebased ask old P text middle → Resumes P (part_of ask) text start → Promise P start (limits_of ask.solve) nodes c rows word →
         Outputs (spelling c) (report ask.solve.workers c rows nodes word) (status_of word) (after (Open ask.solve.certificate true) middle) new status → RebaseSays ask old new status
     says_output P text middle start nodes c rows word paired resumes promise (endings.unwritten last not same ends) = by (RebaseSays ask old new) _ new.calls status ends (λ calls. tt) tt
     says_output P text middle start nodes c rows word paired resumes promise (endings.wrote last wrote same ends) = by (RebaseSays ask old new) _ new.calls status ends (λ calls. reported word (record {
@@ -61,7 +58,7 @@ module _ (ask : RebaseRequest) (old new : Outside) where
       calls = calls ∙ ap (says (report ask.solve.workers c rows nodes word)) wrote.calls;
     })) tt
 
-    says_search : (P : Network) (text : List ℕ) (middle : Outside) (start : Start) → Rebased ask old P text middle → Resumes P text start → Searches P start ask.solve middle new status → RebaseSays ask old new status
+    says_search : (P : Network) (text : List ℕ) (middle : Outside) (start : Start) → Rebased ask old P text middle → Resumes P (part_of ask) text start → Searches P start ask.solve middle new status → RebaseSays ask old new status
     says_search P text middle start paired resumes (solving.unbegun same ends) = by (RebaseSays ask old new) _ new.calls status ends (λ calls. inl (_, (calls, same ∙ paired.files))) tt
     says_search P text middle start paired resumes (solving.unopened same ends) = by (RebaseSays ask old new) _ new.calls status ends (λ calls. tt) tt
     says_search P text middle start paired resumes (solving.no_memory same ends) = by (RebaseSays ask old new) _ new.calls status ends (λ calls. inl (_, (calls, same ∙ paired.files))) tt

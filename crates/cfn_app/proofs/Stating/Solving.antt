@@ -26,16 +26,13 @@ use Rattle.cfn_app.proofs.Counting.{by, counted, ends_idle, hindered, unheard, b
 use Rattle.cfn_app.proofs.Writing.{stored_at, output_counts, output_idle}
 use Rattle.cfn_app.proofs.Files.{same_bytes, read_refused}
 
-no_part : false ≡ true → ⊥
-no_part e = cc
-
 module _ (ask : SolveRequest) (old new : Outside) where
   reported : (word : ResultWord) → Solved ask old new word → SolveSays ask old new (status_of word)
   reported words.Optimum solved = solved
   reported words.Nothing solved = solved
   reported words.Budget solved = inl solved
   reported words.Time solved = inr solved
-  reported words.Part solved = absurd (no_part (solved.promise.causes.left_to_others refl).0)
+  reported words.Part solved = absurd (let left = solved.promise.causes.left_to_others.0 refl in let some = left.0 in let few = left.1 in omega (arith, some, few))
   reported words.Memory solved = inr solved
 
   module _ (status : Status) where

@@ -1,5 +1,5 @@
 -- The command `rebase`: how a run of it ends, and what each status of it says.
-use Rattle.std.specs.Prelude.{◌≡◌, ℕ, true, List, ◌∷◌, ◌⊎◌}
+use Rattle.std.specs.Prelude.{◌≡◌, ℕ, ◌-◌, ◌==◌, true, List, ◌∷◌, ◌⊎◌, Option, Some, None, if◌then◌else◌}
 use Rattle.cfn_model.specs.declared.report.Row.{Row}
 use Rattle.cfn_model.specs.declared.report.ResultWord.{ResultWord}
 use Rattle.cfn_model.specs.declared.report.ResultWord.TheVariants as words
@@ -10,6 +10,7 @@ use Rattle.cfn_fault.specs.declared.kind.FaultKind.TheVariants as kinds
 use Rattle.cfn_fault.specs.Fault.{TextFault}
 use Rattle.cfn_report.specs.Texts.{refused_text}
 use Rattle.cfn_desk.specs.Outside.{Outside, Open, Close, Stored, Writing, puts, says}
+use Rattle.cfn_machine.specs.declared.part.Part.{Part}
 use Rattle.cfn_outcome.specs.Outcome.{Start}
 use Rattle.cfn_resume.specs.Resuming.{Resumes}
 use Rattle.cfn_wcnf.specs.declared.fault.Unread.{Unread as FirstUnread}
@@ -27,16 +28,20 @@ use Rattle.cfn_app.specs.Runs.Solving.{Searches, IsReported, limits_of}
 abbrev pub Rebased : RebaseRequest → Outside → Network → List ℕ → Outside → Type 0
 Rebased ask old P text middle = Paired ask.solve.format ask.solve.file ask.old old P text middle
 
+-- The part of the open leaves that is worked on: all of them, or one of several parts, counted from 0.
+abbrev pub part_of : RebaseRequest → Option Part
+part_of ask = if ask.parts == 1 then None else Some (record { number = ask.part - 1; parts = ask.parts })
+
 -- What becomes of the text: it spells no certificate; or memory is refused; or a search goes on from what is kept of it.
-pub data GoesOn (P : Network) (text : List ℕ) (ask : SolveRequest) (old new : Outside) (status : Status) : Type 0 where
+pub data GoesOn (P : Network) (text : List ℕ) (ask : RebaseRequest) (old new : Outside) (status : Status) : Type 0 where
   unspelled : (l : ℕ) → TextFault text l → new.files ≡ old.files → Ends (record { calls = old.calls; text = refused_text kinds.Text l; status = Disproved }) new.calls status → GoesOn P text ask old new status
   no_memory : new.files ≡ old.files → Ends (record { calls = old.calls; text = memory_fault_text; status = NoMemory }) new.calls status → GoesOn P text ask old new status
-  searches : (start : Start) → Resumes P text start → Searches P start ask old new status → GoesOn P text ask old new status
+  searches : (start : Start) → Resumes P (part_of ask) text start → Searches P start ask.solve old new status → GoesOn P text ask old new status
 
 -- How a run of `rebase` ends: both files were not loaded and read; or it goes on.
 pub data Rebases (ask : RebaseRequest) (old new : Outside) (status : Status) : Type 0 where
   unpaired : new.files ≡ old.files → Unpaired ask.solve.format ask.solve.file ask.old old new.calls status → Rebases ask old new status
-  goes_on : (P : Network) (text : List ℕ) (middle : Outside) → Rebased ask old P text middle → GoesOn P text ask.solve middle new status → Rebases ask old new status
+  goes_on : (P : Network) (text : List ℕ) (middle : Outside) → Rebased ask old P text middle → GoesOn P text ask middle new status → Rebases ask old new status
 
 -- ---- what its statuses say
 
@@ -48,7 +53,7 @@ pub record WentOn (ask : RebaseRequest) (old new : Outside) (word : ResultWord) 
   pub middle : Outside
   pub paired : Rebased ask old network text middle
   pub start : Start
-  pub resumes : Resumes network text start
+  pub resumes : Resumes network (part_of ask) text start
   pub nodes : ℕ
   pub certificate : Certificate
   pub rows : List Row
@@ -63,7 +68,7 @@ Unspelled ask old new = (P : Network) × (text : List ℕ) × (l : ℕ) × (midd
 abbrev pub RebaseSays : RebaseRequest → Outside → Outside → Status → Type 0
 RebaseSays ask old new Done = WentOn ask old new words.Optimum
 RebaseSays ask old new Nothing = WentOn ask old new words.Nothing
-RebaseSays ask old new LimitSpent = WentOn ask old new words.Budget ⊎ WentOn ask old new words.Time
+RebaseSays ask old new LimitSpent = WentOn ask old new words.Budget ⊎ (WentOn ask old new words.Time ⊎ WentOn ask old new words.Part)
 RebaseSays ask old new Usage = ⊥
 RebaseSays ask old new Refused = PairRefused ask.solve.format ask.solve.file ask.old old new
 RebaseSays ask old new Fault = Unit {0}

@@ -1,19 +1,20 @@
 //! The command `rebase`.
 
-ghost use Rattle.std.specs.Prelude.{◌≡◌, ◌≤◌, is_some};
+ghost use Rattle.std.specs.Prelude.{◌≡◌, ◌≤◌, is_some, IfSome};
 ghost use Rattle.cfn_model.specs.declared.limits.TheConstants.{GREATEST};
 ghost use Rattle.cfn_desk.specs.Outside.{IsIdle};
 ghost use Rattle.cfn_cli.specs.Request.Rebasing.{spoken_rebase};
-ghost use Rattle.cfn_cli.specs.Request.Solving.{spoken_solve};
-ghost use Rattle.cfn_app.specs.Runs.Rebasing.{GoesOn, Rebases};
+ghost use Rattle.cfn_app.specs.Runs.Rebasing.{GoesOn, Rebases, part_of};
+ghost use Rattle.cfn_machine.specs.Parts.{IsPart};
 
 use crate::commands::solving::open_and_search;
 use crate::loading::load_pair;
 use crate::status::{Status, ending};
-use cfn_cli::commands::{RebaseArguments, SolveArguments};
+use cfn_cli::commands::RebaseArguments;
 use cfn_clock::Deadline;
 use cfn_desk::Desk;
 use cfn_fault::FaultKind;
+use cfn_machine::Part;
 use cfn_net::Network;
 use cfn_resume::{Resumed, resume};
 use cfn_solve::{Gate, Halt};
@@ -36,6 +37,8 @@ pub fn rebase_file<R: Threads + Wait + Sync, D: Desk, G: Gate + Sync, C: Clock +
     requires some { 1 ≤ ask.now.solve.workers }
     requires few { ask.now.solve.workers ≤ 64 }
     requires budget { ask.now.solve.budget ≤ GREATEST }
+    requires first { 1 ≤ ask.now.part }
+    requires last { ask.now.part ≤ ask.now.parts }
     ensures { Rebases (spoken_rebase ask.now) (D.outside desk.old) (D.outside desk.new) result }
 {
     let solve = &ask.solve;
@@ -52,7 +55,7 @@ pub fn rebase_file<R: Threads + Wait + Sync, D: Desk, G: Gate + Sync, C: Clock +
             alloc,
             &pair.network,
             &pair.text,
-            solve,
+            ask,
             desk,
             gate,
             &deadline,
@@ -67,21 +70,23 @@ fn go_on<R: Threads + Wait + Sync, D: Desk, G: Gate + Sync, H: Halt + Sync>(
     alloc: Global,
     network: &Network,
     text: &[u8],
-    ask: &SolveArguments,
+    ask: &RebaseArguments,
     desk: &mut D,
     gate: &G,
     halt: &H,
 ) -> Status
     requires idle { IsIdle (D.outside desk.old).calls }
-    requires some { 1 ≤ ask.now.workers }
-    requires few { ask.now.workers ≤ 64 }
-    requires budget { ask.now.budget ≤ GREATEST }
-    requires halt { H.limited halt.now ≡ is_some ask.now.seconds }
-    ensures { GoesOn network.now text.now (spoken_solve ask.now) (D.outside desk.old) (D.outside desk.new) result }
+    requires some { 1 ≤ ask.now.solve.workers }
+    requires few { ask.now.solve.workers ≤ 64 }
+    requires budget { ask.now.solve.budget ≤ GREATEST }
+    requires first { 1 ≤ ask.now.part }
+    requires last { ask.now.part ≤ ask.now.parts }
+    requires halt { H.limited halt.now ≡ is_some ask.now.solve.seconds }
+    ensures { GoesOn network.now text.now (spoken_rebase ask.now) (D.outside desk.old) (D.outside desk.new) result }
 {
-    match resume(alloc, network, text) {
+    match resume(alloc, network, text, part_of(ask)) {
         Ok(Resumed::Goes(begin)) => {
-            open_and_search(rt, alloc, network, begin, ask, desk, gate, halt)
+            open_and_search(rt, alloc, network, begin, &ask.solve, desk, gate, halt)
         }
         Ok(Resumed::Refused { line }) => ending(
             cfn_report::write_refused(FaultKind::Text, line, desk),
@@ -89,4 +94,20 @@ fn go_on<R: Threads + Wait + Sync, D: Desk, G: Gate + Sync, H: Halt + Sync>(
         ),
         Err(AllocError) => ending(cfn_report::write_memory_fault(desk), Status::NoMemory),
     }
+}
+
+/// The part of the open leaves that is worked on, where it is not all.
+fn part_of(ask: &RebaseArguments) -> Option<Part>
+    requires first { 1 ≤ ask.now.part }
+    requires last { ask.now.part ≤ ask.now.parts }
+    ensures part { result ≡ part_of (spoken_rebase ask.now) }
+    ensures is { IfSome result IsPart }
+{
+    if ask.parts == 1 {
+        return None;
+    }
+    Some(Part {
+        number: ask.part - 1,
+        parts: ask.parts,
+    })
 }

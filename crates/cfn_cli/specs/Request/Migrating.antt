@@ -1,14 +1,10 @@
 -- The command `migrate`: its part of the command line, what it is asked, and how that is read.
-use Rattle.std.specs.Prelude.{true, List, Option, Some, None}
+use Rattle.std.specs.Prelude.{List, Option, Some, None}
 use Rattle.std.specs.Prelude.{option_map, option_and_then, if◌then◌else◌, codes, string_bytes}
 use Rattle.std.specs.Str.{bytes_eq}
-use Rattle.clap.specs.Words.{App, Row, Rule, Text, first_of, new_app, new_rule, with_rule}
-use Rattle.cfn_cli.specs.Arguments.{certificate_rule, file_rule}
+use Rattle.clap.specs.Words.{App, Row, Text, first_of, new_app, with_rule}
+use Rattle.cfn_cli.specs.Arguments.{certificate_rule, file_rule, out_rule}
 use Rattle.cfn_cli.specs.declared.commands.migrate.MigrateArguments.{MigrateArguments}
-
--- OUT
-unfoldable pub out_rule : Rule
-out_rule = record (new_rule (codes "out")) { required = true }
 
 -- migrate FILE CERT OUT
 unfoldable pub migrate_app : App

@@ -1,14 +1,14 @@
 //! The command `migrate`.
 
-ghost use Rattle.std.specs.Prelude.{◌≡◌, false, Some, None, IfErr, IfOk};
-ghost use Rattle.clap.specs.Words.{found_of, rows_of, rule_of};
+ghost use Rattle.std.specs.Prelude.{◌≡◌, Some, None, IfErr, IfOk};
+ghost use Rattle.clap.specs.Words.{found_of, rows_of};
 ghost use Rattle.cfn_cli.specs.Building.{Builds};
-ghost use Rattle.cfn_cli.specs.Request.Migrating.{migrate_app, migrate_in, migrate_of, out_rule, spoken_migrate};
+ghost use Rattle.cfn_cli.specs.Request.Migrating.{migrate_app, migrate_in, migrate_of, spoken_migrate};
 
-use crate::arguments::{certificate, file};
+use crate::arguments::{certificate, file, out};
 use crate::fault::CliFault;
 use crate::found::text;
-use clap::{Arg, ArgMatches, Command};
+use clap::{ArgMatches, Command};
 use std::alloc::{AllocError, Global};
 
 /// A certificate to write in the second version, and the file that it is for.
@@ -29,14 +29,6 @@ pub(crate) fn line<'a>(alloc: Global) -> Result<Command<'a>, AllocError>
         .arg(file(alloc))?
         .arg(certificate(alloc))?
         .arg(out(alloc))
-}
-
-#[tactic(auto, unfolding(crate::specs::Request::Migrating::out_rule))]
-fn out<'a>(alloc: Global) -> Arg<'a>
-    ensures rule { rule_of result ≡ out_rule }
-    ensures local { result.global ≡ false }
-{
-    Arg::new(alloc, "out").required(true)
 }
 
 /// What is asked of `migrate`, which writes to another name than its file's.

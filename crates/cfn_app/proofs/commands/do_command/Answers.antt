@@ -30,3 +30,6 @@ returns-in-Migrate g c = run_of _ _ _ _ _ c.in-Migrate.is c.migrate_file.ensures
 
 pub returns-in-Rebase : goal.returns-in-Rebase
 returns-in-Rebase g c = run_of _ _ _ _ _ c.in-Rebase.is c.rebase_file.ensures
+
+pub returns-in-Merge : goal.returns-in-Merge
+returns-in-Merge g c = run_of _ _ _ _ _ c.in-Merge.is c.merge_files.ensures

@@ -14,4 +14,6 @@ returns c =
     let with_budget = argument_added _ _ _ _ _ c.in_ok-arg-5.ensures with_workers c.budget.ensures.rule c.budget.ensures.local in
     let with_seconds = argument_added _ _ _ _ _ c.in_ok-arg-6.ensures with_budget c.seconds.ensures.rule c.seconds.ensures.local in
     let with_wcnf = argument_added _ _ _ _ _ c.in_ok-arg-7.ensures with_seconds c.wcnf.ensures.rule c.wcnf.ensures.local in
-    IfOk-weaker c.arg-8.result _ _ (λ new adds. argument_added _ new _ _ _ adds with_wcnf c.progress.ensures.rule c.progress.ensures.local) c.arg-8.ensures
+    let with_progress = argument_added _ _ _ _ _ c.in_ok-arg-8.ensures with_wcnf c.progress.ensures.rule c.progress.ensures.local in
+    let with_part = argument_added _ _ _ _ _ c.in_ok-arg-9.ensures with_progress c.part.ensures.rule c.part.ensures.local in
+    IfOk-weaker c.arg-10.result _ _ (λ new adds. argument_added _ new _ _ _ adds with_part c.parts.ensures.rule c.parts.ensures.local) c.arg-10.ensures

@@ -1,0 +1,5 @@
+pub mod Tested
+pub mod Ranked
+pub mod Parts
+pub mod Walks
+pub mod CallerLemmas

@@ -1,0 +1,4 @@
+pub mod Same
+pub mod Ranking
+pub mod Sources
+pub mod Finding

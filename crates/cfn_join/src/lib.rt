@@ -1,0 +1,20 @@
+//! Two search trees of one network in one, and what certificates come to that are merged.
+//!
+//! - `join` makes the joined tree (`joining.rt`), by a walk that makes node after node (`walk.rt`). A `Pair` is the two trees, and
+//!   tells what each node is to be (`pair.rt`): a `Source` is a node of one tree, or of both.
+//! - A `Rank` is how high a tree is, and how many splits and closed leaves it has; a tree's nodes are ranked from the last on, since
+//!   children stand behind their parents (`rank.rt`).
+//! - `Findings` are a best assignment and a tree (`findings.rt`). Those of two certificates are joined, and make a certificate again.
+//! - `same.rt` tells whether two nodes are one split; `laws` says that only the same block and decision are.
+#![tactic(auto)]
+
+mod findings;
+mod joining;
+pub mod laws;
+mod pair;
+mod rank;
+mod same;
+mod walk;
+
+pub use findings::{Findings, certificate, join_findings};
+pub use joining::join;

@@ -1,0 +1,2 @@
+-- What the crates above cite of the proofs here.
+pub use Rattle.cfn_mending.proofs.Merged.{merged_good, all_merged_good, all_merged_lower, all_merged_spelled, all_merged_anew}
