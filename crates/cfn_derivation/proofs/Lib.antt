@@ -5,6 +5,7 @@ mod Striking
 mod Lowering
 mod Banning
 mod Looking
+mod Costing
 mod Deriving
 mod Flags
 mod Noting

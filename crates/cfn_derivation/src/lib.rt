@@ -5,11 +5,13 @@
 //! - `deriver.rt`: what a caller has, and what it need not look at;
 //! - `bans.rt`: what may not be a reason;
 //! - `own.rt` and `looks.rt`: what one variable and one function delete;
+//! - `costs.rt`: whether all live tuples with a value cost as much as an amount;
 //! - `notes.rt` and `listed.rt`: what steps touch;
 //! - `work.rt`: the deletions, and the variables that lost values since their functions were looked at.
 #![tactic(auto)]
 
 mod bans;
+mod costs;
 mod deriver;
 mod listed;
 mod looks;

@@ -14,6 +14,7 @@ ghost use Rattle.cfn_derivation.specs.Banned.{bans_of};
 ghost use Rattle.cfn_derivation.specs.Working.{HasRoom, NoneWaitsOn, IsQuietAt, IsDone, Goes};
 
 use crate::bans::Bans;
+use crate::costs::{all_cost_less, costs_at_least};
 use crate::work::Work;
 use cfn_consistency::{Deletion, Reason};
 use cfn_dac::takes_part;
@@ -122,6 +123,9 @@ fn look_at(
 {
     let network = store.network();
     network.limits();
+    if all_cost_less(store, f, place, q) {
+        return false;
+    }
     let x = network.scope(f)[place as usize];
     for value in 0..network.size(x) {
         if look_value(store, work, q, bans, f, place, value) {
@@ -174,11 +178,8 @@ fn deletes(store: &Store<'_>, q: u64, bans: &Bans<'_>, f: u32, place: u32, value
 {
     store.network().limits();
     let x = store.network().scope(f)[place as usize];
-    if !store.is_live(x, value) || bans.by(f, place, value) {
+    if !store.is_live(x, value) || !costs_at_least(store, f, place, value, q) {
         return false;
     }
-    match store.least_residual(f, place, value) {
-        Some(least) => least.cost >= q,
-        None => true,
-    }
+    !bans.by(f, place, value)
 }

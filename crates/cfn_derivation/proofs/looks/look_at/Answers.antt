@@ -1,5 +1,5 @@
 use Rattle.cfn_derivation.specs.Banned.{bans_of}
-use Rattle.cfn_derivation.proofs.Going.{goes_then}
+use Rattle.cfn_derivation.proofs.Going.{goes_none, goes_then}
 use Rattle.cfn_derivation.proofs.Looking.{looking_start, looking_next}
 use Rattle.cfn_derivation.proofs.looks.look_at.Goals as goal
 
@@ -14,3 +14,9 @@ pub loop-value-preserved : goal.loop-value-preserved
 loop-value-preserved c =
     looking_next c.args.q (bans_of c.args.bans.now) c.args.store.now c.loop-value.store c.look_value.new.store c.args.work.now c.loop-value.work c.look_value.new.work c.args.f c.args.place c.loop-value.value c.loop-value.invariant
     c.look_value.ensures.goes (c.look_value.ensures.alive c.if-look_value.false) c.look_value.ensures.quiet
+
+pub returns-then-all_cost_less-clause-goes : goal.returns-then-all_cost_less-clause-goes
+returns-then-all_cost_less-clause-goes c = goes_none c.args.q (bans_of c.args.bans.now) c.args.store.now c.args.work.now c.requires.room
+
+pub returns-then-all_cost_less-clause-quiet : goal.returns-then-all_cost_less-clause-quiet
+returns-then-all_cost_less-clause-quiet c = λ no none a place live unbanned. c.all_cost_less.ensures c.if-all_cost_less.true a place live
