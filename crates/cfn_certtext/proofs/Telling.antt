@@ -30,7 +30,7 @@ len_at_end b bytes e = rw e refl
 len_inside : (b : ℕ) (bytes : List ℕ) → is_end b ≡ false → position_or_len is_end (b ∷ bytes) ≡ suc (position_or_len is_end bytes)
 len_inside b bytes e = rw e (one-add (position_or_len is_end bytes))
 
-no_end : (bytes : List ℕ) → length bytes ≤ position_or_len is_end bytes → HasNoEnd bytes
+pub no_end : (bytes : List ℕ) → length bytes ≤ position_or_len is_end bytes → HasNoEnd bytes
 no_end [] le = refl
 no_end (b ∷ bytes) le =
     elim (cases_Bool (is_end b)) [
@@ -38,9 +38,9 @@ no_end (b ∷ bytes) le =
       | inr e ↦ and_from (not (b == 10)) (list_all (λ b. not (b == 10)) bytes) (not_from_false (b == 10) e) (no_end bytes (omega (arith, len_inside b bytes e)))
     ]
 
-record EndsAt (rest : List ℕ) (n : ℕ) : Type 0 where
-  whole : rest ≡ take n rest ++ 10 ∷ drop (suc n) rest
-  inside : HasNoEnd (take n rest)
+pub record EndsAt (rest : List ℕ) (n : ℕ) : Type 0 where
+  pub whole : rest ≡ take n rest ++ 10 ∷ drop (suc n) rest
+  pub inside : HasNoEnd (take n rest)
 
 to_end : (bytes : List ℕ) (n : ℕ) → position_or_len is_end bytes ≡ n → n < length bytes → EndsAt bytes n
 to_end [] n is lt = absurd (omega arith)
@@ -56,11 +56,11 @@ to_end (b ∷ bytes) (suc n) is lt =
           record { whole = ap (λ r. b ∷ r) more.whole; inside = and_from (not (b == 10)) (list_all (λ b. not (b == 10)) (take n bytes)) (not_from_false (b == 10) e) more.inside }
     ]
 
-ends_at : (rest : List ℕ) (n : ℕ) → Some n ≡ position is_end rest → EndsAt rest n
+pub ends_at : (rest : List ℕ) (n : ℕ) → Some n ≡ position is_end rest → EndsAt rest n
 ends_at rest n e = let at = position_some is_end rest n (sym e) in to_end rest n at.0 at.1
 
 -- a text without LF has no line of a certificate
-has_end : (front : List ℕ) → HasNoEnd (front ++ 10 ∷ []) → ⊥
+pub has_end : (front : List ℕ) → HasNoEnd (front ++ 10 ∷ []) → ⊥
 has_end [] e = absurd cc
 has_end (b ∷ front) e = has_end front (and_parts (not (b == 10)) (list_all (λ b. not (b == 10)) (front ++ 10 ∷ [])) e).1
 

@@ -5,7 +5,7 @@
 //! and `parsing` reads a whole line as what `parsed` has. Of a step, `StepText` is what the line says, and of a split
 //! `DecisionText`.
 //!
-//! No call takes memory.
+//! `Fields` and `parse` are public for other texts that have lines of certificates. No call takes memory.
 #![tactic(auto)]
 
 mod event;
@@ -16,4 +16,7 @@ mod reader;
 mod stage;
 
 pub use event::{DecisionText, Event, Item, StepText, TextFault};
+pub use fields::{Fields, numeral};
+pub use parsed::Parsed;
+pub use parsing::parse;
 pub use reader::Reader;

@@ -9,14 +9,14 @@ use std::alloc::{AllocError, Global};
 
 /// The values that were told, as long as they may be those of an assignment.
 #[derive(Drop)]
-pub(crate) struct Assignment {
-    pub(crate) values: Vec<u32>,
-    pub(crate) possible: bool,
+pub struct Assignment {
+    pub values: Vec<u32>,
+    pub possible: bool,
 }
 
 impl Assignment {
     /// Nothing was told. It takes no memory.
-    pub(crate) fn new(alloc: Global) -> Assignment
+    pub fn new(alloc: Global) -> Assignment
         ensures possible { result.possible ≡ true }
         ensures values { result.values.items ≡ [] }
     {
@@ -27,7 +27,7 @@ impl Assignment {
     }
 
     /// Takes the next value. An `Err` is want of memory.
-    pub(crate) fn add(&mut self, network: &Network, value: u64) -> Result<(), AllocError>
+    pub fn add(&mut self, network: &Network, value: u64) -> Result<(), AllocError>
         ensures { OnOk result ((all left : List ℕ) → IsTold network.now self.old all (value ∷ left)
             → IsTold network.now self.new all left) }
     {
@@ -45,7 +45,7 @@ impl Assignment {
     }
 
     /// Whether the values that were told are an assignment of this cost.
-    pub(crate) fn has_cost(&self, network: &Network, price: u64) -> bool
+    pub fn has_cost(&self, network: &Network, price: u64) -> bool
         ensures { (all : List ℕ) → IsTold network.now self.now all []
             → IsTrue result ↔ (Fits network.now.sizes all × (cost network.now all ≡ price)) }
     {

@@ -9,6 +9,8 @@
 //! - `Ledger` is where one path of the tree stands. It judges a step and makes it, takes or refuses a decision, tells
 //!   whether a leaf may be closed, and goes back to a mark. `asked` has which steps and decisions of a text are in range,
 //!   `allowed` what each step asks; an `Entry` is one event of the path.
+//! - `only` has whether the values of one assignment are all that a path leaves.
+//! - `Walk`, `node` and `Assignment` are public for checkers of other texts that have trees.
 //! - `probe` walks over the live tuples that a project asks about.
 #![tactic(auto)]
 
@@ -21,6 +23,7 @@ mod certificate;
 mod entry;
 mod ledger;
 mod nodes;
+mod only;
 mod owed;
 mod probe;
 mod reading;
@@ -28,5 +31,8 @@ mod walk;
 
 pub use answer::Check;
 pub use asked::Judged;
+pub use assignment::Assignment;
 pub use certificate::check;
 pub use ledger::{Ledger, Mark};
+pub use nodes::node;
+pub use walk::Walk;

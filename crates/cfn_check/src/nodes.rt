@@ -38,8 +38,9 @@ pub(crate) fn nodes(network: &Network, reader: &mut Reader<'_>, walk: &mut Walk)
     Ok(())
 }
 
-/// Judges a line of the node that is due, and goes on behind it. The answer is how the line fails, if it does.
-fn node(network: &Network, walk: &mut Walk, item: Item) -> Result<Option<FaultKind>, AllocError>
+/// Judges a line of the node that is due, and goes on behind it. The answer is how the line fails, if it does. An `Err`
+/// is want of memory.
+pub fn node(network: &Network, walk: &mut Walk, item: Item) -> Result<Option<FaultKind>, AllocError>
     requires { network.now ≡ walk.old.network }
     ensures network { walk.new.network ≡ walk.old.network }
     ensures takes { IfOk result (λ fault. (it : NodeItem) (history : List PathEvent) (paths : List (List PathEvent))

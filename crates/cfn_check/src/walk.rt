@@ -1,13 +1,15 @@
 //! The way down and up a certificate's tree, in the order of its lines.
 
-ghost use Rattle.std.specs.Prelude.{◌≡◌, ℕ, ◌<◌, ◌≤◌, ◌↔◌, List, [], ◌∷◌, IfOk, OnOk, IsTrue};
+ghost use Rattle.std.specs.Prelude.{◌≡◌, ℕ, ◌<◌, ◌≤◌, ◌↔◌, List, [], ◌∷◌, length, IfOk, OnOk, IsTrue};
 ghost use Rattle.cfn_model.specs.declared.step.Event.{Event};
 ghost use Rattle.cfn_certtext.specs.Reading.{step_of, decision_of};
 ghost use Rattle.cfn_fault.specs.Fault.{refusal_of};
+ghost use Rattle.cfn_check.specs.Asking.{HasOnly};
 ghost use Rattle.cfn_check.specs.Walking.{Steps, Opens, Closes, Splits, fault_of, with_paths};
 
 use crate::asked::{Judged, decision_in_range};
 use crate::ledger::Ledger;
+use crate::only::has_only;
 use crate::owed::Owed;
 use cfn_certtext::{DecisionText, StepText};
 use cfn_fault::FaultKind;
@@ -19,7 +21,7 @@ use std::marker::Model;
 /// A path down a tree with the splits on it that still owe their second side. Contracts see the paths to all nodes
 /// that are due, the next one first. It takes memory for the tables, the path's events, and the splits on it.
 #[derive(Drop)]
-pub(crate) struct Walk {
+pub struct Walk {
     ledger: Ledger,
     owed: Vec<Owed>,
     over: bool,
@@ -45,7 +47,7 @@ impl Model for Walk {
 
 impl Walk {
     /// The root is due. An `Err` is want of memory.
-    pub(crate) fn make(alloc: Global, network: &Network, threshold: u64) -> Result<Walk, AllocError>
+    pub fn make(alloc: Global, network: &Network, threshold: u64) -> Result<Walk, AllocError>
         ensures { IfOk result (λ w. w ≡ record {
           network = network.now;
           threshold = threshold;
@@ -63,21 +65,21 @@ impl Walk {
     }
 
     /// The least of the threshold and the floors of the open leaves so far.
-    pub(crate) fn least(&self) -> u64
+    pub fn least(&self) -> u64
         ensures { result ≡ self.now.least }
     {
         self.least
     }
 
     /// Whether no node is due.
-    pub(crate) fn is_over(&self) -> bool
+    pub fn is_over(&self) -> bool
         ensures { IsTrue result ↔ (self.now.paths ≡ []) }
     {
         self.over
     }
 
     /// Judges a step of the block of the node that is due, and makes it if it is allowed. The answer is how it fails.
-    pub(crate) fn step(
+    pub fn step(
         &mut self,
         network: &Network,
         step: StepText,
@@ -92,7 +94,7 @@ impl Walk {
     }
 
     /// The node that is due is an open leaf.
-    pub(crate) fn open(&mut self, network: &Network) -> Result<(), AllocError>
+    pub fn open(&mut self, network: &Network) -> Result<(), AllocError>
         requires { network.now ≡ self.old.network }
         ensures network { self.new.network ≡ self.old.network }
         ensures opens { OnOk result ((history : List Event) (paths : List (List Event))
@@ -103,7 +105,7 @@ impl Walk {
     }
 
     /// The node that is due is a closed leaf. The answer is whether it may be closed.
-    pub(crate) fn close(&mut self, network: &Network) -> Result<bool, AllocError>
+    pub fn close(&mut self, network: &Network) -> Result<bool, AllocError>
         requires { network.now ≡ self.old.network }
         ensures network { self.new.network ≡ self.old.network }
         ensures closes { IfOk result (λ answer. (history : List Event) (paths : List (List Event))
@@ -117,11 +119,7 @@ impl Walk {
     }
 
     /// The node that is due is a split. The answer is whether its decision is in range.
-    pub(crate) fn split(
-        &mut self,
-        network: &Network,
-        decision: DecisionText,
-    ) -> Result<bool, AllocError>
+    pub fn split(&mut self, network: &Network, decision: DecisionText) -> Result<bool, AllocError>
         requires { network.now ≡ self.old.network }
         ensures network { self.new.network ≡ self.old.network }
         ensures splits { IfOk result (λ answer. (history : List Event) (paths : List (List Event))
@@ -136,8 +134,19 @@ impl Walk {
         Ok(true)
     }
 
-    /// Goes from a leaf to the next node that is due, if there is one.
-    fn leave(&mut self, network: &Network) -> Result<(), AllocError>
+    /// Whether no value is live at the node that is due but those of an assignment. It takes time for the values of all
+    /// variables.
+    pub fn has_only(&self, network: &Network, values: &[u32]) -> bool
+        requires same { network.now ≡ self.now.network }
+        requires long { length values.now ≡ length network.now.sizes }
+        ensures { (history : List Event) (paths : List (List Event)) → self.now.paths ≡ history ∷ paths
+            → IsTrue result ↔ HasOnly network.now history values.now }
+    {
+        has_only(&self.ledger, network, values)
+    }
+
+    /// Goes from a leaf to the next node that is due, if there is one. An `Err` is want of memory.
+    pub fn leave(&mut self, network: &Network) -> Result<(), AllocError>
         requires { network.now ≡ self.old.network }
         ensures network { self.new.network ≡ self.old.network }
         ensures leaves { OnOk result ((history : List Event) (paths : List (List Event))

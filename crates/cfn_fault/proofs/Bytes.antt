@@ -39,7 +39,7 @@ digits_clean : (word : List ℕ) → list_all is_digit word ≡ true → IsClean
 digits_clean [] e = refl
 digits_clean (b ∷ word) e = let parts = and_parts (is_digit b) (list_all is_digit word) e in and_from (is_letter b) (list_all is_letter word) (digit_letter b parts.0) (digits_clean word parts.1)
 
-decimal_clean : (n : ℕ) → n ≤ greatest → IsClean (decimal n)
+pub decimal_clean : (n : ℕ) → n ≤ greatest → IsClean (decimal n)
 decimal_clean n h = digits_clean (decimal n) (decimal_digits n h)
 
 clean_inside : (word : List ℕ) → IsClean word → HasNoEnd word
@@ -87,7 +87,7 @@ inside_append : (a b : List ℕ) → HasNoEnd a → HasNoEnd b → HasNoEnd (a +
 inside_append [] b ha hb = hb
 inside_append (x ∷ a) b ha hb = let parts = and_parts (is_inside x) (list_all is_inside a) ha in and_from (is_inside x) (list_all is_inside (a ++ b)) parts.0 (inside_append a b parts.1 hb)
 
-inside_front : (words : List (List ℕ)) → AllByRecursion IsClean words → HasNoEnd (front_of words)
+pub inside_front : (words : List (List ℕ)) → AllByRecursion IsClean words → HasNoEnd (front_of words)
 inside_front [] all = refl
 inside_front (word ∷ []) all = clean_inside word all.0
 inside_front (word ∷ next ∷ words) all = inside_append word (32 ∷ front_of (next ∷ words)) (clean_inside word all.0) (inside_front (next ∷ words) all.1)

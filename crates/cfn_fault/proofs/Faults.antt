@@ -29,7 +29,7 @@ one_kind_step P k history step a b (OutOfRange is out) (NotAllowed is' within no
 one_kind_step P k history step a b (NotAllowed is within not) (OutOfRange is' out') = absurd (out' within)
 one_kind_step P k history step a b (NotAllowed is within not) (NotAllowed is' within' not') = is ∙ sym is'
 
-one_kind_place : (P : Network) (k : ℕ) (history : List Event) (item : Item) (a b : FaultKind) → FailsPlace P k history item a → FailsPlace P k history item b → a ≡ b
+pub one_kind_place : (P : Network) (k : ℕ) (history : List Event) (item : Item) (a b : FaultKind) → FailsPlace P k history item a → FailsPlace P k history item b → a ≡ b
 one_kind_place P k history (Makes step) a b f g = one_kind_step P k history step a b f g
 one_kind_place P k history LeavesOpen a b f g = absurd f
 one_kind_place P k history Closes a b f g = f.0 ∙ sym g.0

@@ -1,0 +1,5 @@
+//! Tests of the checker of lists on small networks, and no code of its own.
+#![tactic(auto)]
+
+#[cfg(test)]
+mod judging;
