@@ -3,7 +3,7 @@ use Rattle.std.proofs.Common.{◌≡◌, ℕ, suc, ◌+◌, ◌*◌, ◌%◌, �
 use Rattle.std.proofs.lemmas.Bool.{cases_eq, and_parts, and_from}
 use Rattle.std.proofs.lemmas.List.{drop_more, drop_all}
 use Rattle.std.proofs.Math.Nat.{mul-le-mul_left, mul-le-mul_right, mul_assoc}
-use Rattle.std.specs.Prelude.{Option, Some, None, slice_index, drop, IsTrue, MatchOption}
+use Rattle.std.specs.Prelude.{Option, Some, None, slice_index, drop, IsTrue, IsSomeAnd, MatchOption}
 use Rattle.cfn_model.specs.Network.{dims, cells, cell_from}
 use Rattle.cfn_net.proofs.CallerLemmas.{cells-drop-pos, Inhabited-dims}
 use Rattle.cfn_store.specs.Shifts.{offset}
@@ -325,4 +325,19 @@ at_once scan x scope spot values n k (Some c) choices m is e none = record {
   word = is.word;
   cell = is.cell;
   first = λ other met. before_all scan.sense k (word_of scan (x ∷ scope) spot other) e (small_word scan (x ∷ scope) spot other);
+}
+
+-- a cost whose key is 0 stands before each word
+foremost : (sense : Sense) (cost word : ℕ) → key sense cost ≡ 0 → word < 18446744073709551616 → Before sense cost word
+foremost Least cost word e small = omega (arith, e)
+foremost Greatest cost word e small = omega (arith, e, small)
+
+pub at_once_found : (scan : Scan) (x : ℕ) (scope : List ℕ) (spot : Spot) (values : List ℕ) (n : ℕ) (first : Option Extreme) → AreChoices scan spot.place x values → n ≤ length values → FirstOf scan x scope spot values n first → IsSomeAnd first (λ extreme. key scan.sense extreme.cost ≡ 0) → MatchOption first (NoneMet scan (x ∷ scope) spot) (IsFound scan (x ∷ scope) spot)
+at_once_found scan x scope spot values n None choices m is none = absurd none
+at_once_found scan x scope spot values n (Some found) choices m is none = record {
+  rest = slice_index values is.choice ∷ is.rest;
+  met = (let s = choices.stand is.choice (let w = is.within in omega (arith, w, m)) in met_of scan x scope spot (slice_index values is.choice) is.rest s.0 s.1 is.met);
+  word = is.word;
+  cell = is.cell;
+  first = λ other met. foremost scan.sense found.cost (word_of scan (x ∷ scope) spot other) none (small_word scan (x ∷ scope) spot other);
 }

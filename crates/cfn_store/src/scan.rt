@@ -6,7 +6,7 @@
 //! the places behind it are one step, the same for each of its values, so that a row of a table is read in one plain loop.
 //! The depth is that of the other open variables, of which there are at most 21. What is dead is never gone into.
 
-ghost use Rattle.std.specs.Prelude.{◌≡◌, ℕ, ◌+◌, ◌<◌, ◌≤◌, true, List, [], ◌∷◌, length, slice_index, drop, Option, MatchOption, IfSome};
+ghost use Rattle.std.specs.Prelude.{◌≡◌, ℕ, ◌+◌, ◌<◌, ◌≤◌, true, List, [], ◌∷◌, length, slice_index, drop, Option, MatchOption, IfSome, IsSomeAnd};
 ghost use Rattle.cfn_store.specs.Scanning.{IsSpot, IsInner, AreChoices, NoneMet, IsFound, IsSooner, gone_on, agrees, ended, key, found_in, IsBest, IsTail, IsLane};
 
 use cfn_lanes::{Row, least_open};
@@ -94,8 +94,21 @@ impl<'a> Scan<'a> {
         for value in self.choices(x, spot.place) {
             let found = self.first(rest, self.gone_on(spot, x, *value));
             first = self.sooner(first, found);
+            if self.is_foremost(first) {
+                return first;
+            }
         }
         first
+    }
+
+    /// Whether what was found has the key 0, before which none stands.
+    fn is_foremost(&self, found: Option<Extreme>) -> bool
+        ensures { result ≡ true → IsSomeAnd found (λ extreme. key self.now.sense extreme.cost ≡ 0) }
+    {
+        match found {
+            Some(extreme) => self.key(extreme.cost) == 0,
+            None => false,
+        }
     }
 
     /// What stands first of a row: over the values of the scope's first variable, where the places behind it are a tail. No
