@@ -97,6 +97,7 @@ fn taken<M: Incumbent>(network: &Network, held: &mut Pool<M>, worker: u32) -> Op
     ensures goes { GoesOn M.start (pool held.old) (pool held.new) }
     ensures task { IfSome result (IsTaskOf M.network) }
 {
+    held.kept();
     match held.take(network, worker, 1) {
         Taken::Given { task } => Some(task),
         _ => None,
@@ -108,6 +109,8 @@ fn free<M: Incumbent>(held: &mut Pool<M>, task: &Task)
     requires search { IsSearch M.start (pool held.old) }
     ensures goes { GoesOn M.start (pool held.old) (pool held.new) }
 {
+    held.kept();
+    task.kept();
     held.back(task);
 }
 
