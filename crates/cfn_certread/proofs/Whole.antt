@@ -7,8 +7,7 @@ use Rattle.cfn_model.specs.Certificate.{Certificate}
 use Rattle.cfn_model.specs.Text.{Spells}
 use Rattle.cfn_fault.specs.Lines.{Root, End, lines_of, lines_of_tree, lines_of_best}
 use Rattle.cfn_fault.proofs.CallerLemmas.{one_certificate, one_text_fault, no_text_fault_where_spelled}
-use Rattle.cfn_fault.proofs.Faults.{whole_spells}
-use Rattle.cfn_fault.proofs.Spelling.{same_certificate}
+use Rattle.cfn_fault.proofs.CallerLemmas.{same_certificate, whole_spells}
 use Rattle.cfn_certtext.specs.declared.event.TextFault as faults
 use Rattle.cfn_certread.specs.declared.certificate.Best.{Best}
 use Rattle.cfn_certread.specs.declared.certificate.Head.{Head}

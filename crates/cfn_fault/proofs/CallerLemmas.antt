@@ -6,6 +6,6 @@ pub use Rattle.cfn_fault.proofs.Bytes.{HasNoEnd, IsClean, clean_words, decimal_c
 pub use Rattle.cfn_fault.proofs.Beginning.{first_line, front_of_lines, none_begins, some_bytes, some_rest, spelling_is, text_append, text_fails}
 pub use Rattle.cfn_fault.proofs.Judging.{none_pass_yet, place_right}
 pub use Rattle.cfn_fault.proofs.Whole.{one_more_floor}
-pub use Rattle.cfn_fault.proofs.Faults.{line_faults, no_fault_where_good, one_fault, one_kind_place, one_more, text_faults, whole_texts}
-pub use Rattle.cfn_fault.proofs.Spelling.{one_certificate}
+pub use Rattle.cfn_fault.proofs.Faults.{line_faults, no_fault_where_good, one_fault, one_kind_place, one_more, text_faults, whole_texts, whole_spells}
+pub use Rattle.cfn_fault.proofs.Spelling.{one_certificate, same_certificate}
 pub use Rattle.cfn_fault.proofs.TextFaults.{fault_of_text, no_text_fault_where_spelled, one_text_fault, spells_or_text_fault}
