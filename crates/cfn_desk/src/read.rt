@@ -12,7 +12,7 @@ use std::io::{ErrorKind, Read};
 const CHUNK_SIZE: usize = 65536;
 
 /// How many bytes a file that is read may have.
-pub const FILE_LIMIT: usize = 4294967295;
+pub const FILE_LIMIT: usize = 1099511627776;
 
 /// Adds the bytes that the file has left.
 pub(crate) fn read_all<F: Read>(file: &mut F, into: &mut Vec<u8>) -> Result<(), ReadFault>

@@ -1,5 +1,5 @@
 -- Where a path parts into its legs: in one way alone.
-use Rattle.std.proofs.Common.{◌≡◌, List, [], ◌∷◌, ◌++◌, map, reverse, refl, sym, ap, ◌∙◌, append_assoc}
+use Rattle.std.proofs.Common.{◌≡◌, List, [], ◌∷◌, ◌++◌, reverse, refl, sym, ap, ◌∙◌, append_assoc}
 use Rattle.std.proofs.lemmas.List.{reverse-append, reverse-reverse, append-nil}
 use mathlib.Core.List.{reverse-cons}
 use Rattle.cfn_model.specs.declared.step.Step.{Step}

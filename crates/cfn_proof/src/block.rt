@@ -1,7 +1,7 @@
 //! A block of steps, the first of them first, packed into bytes.
 //!
-//! The bytes are a block's own while it is made. Those of a whole tree are put into one buffer by `Tree::share`: then a
-//! block is a stretch of the buffer, its copy counts one reference more, and the buffer goes with the last of them.
+//! The bytes are a block's own while it is made. Those of a whole tree are put into few buffers by `Tree::share`: then a
+//! block is a stretch of one of them, its copy counts one reference more, and a buffer goes with the last of its blocks.
 
 ghost use Rattle.std.specs.Prelude.{◌≡◌, ◌↔◌, ◌+◌, ◌<◌, ◌≤◌, [], ◌∷◌, ◌++◌, length, IsTrue, IfOk, OnOk, OnErr};
 ghost use Rattle.std.specs.List.{AllByRecursion};

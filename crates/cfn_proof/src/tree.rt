@@ -198,31 +198,53 @@ impl Place {
     }
 }
 
-/// The bytes of the blocks of all nodes, one behind the other, where they are fewer than 2^32.
-fn joined(alloc: Global, nodes: &[Node]) -> Result<Option<Vec<u8>>, AllocError>
-    ensures { IfOk result (λ joined. IfSome joined (λ bytes. unpacked bytes.items ≡ all_steps nodes.now)) }
+/// How many bytes a buffer of blocks has, unless a single block has more.
+const BUFFER_SIZE: usize = 2147483648;
+
+/// How many of the first nodes have blocks that fit into one buffer: one at least.
+fn fitting(nodes: &[Node]) -> usize
+    requires { 0 < length nodes.now }
+    ensures some { 0 < result }
+    ensures few { result ≤ length nodes.now }
+{
+    let mut len: usize = 0;
+    for i in 0..nodes.len() {
+        len = len.saturating_add(nodes[i].block.bytes().len());
+        if len > BUFFER_SIZE && i > 0 {
+            return i;
+        }
+    }
+    nodes.len()
+}
+
+/// The bytes of the blocks of some nodes, one behind the other.
+fn joined(alloc: Global, nodes: &[Node]) -> Result<Vec<u8>, AllocError>
+    ensures { IfOk result (λ bytes. unpacked bytes.items ≡ all_steps nodes.now) }
 {
     let mut len: usize = 0;
     for node in nodes {
         len = len.saturating_add(node.block.bytes().len());
     }
-    if u32::try_from(len).is_err() {
-        return Ok(None);
-    }
     let mut bytes = Vec::with_capacity(alloc, len)?;
     for node in nodes {
         bytes.extend_from_slice(node.block.bytes())?;
     }
-    Ok(Some(bytes))
+    Ok(bytes)
 }
 
-/// Makes the block of each node a stretch of the buffer in which they stand one behind the other. An `Err`, want of memory,
-/// leaves some as they were.
-fn share_each(nodes: &mut Vec<Node>, buffer: &Arc<Vec<u8>>) -> Result<(), AllocError>
+/// Makes the blocks of the nodes from a number on stretches of the buffer in which they stand one behind the other. An
+/// `Err`, want of memory, leaves some as they were.
+fn share_each(
+    nodes: &mut Vec<Node>,
+    from: usize,
+    until: usize,
+    buffer: &Arc<Vec<u8>>,
+) -> Result<(), AllocError>
+    requires { until ≤ length nodes.old.items }
     ensures { nodes.new.items ≡ nodes.old.items }
 {
     let mut start: usize = 0;
-    for i in 0..nodes.len() {
+    for i in from..until {
         let block = &mut nodes[i].block;
         let len = block.bytes().len();
         if len > 0 {
@@ -231,6 +253,20 @@ fn share_each(nodes: &mut Vec<Node>, buffer: &Arc<Vec<u8>>) -> Result<(), AllocE
         start = start.saturating_add(len);
     }
     Ok(())
+}
+
+/// Moves the blocks of the nodes from a number on into one buffer, as many as it takes, and answers the number of the
+/// first node behind those. An `Err` is want of memory.
+fn share_from(alloc: Global, nodes: &mut Vec<Node>, from: usize) -> Result<usize, AllocError>
+    requires { from < length nodes.old.items }
+    ensures same { nodes.new.items ≡ nodes.old.items }
+    ensures more { IfOk result (λ until. from < until) }
+{
+    let until = from + fitting(&nodes[from..]);
+    let bytes = joined(alloc, &nodes[from..until])?;
+    let buffer = Arc::new(alloc, bytes)?;
+    share_each(nodes, from, until, &buffer)?;
+    Ok(until)
 }
 
 /// A search tree of at most 4,294,967,296 nodes. Contracts see the list of its nodes.
@@ -392,20 +428,20 @@ impl Tree {
         Ok(())
     }
 
-    /// Moves all blocks into one buffer, of which each is a stretch from then on, so that copies of them copy no step. A
-    /// tree of one node stays as it was, and one whose blocks take 2^32 bytes or more. An `Err`, want of memory, may leave
-    /// some blocks where they were.
+    /// Moves all blocks into buffers of 2^31 bytes at most, of which each is a stretch from then on, so that copies of them
+    /// copy no step. A tree of one node stays as it was, and a block of 2^32 bytes or more. An `Err`, want of memory, may
+    /// leave some blocks where they were.
     pub fn share(&mut self, alloc: Global) -> Result<(), AllocError>
         ensures { self.new ≡ self.old }
     {
         if self.nodes.len() < 2 {
             return Ok(());
         }
-        let Some(bytes) = joined(alloc, &self.nodes)? else {
-            return Ok(());
-        };
-        let buffer = Arc::new(alloc, bytes)?;
-        share_each(&mut self.nodes, &buffer)
+        let mut next: usize = 0;
+        while next < self.nodes.len() {
+            next = share_from(alloc, &mut self.nodes, next)?;
+        }
+        Ok(())
     }
 
     /// The same tree, or want of memory. No step is copied where the blocks are shared.

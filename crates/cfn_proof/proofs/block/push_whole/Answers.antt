@@ -1,4 +1,4 @@
-use Rattle.std.proofs.Common.{◌≡◌, ◌∙◌, ◌++◌, ◌∷◌, [], sym, ap, take, subst}
+use Rattle.std.proofs.Common.{◌∙◌, sym, ap, take, subst}
 use Rattle.cfn_proof.specs.Packing.{IsPacked, Adds, numbers_of}
 use Rattle.cfn_proof.proofs.Packed.{cut_back, of_err, of_ok, on_ok, packed_then, unpacked_then}
 use Rattle.cfn_proof.proofs.block.push_whole.Goals as goal
