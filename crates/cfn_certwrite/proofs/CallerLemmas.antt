@@ -1,2 +1,3 @@
 -- What the crates above cite of the proofs here.
+pub use Rattle.cfn_certwrite.proofs.Order.{from_root, in_order, own_first}
 pub use Rattle.cfn_certwrite.proofs.Upgrading.{is_upgraded}

@@ -5,7 +5,7 @@
 //! those of its steps, and that of its end. `walk` goes over the nodes of a tree in the order of their lines, with no
 //! recursion.
 //!
-//! No call takes memory. To `write` each word is one put, together with the space or LF behind it; `upgrade` puts all
+//! The walk, and the lines of steps and ends, are there for other texts that have trees. No call takes memory. To `write` each word is one put, together with the space or LF behind it; `upgrade` puts all
 //! that is behind the first line by one.
 #![tactic(auto)]
 
@@ -15,4 +15,6 @@ mod second;
 mod walk;
 
 pub use certificate::write;
+pub use nodes::{put_end, put_steps};
 pub use second::upgrade;
+pub use walk::next_node;

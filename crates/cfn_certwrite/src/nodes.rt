@@ -21,8 +21,8 @@ pub fn put_node<D: Desk>(node: &Node, desk: &mut D) -> Result<(), Failed>
     put_end(node.end, desk)
 }
 
-/// Puts a line for each step of a block.
-fn put_steps<D: Desk>(block: &Block, desk: &mut D) -> Result<(), Failed>
+/// Puts a line for each step of a block. It takes no memory. An `Err` is a put that failed behind some front of them.
+pub fn put_steps<D: Desk>(block: &Block, desk: &mut D) -> Result<(), Failed>
     requires { IsWriting (D.outside desk.old).calls }
     ensures { Appends File (D.outside desk.old)
         (text (map step_words block.now)) result (D.outside desk.new) }
@@ -99,8 +99,8 @@ fn put_pair<D: Desk>(
     write_line(Channel::File, &words, desk)
 }
 
-/// Puts the line of a node's end.
-fn put_end<D: Desk>(end: End, desk: &mut D) -> Result<(), Failed>
+/// Puts the line of a node's end. It takes no memory. An `Err` is a put that failed behind some front of it.
+pub fn put_end<D: Desk>(end: End, desk: &mut D) -> Result<(), Failed>
     requires { IsWriting (D.outside desk.old).calls }
     ensures { Appends File (D.outside desk.old)
         (line (end_words end)) result (D.outside desk.new) }

@@ -1,9 +1,9 @@
 //! A walk over the nodes of a tree in the order of their lines, with no recursion and no memory.
 
-ghost use Rattle.std.specs.Prelude.{◌≡◌, ◌<◌, ◌++◌, length, IfSome};
+ghost use Rattle.std.specs.Prelude.{◌≡◌, ◌<◌, ◌∷◌, length, IfSome};
 ghost use Rattle.cfn_model.specs.Text.{text, tree_lines};
-ghost use Rattle.cfn_proof.specs.Nodes.{node_at, tree_of};
-ghost use Rattle.cfn_certwrite.specs.Walk.{lines_behind, lines_from, lines_left, node_lines, second_after};
+ghost use Rattle.cfn_proof.specs.Nodes.{tree_of};
+ghost use Rattle.cfn_certwrite.specs.Walk.{order_behind, order_from, order_left, second_after};
 ghost use Rattle.cfn_desk.specs.Outside.{IsWriting};
 ghost use Rattle.cfn_line.specs.Appending.{Appends};
 ghost use Rattle.cfn_line.specs.declared.channel.Channel.TheVariants.{File};
@@ -28,12 +28,11 @@ pub fn put_tree<D: Desk>(tree: &Tree, desk: &mut D) -> Result<(), Failed>
 }
 
 /// The node whose lines stand behind those of a node, if any do: a split's first child, and behind a leaf the next
-/// second child.
-fn next_node(tree: &Tree, id: NodeId) -> Option<NodeId>
+/// second child. From `Tree::ROOT` on it gives each node once. It takes no memory.
+pub fn next_node(tree: &Tree, id: NodeId) -> Option<NodeId>
     requires { id.number < length tree.now }
     ensures there { IfSome result (λ next. next.number < length tree.now) }
-    ensures lines { lines_from tree.now id.number
-        ≡ node_lines (node_at tree.now id.number) ++ lines_left tree.now result }
+    ensures order { order_from tree.now id.number ≡ id.number ∷ order_left tree.now result }
 {
     tree.linked();
     match tree.node(id).end {
@@ -47,7 +46,7 @@ fn next_node(tree: &Tree, id: NodeId) -> Option<NodeId>
 fn next_second(tree: &Tree, id: NodeId) -> Option<NodeId>
     requires { id.number < length tree.now }
     ensures there { IfSome result (λ next. next.number < length tree.now) }
-    ensures lines { lines_behind tree.now id.number ≡ lines_left tree.now result }
+    ensures order { order_behind tree.now id.number ≡ order_left tree.now result }
 {
     tree.linked();
     let mut done = id;

@@ -1,2 +1,4 @@
 -- What callers cite.
 pub use Rattle.cfn_dive.proofs.Crossing.{divers_sync, diver_send}
+pub use Rattle.cfn_dive.proofs.Onwards.{begins_at, runs_further, runs_on, settled_alive, spent_alive}
+pub use Rattle.cfn_dive.proofs.Splitting.{split_decision, split_strict}

@@ -8,7 +8,8 @@
 //! - `parts.rt`: what a diver is made of, and the leaves that wait;
 //! - `growth.rt`: the tree that a dive makes.
 //!
-//! A search knows divers by `cfn_explore`'s traits alone.
+//! A search knows divers by `cfn_explore`'s traits alone. `Parts` are there for other searches too, which expand one leaf after
+//! another.
 //!
 //! A dive begins at the leaf of its task and expands the first child of a split next. The second child waits with a mark of
 //! where the store stood. Behind a closed leaf the store goes back to the newest mark, and refuses the decision there: that is
@@ -28,3 +29,4 @@ mod parts;
 
 pub use diver::Diver;
 pub use divers::Divers;
+pub use parts::Parts;

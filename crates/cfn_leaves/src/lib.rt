@@ -31,3 +31,4 @@ mod way;
 pub use giving::Handed;
 pub use leaves::Leaves;
 pub use taking::Taken;
+pub use way::path_to;

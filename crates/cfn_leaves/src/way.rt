@@ -9,7 +9,7 @@ use cfn_proof::{Decision, End, NodeId, Path, Side, Tree};
 use std::alloc::{AllocError, Global};
 
 /// The path of a node: the steps and decisions from the root to its end. An `Err` is want of memory.
-pub(crate) fn path_to(alloc: Global, tree: &Tree, node: NodeId) -> Result<Path, AllocError>
+pub fn path_to(alloc: Global, tree: &Tree, node: NodeId) -> Result<Path, AllocError>
     requires { node.number < length tree.now }
     ensures { IfOk result (IsPathOf tree.now node.number) }
 {

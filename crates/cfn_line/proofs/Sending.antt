@@ -1,5 +1,5 @@
 -- What texts sent in a row send together.
-use Rattle.std.proofs.Common.{◌≡◌, ℕ, ◌+◌, ◌<◌, ◌≤◌, List, [], ◌∷◌, ◌++◌, Result, Ok, Err, refl, sym, ap, ◌∙◌, subst, append_assoc, map, drop, get_or, length}
+use Rattle.std.proofs.Common.{◌≡◌, ℕ, ◌+◌, ◌<◌, ◌≤◌, List, [], ◌∷◌, ◌++◌, Result, Ok, Err, refl, sym, ap, ◌∙◌, subst, append_assoc, map, drop, get_or, length, arith}
 use Rattle.std.specs.Prelude.{IsErr}
 use Rattle.std.proofs.lemmas.Bool.{false≢true}
 use Rattle.std.proofs.lemmas.List.{append-nil, drop_more}
@@ -188,6 +188,25 @@ line-item f front last i item is there =
 
 pub line-dropped : {X : Type 0} (f : X → List ℕ) (front : List X) (last : List ℕ) (i : ℕ) → length front ≤ i → line (map f (drop i front) ++ last ∷ []) ≡ last ++ 10 ∷ []
 line-dropped f front last i past = ap (λ xs. line (map f xs ++ last ∷ [])) (drop_of_length-le front past)
+
+-- the next word before others, where there are some
+line_before : {X : Type 0} (f : X → List ℕ) (x : X) (words : List X) (rest : List (List ℕ)) → 0 < length rest → line (map f (x ∷ words) ++ rest) ≡ f x ++ 32 ∷ line (map f words ++ rest)
+line_before f x [] [] some = absurd (omega arith)
+line_before f x [] (word ∷ rest) some = refl
+line_before f x (y ∷ words) rest some = refl
+
+pub line-before : {X : Type 0} (f : X → List ℕ) (words : List X) (rest : List (List ℕ)) (i : ℕ) (d : X) → 0 < length rest → i < length words → line (map f (drop i words) ++ rest) ≡ (f (get_or words i d) ++ 32 ∷ []) ++ line (map f (drop (i + 1) words) ++ rest)
+line-before f words rest i d some there =
+    ap (λ xs. line (map f xs ++ rest)) (drop_more words i d there)
+    ∙ line_before f (get_or words i d) (drop (i + 1) words) rest some
+    ∙ sym (append_assoc (f (get_or words i d)) (32 ∷ []) _)
+
+pub line-behind : {X : Type 0} (f : X → List ℕ) (words : List X) (rest : List (List ℕ)) (i : ℕ) → length words ≤ i → line (map f (drop i words) ++ rest) ≡ line rest
+line-behind f words rest i past = ap (λ xs. line (map f xs ++ rest)) (drop_of_length-le words past)
+
+pub some_words : {X : Type 0} (f : X → List ℕ) (front : List X) (last : List ℕ) → 0 < length (map f front ++ last ∷ [])
+some_words f [] last = omega arith
+some_words f (x ∷ front) last = omega arith
 
 -- the next piece of a text
 pub text-drop : {X : Type 0} (f : X → List (List ℕ)) (xs : List X) (i : ℕ) (d : X) → i < length xs → text (map f (drop i xs)) ≡ line (f (get_or xs i d)) ++ text (map f (drop (i + 1) xs))

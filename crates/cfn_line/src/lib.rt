@@ -18,6 +18,6 @@ mod waiting;
 mod word;
 
 pub use channel::{Channel, send};
-pub use lines::{write_line, write_list};
+pub use lines::{write_line, write_list, write_list_behind};
 pub use waiting::Line;
 pub use word::{Word, add_word};

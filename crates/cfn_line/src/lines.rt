@@ -42,9 +42,23 @@ pub fn write_list<D: Desk>(
     ensures { Appends channel (D.outside desk.old) (line (name.now ∷ map decimal numbers.now)) result
         (D.outside desk.new) }
 {
+    write_list_behind(channel, &[Word::Name(name)], numbers, desk)
+}
+
+/// Writes a line that begins with words and goes on with numbers, as `write_line` does.
+pub fn write_list_behind<D: Desk>(
+    channel: Channel,
+    words: &[Word],
+    numbers: &[u32],
+    desk: &mut D,
+) -> Result<(), Failed>
+    requires { IsOpen channel (D.outside desk.old).calls }
+    ensures { Appends channel (D.outside desk.old) (line (map word_text words.now ++ map decimal numbers.now)) result
+        (D.outside desk.new) }
+{
     match numbers.split_last() {
-        Some((last, front)) => write_named(channel, name, front, *last, desk),
-        None => write_line(channel, &[Word::Name(name)], desk),
+        Some((last, front)) => write_behind(channel, words, front, *last, desk),
+        None => write_line(channel, words, desk),
     }
 }
 
@@ -76,53 +90,71 @@ fn say_words<D: Desk>(front: &[Word], last: &Word, desk: &mut D) -> Result<(), F
     line.say(desk)
 }
 
-/// Writes a line of a fixed word, the numbers of `front`, and the last one.
-fn write_named<D: Desk>(
+/// Writes a line of words, the numbers of `front`, and the last one.
+fn write_behind<D: Desk>(
     channel: Channel,
-    name: &'static str,
+    words: &[Word],
     front: &[u32],
     last: u32,
     desk: &mut D,
 ) -> Result<(), Failed>
     requires { IsOpen channel (D.outside desk.old).calls }
     ensures { Appends channel (D.outside desk.old)
-        ((name.now ++ 32 ∷ []) ++ line (map decimal front.now ++ decimal last ∷ [])) result (D.outside desk.new) }
+        (line (map word_text words.now ++ (map decimal front.now ++ decimal last ∷ []))) result (D.outside desk.new) }
 {
     match channel {
-        Channel::File => put_named(name, front, &last, desk),
-        Channel::Screen => say_named(name, front, &last, desk),
+        Channel::File => put_behind(words, front, &last, desk),
+        Channel::Screen => say_behind(words, front, &last, desk),
     }
 }
 
-/// Puts a line of a fixed word, the numbers of `front`, and the last one.
-fn put_named<D: Desk>(
-    name: &'static str,
+/// Puts a line of words, the numbers of `front`, and the last one.
+fn put_behind<D: Desk>(
+    words: &[Word],
     front: &[u32],
     last: &u32,
     desk: &mut D,
 ) -> Result<(), Failed>
     requires { IsOpen File (D.outside desk.old).calls }
     ensures { Appends File (D.outside desk.old)
-        ((name.now ++ 32 ∷ []) ++ line (map decimal front.now ++ decimal last.now ∷ [])) result (D.outside desk.new) }
+        (line (map word_text words.now ++ (map decimal front.now ++ decimal last.now ∷ []))) result (D.outside desk.new) }
 {
-    put_word(Word::Name(name), SPACE, desk)?;
+    for word in words {
+        put_word(*word, SPACE, desk)?;
+    }
     put_words(front, last, desk)
 }
 
-/// Says a line of a fixed word, the numbers of `front`, and the last one.
-fn say_named<D: Desk>(
-    name: &'static str,
+/// Says a line of words, the numbers of `front`, and the last one.
+fn say_behind<D: Desk>(
+    words: &[Word],
     front: &[u32],
     last: &u32,
     desk: &mut D,
 ) -> Result<(), Failed>
     ensures { Appends Screen (D.outside desk.old)
-        ((name.now ++ 32 ∷ []) ++ line (map decimal front.now ++ decimal last.now ∷ [])) result (D.outside desk.new) }
+        (line (map word_text words.now ++ (map decimal front.now ++ decimal last.now ∷ []))) result (D.outside desk.new) }
 {
     let mut line = Line::new();
-    add_word(&mut line, Word::Name(name), SPACE, desk)?;
-    add_words(&mut line, front, last, desk)?;
+    add_behind(&mut line, words, front, last, desk)?;
     line.say(desk)
+}
+
+/// Adds a line of words, the numbers of `front`, and the last one for the screen.
+fn add_behind<D: Desk>(
+    into: &mut Line,
+    words: &[Word],
+    front: &[u32],
+    last: &u32,
+    desk: &mut D,
+) -> Result<(), Failed>
+    ensures { Adds (D.outside desk.old) into.old
+        (line (map word_text words.now ++ (map decimal front.now ++ decimal last.now ∷ []))) result (D.outside desk.new) into.new }
+{
+    for word in words {
+        add_word(into, *word, SPACE, desk)?;
+    }
+    add_words(into, front, last, desk)
 }
 
 /// Puts the words that end a line: those of `front` and then the last one.

@@ -1,20 +1,18 @@
-use Rattle.std.proofs.Common.{sym, ap, ◌∙◌, ◌++◌}
-use Rattle.cfn_proof.specs.Nodes.{node_at}
-use Rattle.cfn_certwrite.specs.Walk.{node_lines}
+use Rattle.std.proofs.Common.{sym, ap, ◌∙◌, ◌∷◌}
 use Rattle.cfn_certwrite.proofs.Order.{from_leaf, from_split}
 use Rattle.cfn_certwrite.proofs.walk.next_node.Goals as goal
 
 pub returns-in-Free : goal.returns-in-Free
 returns-in-Free c = record {
   there = c.next_second.ensures.there;
-  lines = from_leaf c.args.tree.now c.args.id.number c.node.result.now c.linked.ensures.linked c.requires c.node.ensures c.in-Free.is
-      ∙ ap (λ t. node_lines (node_at c.args.tree.now c.args.id.number) ++ t) c.next_second.ensures.lines;
+  order = from_leaf c.args.tree.now c.args.id.number c.node.result.now c.linked.ensures.linked c.requires c.node.ensures c.in-Free.is
+      ∙ ap (λ t. c.args.id.number ∷ t) c.next_second.ensures.order;
 }
 
 pub returns-in-Split-clause-there : goal.returns-in-Split-clause-there
 returns-in-Split-clause-there c =
     (c.linked.ensures.linked.children c.args.id.number c.in-Split.decision c.in-Split.first c.in-Split.second c.requires (ap (λ n. n.end) (sym c.node.ensures) ∙ c.in-Split.is)).first_there
 
-pub returns-in-Split-clause-lines : goal.returns-in-Split-clause-lines
-returns-in-Split-clause-lines c =
+pub returns-in-Split-clause-order : goal.returns-in-Split-clause-order
+returns-in-Split-clause-order c =
     from_split c.args.tree.now c.args.id.number c.in-Split.decision c.in-Split.first c.in-Split.second c.linked.ensures.linked c.requires (ap (λ n. n.end) (sym c.node.ensures) ∙ c.in-Split.is)

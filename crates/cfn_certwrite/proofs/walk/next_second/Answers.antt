@@ -14,7 +14,7 @@ pub returns-then-is_some : goal.returns-then-is_some
 returns-then-is_some c =
     let parent : (node_at c.args.tree.now c.loop-parent.done.number).parent ≡ Some c.in-Some.parent = ap (λ n. n.parent) (sym c.node.ensures) ∙ c.in-Some.is in
     let next = behind_sibling c.args.tree.now c.loop-parent.done.number c.in-Some.parent _ c.second_behind-sibling.result c.linked.ensures.linked c.loop-parent.invariant.there parent c.node-in-Some.ensures c.second_behind-sibling.ensures (sym c.is_some.ensures ∙ c.if-is_some.true) in
-    record { there = next.0; lines = c.loop-parent.invariant.same ∙ next.1 }
+    record { there = next.0; order = c.loop-parent.invariant.same ∙ next.1 }
 
 pub loop-parent-smaller : goal.loop-parent-smaller
 loop-parent-smaller c =
@@ -29,5 +29,5 @@ loop-parent-preserved c =
     let there : c.loop-parent.done.number < length c.args.tree.now = c.loop-parent.invariant.there in
     record { there = omega arith; same = c.loop-parent.invariant.same ∙ above.1 }
 
-pub returns-clause-lines : goal.returns-clause-lines
-returns-clause-lines c = c.loop-parent.invariant.same ∙ behind_root c.args.tree.now c.loop-parent.done.number c.linked.ensures.linked c.loop-parent.invariant.there (ap (λ n. n.parent) (sym c.node.ensures) ∙ c.in_default.is)
+pub returns-clause-order : goal.returns-clause-order
+returns-clause-order c = c.loop-parent.invariant.same ∙ behind_root c.args.tree.now c.loop-parent.done.number c.linked.ensures.linked c.loop-parent.invariant.there (ap (λ n. n.parent) (sym c.node.ensures) ∙ c.in_default.is)

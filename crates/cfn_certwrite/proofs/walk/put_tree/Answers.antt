@@ -1,13 +1,13 @@
 use Rattle.std.proofs.Common.{ap}
 use Rattle.cfn_model.specs.Text.{text}
 use Rattle.cfn_line.proofs.CallerLemmas.{begin, go_on, halt}
-use Rattle.cfn_certwrite.proofs.Order.{from_root, own_first, text_left}
+use Rattle.cfn_certwrite.proofs.Order.{own_first, text_left, tree_in_order}
 use Rattle.cfn_certwrite.proofs.walk.put_tree.Goals as goal
 
 pub loop-next-init : goal.loop-next-init
 loop-next-init g c = record {
   there = c.linked.ensures.linked.some;
-  left = rw (ap text (from_root c.args.tree.now c.linked.ensures.linked)) (begin _ _ _ c.requires);
+  left = rw (ap text (tree_in_order c.args.tree.now c.linked.ensures.linked)) (begin _ _ _ c.requires);
 }
 
 pub returns-in_err-put_node : goal.returns-in_err-put_node
@@ -18,5 +18,5 @@ returns-in_err-put_node g c =
 pub loop-next-preserved : goal.loop-next-preserved
 loop-next-preserved g c = record {
   there = c.next_node-next.ensures.there;
-  left = go_on _ (text_left c.args.tree.now _ c.in-Some.id _ c.in-Some.is c.next_node-next.ensures.lines) c.loop-next.invariant.left (rw c.node.ensures at c.in_ok-put_node.ensures);
+  left = go_on _ (text_left c.args.tree.now _ c.in-Some.id _ c.in-Some.is c.next_node-next.ensures.order) c.loop-next.invariant.left (rw c.node.ensures at c.in_ok-put_node.ensures);
 }

@@ -1,0 +1,4 @@
+pub mod TreeLemmas
+pub mod WholeTree
+pub mod Spelled
+pub mod CallerLemmas

@@ -1,0 +1,11 @@
+mod Nodes
+mod Counts
+mod Lists
+mod Keeping
+mod Entries
+mod Places
+mod Roots
+mod Numbers
+mod Ends
+pub mod Paths
+pub mod CallerLemmas
