@@ -2,7 +2,7 @@
 use Rattle.std.proofs.Common.{◌≡◌, refl, subst}
 use Rattle.std.specs.Prelude.{Option, Some, None}
 use Rattle.cfn_desk.specs.Outside.{Outside, IsIdle}
-use Rattle.cfn_cli.specs.Request.{Request, solve, check, cost, normal, trial, migrate, rebase, merge}
+use Rattle.cfn_cli.specs.Request.{Request, solve, check, cost, normal, trial, migrate, rebase, merge, check_best}
 use Rattle.cfn_app.specs.declared.status.Status.{Status}
 use Rattle.cfn_app.specs.Endings.{Ends}
 use Rattle.cfn_app.specs.Saying.{Counts}
@@ -10,6 +10,7 @@ use Rattle.cfn_app.specs.Runs.{Runs, RunsOf, StatusOf, Statuses, UsageSays}
 use Rattle.cfn_app.specs.Runs as runs
 use Rattle.cfn_app.proofs.Counting.{by, counted, ends_idle, unheard}
 use Rattle.cfn_app.proofs.Stating.Checking.{check_unheard, check_status, check_counts, check_idle}
+use Rattle.cfn_app.proofs.Stating.CheckingBest.{check_best_unheard, check_best_status, check_best_counts, check_best_idle}
 use Rattle.cfn_app.proofs.Stating.Costing.{cost_unheard, cost_status, cost_counts, cost_idle}
 use Rattle.cfn_app.proofs.Stating.Merging.{merge_unheard, merge_status, merge_counts, merge_idle}
 use Rattle.cfn_app.proofs.Stating.Migrating.{migrate_unheard, migrate_status, migrate_counts, migrate_idle}
@@ -18,6 +19,7 @@ use Rattle.cfn_app.proofs.Stating.Rebasing.{rebase_unheard, rebase_status, rebas
 use Rattle.cfn_app.proofs.Stating.Solving.{solve_unheard, solve_status, solve_counts, solve_idle}
 use Rattle.cfn_app.proofs.Stating.Trying.{trial_unheard, trial_status, trial_counts, trial_idle}
 mod Checking
+mod CheckingBest
 mod Costing
 mod Merging
 mod Migrating
@@ -39,6 +41,7 @@ module _ (old new : Outside) (status : Status) where
   unheard_status (migrate ask) same ends = migrate_unheard ask old new status same ends
   unheard_status (rebase ask) same ends = rebase_unheard ask old new status same ends
   unheard_status (merge ask) same ends = merge_unheard ask old new status same ends
+  unheard_status (check_best ask) same ends = check_best_unheard ask old new status same ends
 
   status_of : (ask : Request) → RunsOf ask old new status → StatusOf ask old new status
   status_of (solve ask) run = solve_status ask old new status run
@@ -49,6 +52,7 @@ module _ (old new : Outside) (status : Status) where
   status_of (migrate ask) run = migrate_status ask old new status run
   status_of (rebase ask) run = rebase_status ask old new status run
   status_of (merge ask) run = merge_status ask old new status run
+  status_of (check_best ask) run = check_best_status ask old new status run.0 run.1
 
   counts_of : (ask : Request) → RunsOf ask old new status → Counts old.calls new.calls status
   counts_of (solve ask) run = solve_counts ask old new status run
@@ -59,6 +63,7 @@ module _ (old new : Outside) (status : Status) where
   counts_of (migrate ask) run = migrate_counts ask old new status run
   counts_of (rebase ask) run = rebase_counts ask old new status run
   counts_of (merge ask) run = merge_counts ask old new status run
+  counts_of (check_best ask) run = check_best_counts ask old new status run.0 run.1
 
   idle_of : (ask : Request) → RunsOf ask old new status → IsIdle old.calls → IsIdle new.calls
   idle_of (solve ask) run before = solve_idle ask old new status run before
@@ -69,6 +74,7 @@ module _ (old new : Outside) (status : Status) where
   idle_of (migrate ask) run before = migrate_idle ask old new status run before
   idle_of (rebase ask) run before = rebase_idle ask old new status run before
   idle_of (merge ask) run before = merge_idle ask old new status run before
+  idle_of (check_best ask) run before = check_best_idle ask old new status run.0 run.1 before
 
 -- ---- all runs
 

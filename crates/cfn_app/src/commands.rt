@@ -5,6 +5,7 @@ ghost use Rattle.cfn_cli.specs.Request.{IsWithin, request};
 ghost use Rattle.cfn_app.specs.Runs.{RunsOf};
 
 mod checking;
+mod checking_best;
 mod costing;
 mod merging;
 mod migrating;
@@ -18,6 +19,7 @@ use cfn_cli::Command;
 use cfn_desk::Desk;
 use cfn_solve::Gate;
 use checking::check_file;
+use checking_best::check_best_file;
 use costing::cost_file;
 use merging::merge_files;
 use migrating::migrate_file;
@@ -52,5 +54,6 @@ pub(crate) fn do_command<R: Threads + Wait + Sync, D: Desk, G: Gate + Sync, C: C
         Command::Migrate(ask) => migrate_file(alloc, ask, desk),
         Command::Rebase(ask) => rebase_file(rt, alloc, ask, desk, gate, clock),
         Command::Merge(ask) => merge_files(alloc, ask, desk),
+        Command::CheckBest(ask) => check_best_file(alloc, ask, desk),
     }
 }

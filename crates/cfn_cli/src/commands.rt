@@ -5,6 +5,7 @@ ghost use Rattle.clap.specs.Words.{AddsSubcommand, found_of, rows_of, subcommand
 ghost use Rattle.cfn_cli.specs.Request.{IsLine, IsWithin, request, request_from, request_named};
 
 mod check;
+mod checkbest;
 mod cost;
 mod merge;
 mod migrate;
@@ -15,6 +16,7 @@ mod trial;
 
 use crate::fault::CliFault;
 pub use check::CheckArguments;
+pub use checkbest::CheckBestArguments;
 use clap::{ArgMatches, Command as Line};
 pub use cost::CostArguments;
 pub use merge::MergeArguments;
@@ -44,6 +46,8 @@ pub enum Command {
     Rebase(RebaseArguments),
     /// `merge FILE OUT CERT.. [--wcnf]`
     Merge(MergeArguments),
+    /// `checkbest FILE CERT [--wcnf]`
+    CheckBest(CheckBestArguments),
 }
 
 /// The program with its commands, of which one has to be given.
@@ -58,7 +62,8 @@ pub(crate) fn command_line<'a>(alloc: Global) -> Result<Line<'a>, AllocError>
     let line = under(line, trial::line(alloc))?;
     let line = under(line, migrate::line(alloc))?;
     let line = under(line, rebase::line(alloc))?;
-    under(line, merge::line(alloc))
+    let line = under(line, merge::line(alloc))?;
+    under(line, checkbest::line(alloc))
 }
 
 /// A command with one more below it, where that was built.
@@ -104,6 +109,8 @@ fn named(alloc: Global, name: &str, found: &ArgMatches<'_>) -> Result<Command, C
         Ok(Command::Rebase(rebase::read(alloc, found)?))
     } else if name == "merge" {
         Ok(Command::Merge(merge::read(alloc, found)?))
+    } else if name == "checkbest" {
+        Ok(Command::CheckBest(checkbest::read(alloc, found)?))
     } else {
         Err(CliFault::Usage)
     }

@@ -46,6 +46,15 @@ fn checks(alloc: Global, words: &[&str]) -> bool {
     }
 }
 
+fn checks_best(alloc: Global, words: &[&str]) -> bool {
+    match parse(alloc, words) {
+        Ok(Command::CheckBest(asked)) => {
+            asked.file.as_str() == "a" && asked.certificate.as_str() == "b"
+        }
+        _ => false,
+    }
+}
+
 fn migrates(alloc: Global, words: &[&str], out: &str) -> bool {
     match parse(alloc, words) {
         Ok(Command::Migrate(asked)) => {
@@ -103,6 +112,7 @@ fn format(alloc: Global, words: &[&str]) -> Option<Format> {
     match parse(alloc, words) {
         Ok(Command::Solve(asked)) => Some(asked.format),
         Ok(Command::Check(asked)) => Some(asked.format),
+        Ok(Command::CheckBest(asked)) => Some(asked.format),
         Ok(Command::Cost(asked)) => Some(asked.format),
         Ok(Command::Normal(asked)) => Some(asked.format),
         _ => None,
@@ -115,6 +125,7 @@ fn format_is_read(rt: HostRuntime) {
     for words in [
         ["w", "solve", "a", "b"].as_slice(),
         &["w", "check", "a", "b"],
+        &["w", "checkbest", "a", "b"],
         &["w", "cost", "f", "0"],
         &["w", "normal", "f"],
     ] {
@@ -123,6 +134,7 @@ fn format_is_read(rt: HostRuntime) {
     for words in [
         ["w", "solve", "--wcnf", "a", "b"].as_slice(),
         &["w", "check", "a", "b", "--wcnf"],
+        &["w", "checkbest", "--wcnf", "a", "b"],
         &["w", "cost", "f", "--wcnf", "0"],
         &["w", "normal", "f", "--wcnf"],
     ] {
@@ -190,6 +202,15 @@ fn check_is_read(rt: HostRuntime) {
 }
 
 #[test]
+fn check_best_is_read(rt: HostRuntime) {
+    let alloc = rt.alloc();
+    assert!(rt; checks_best(alloc, &["w", "checkbest", "a", "b"]));
+    assert!(rt; !checks_best(alloc, &["w", "checkbest", "b", "a"]));
+    assert!(rt; !checks_best(alloc, &["w", "check", "a", "b"]));
+    assert!(rt; !checks(alloc, &["w", "checkbest", "a", "b"]));
+}
+
+#[test]
 fn cost_is_read(rt: HostRuntime) {
     let alloc = rt.alloc();
     assert!(rt; costs(alloc, &["w", "cost", "f", "0", "1", "2"], &[0, 1, 2]));
@@ -244,6 +265,13 @@ fn other_words_are_usage(rt: HostRuntime) {
         &["w", "check", "a"],
         &["w", "check", "a", "b", "c"],
         &["w", "check", "a", "b", "--budget", "1"],
+        &["w", "checkbest"],
+        &["w", "checkbest", "a"],
+        &["w", "checkbest", "a", "b", "c"],
+        &["w", "checkbest", "a", "b", "--budget", "1"],
+        &["w", "checkbest", "a", "b", "--workers", "1"],
+        &["w", "checkbest", "a", "b", "--wcnf=true"],
+        &["w", "check-best", "a", "b"],
         &["w", "solve"],
         &["w", "solve", "a"],
         &["w", "solve", "a", "a"],

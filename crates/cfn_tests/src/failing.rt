@@ -29,16 +29,21 @@ pub(crate) const WHOLE: [Whole; 5] = [
 const GOOD: &[u8] =
     b"wcspcert 1\nnetwork 1 1 10\nlower 1\nbest 1\nvalues 1\ntree\np 0 0 0 3\np 0 0 1 1\nu 0 1\nclosed\nend\n";
 
+/// A good list of the two assignments of `TINY`.
+const LIST: &[u8] =
+    b"wcspbest 1\nnetwork 1 1 10\ncount 2\nlower 3\nbest 2\nvalues 1 1\nvalues 3 0\ntree\nsplit 0 0\nlisted 1\nlisted 0\nend\n";
+
 /// What `out` has before each run.
 const EARLIER: &[u8] = b"earlier";
 
-/// The words of a run over the files `in`, `cert` and `out`, how many of its calls load a file, and how many calls it makes.
+/// The words of a run over the files `in`, `cert`, `list` and `out`, how many of its calls load a file, and how many calls it makes.
 type Device = (&'static [&'static str], u64, u64);
 
-const DEVICES: [Device; 9] = [
+const DEVICES: [Device; 10] = [
     // the load, the opening, 32 puts, the closing, and the eleven lines of the report
     (&SOLVE, 1, 46),
     (&["wcspsolve", "check", "in", "cert"], 2, 3),
+    (&["wcspsolve", "checkbest", "in", "list"], 2, 3),
     (&["wcspsolve", "cost", "in", "1"], 1, 2),
     (&["wcspsolve", "normal", "in"], 1, 2),
     // three lines
@@ -93,7 +98,12 @@ fn faults_of<R: AllocGlobal + Threads + Wait + Sync>(
     words: &[&str],
     loads: u64,
 ) -> Result<Option<u64>, AllocError> {
-    let files = [("in", TINY), ("cert", GOOD), ("out", EARLIER)];
+    let files = [
+        ("in", TINY),
+        ("cert", GOOD),
+        ("list", LIST),
+        ("out", EARLIER),
+    ];
     let whole = Run::over(rt, words, &files, &[], "out")?;
     for failing in 1..200 {
         let run = Run::over(rt, words, &files, &[failing], "out")?;
