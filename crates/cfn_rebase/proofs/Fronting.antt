@@ -1,17 +1,14 @@
 -- The steps of a block are made one after another.
 use Rattle.std.proofs.Common.{◌≡◌, ℕ, List, [], ◌∷◌, ◌++◌, append_assoc, refl, sym, ap, ◌∙◌, subst}
-use Rattle.std.proofs.lemmas.List.{append-nil}
 use Rattle.std.specs.Prelude.{true, false}
 use Rattle.std.specs.List.{AllByRecursion}
 use Rattle.cfn_model.specs.declared.step.Step.{Step}
 use Rattle.cfn_model.specs.declared.step.Event.TheVariants.{Did}
-use Rattle.cfn_model.specs.Network.{Network}
 use Rattle.cfn_model.specs.Paths.{HasSmallCosts, TameBlock}
 use Rattle.cfn_model.specs.Steps.{Allowed, Run, after}
 use Rattle.cfn_model.specs.Text.{IsSpelledStep}
 use Rattle.cfn_proof.proofs.CallerLemmas.{run_append}
 use Rattle.cfn_store.specs.Standing.{Standing, history}
-use Rattle.cfn_mending.specs.Keeping.{IsFront, Stops}
 use Rattle.cfn_rebase.specs.Making.{MayFollow, IsTried}
 use Rattle.cfn_rebase.specs.Fronts.{IsCutFront}
 

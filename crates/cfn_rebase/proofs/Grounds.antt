@@ -1,5 +1,5 @@
 -- Where a store stands once a step is made, and once it is back at a place.
-use Rattle.std.proofs.Common.{◌≡◌, ℕ, List, [], ◌∷◌, ◌++◌, length, reverse, take, refl, sym, ap, ◌∙◌, subst}
+use Rattle.std.proofs.Common.{◌≡◌, ℕ, List, [], ◌∷◌, ◌++◌, length, reverse, take, sym, ap, ◌∙◌, subst}
 use Rattle.std.proofs.lemmas.List.{reverse-append, reverse-reverse, length-reverse, take_at}
 use Rattle.std.specs.Prelude.{true}
 use Rattle.cfn_model.specs.declared.step.Step.{Step}
@@ -14,7 +14,7 @@ use Rattle.cfn_store.specs.Exact.{IsExactAlong}
 use Rattle.cfn_store.specs.Marking.{IsBehind}
 use Rattle.cfn_store.specs.Standing.{Standing, history, with_step}
 use Rattle.cfn_store.proofs.CallerLemmas.{exact_now}
-use Rattle.cfn_rebase.specs.Making.{CanMake, MayFollow, IsTried}
+use Rattle.cfn_rebase.specs.Making.{CanMake, IsTried}
 
 -- the events up to a place on the way
 pub back_events : (events : List Event) (s m : Standing) (n : ℕ) → reverse events ≡ history s → IsBehind m s → n ≡ length (history m) → reverse (take n events) ≡ history m

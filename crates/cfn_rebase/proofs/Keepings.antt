@@ -1,5 +1,5 @@
 -- What a change at one leaf makes of the nodes that are kept of an old tree.
-use Rattle.std.proofs.Common.{◌≡◌, ◌≢◌, ℕ, ◌+◌, ◌<◌, ◌≤◌, ◌⊎◌, inl, inr, List, [], ◌∷◌, length, refl, sym, ap, ◌∙◌, subst, arith}
+use Rattle.std.proofs.Common.{◌≡◌, ◌≢◌, ℕ, ◌+◌, ◌<◌, ◌≤◌, inl, inr, List, [], ◌∷◌, length, refl, sym, ap, ◌∙◌, subst, arith}
 use Rattle.std.proofs.lemmas.Bool.{cases_eq}
 use Rattle.std.specs.Prelude.{◌==◌, if◌then◌else◌}
 use Rattle.cfn_model.specs.declared.step.Step.{Step}
@@ -11,7 +11,6 @@ use Rattle.cfn_model.specs.Steps.{IsDecision, after}
 use Rattle.cfn_model.specs.Tree as trees
 use Rattle.cfn_model.specs.Tree.{IsStrictSplit}
 use Rattle.cfn_model.proofs.CallerLemmas.{eqb_same, eqb_other}
-use Rattle.cfn_proof.specs.declared.tree.NodeId.{NodeId}
 use Rattle.cfn_proof.specs.declared.tree.End.{End}
 use Rattle.cfn_proof.specs.declared.tree.End.TheVariants.{Free, Shut, Split}
 use Rattle.cfn_proof.specs.declared.tree.Node.{Node}

@@ -1,26 +1,29 @@
 -- What a test of a step finds.
-use Rattle.std.proofs.Common.{◌≡◌, ℕ, ◌<◌, ◌≤◌, ◌^◌, List, ◌∷◌, length, reverse, refl, sym, ap, ap₂, ◌∙◌, subst, arith}
+use Rattle.std.proofs.Common.{◌≡◌, ℕ, ◌<◌, ◌≤◌, List, ◌∷◌, length, reverse, drop, get_or, suc, ◌/◌, ◌%◌, refl, sym, ap, ap₂, ◌∙◌, subst, arith}
 use Rattle.std.proofs.lemmas.Int.{ints}
 use Rattle.std.proofs.lemmas.Bool.{le-leb}
-use Rattle.std.specs.Prelude.{ℤ, pos, ◌+ℤ◌, ◌≤ℤ◌, ◌<ℤ◌, ◌↔◌, ◌&&◌, IsTrue, Bool, nat_le, slice_index}
+use Rattle.std.proofs.lemmas.List.{ext_get_or}
+use Rattle.std.specs.Prelude.{pos, ◌+ℤ◌, ◌≤ℤ◌, ◌↔◌, ◌&&◌, IsTrue, Bool, nat_le, slice_index}
 use Rattle.cfn_model.specs.declared.step.Step.{Step}
 use Rattle.cfn_model.specs.declared.step.Step.TheVariants.{Project, Extend}
 use Rattle.cfn_model.specs.declared.step.Event.{Event}
 use Rattle.cfn_model.specs.declared.step.Event.TheVariants.{Did}
-use Rattle.cfn_model.specs.Network.{Network, Fits, IsNetwork, cell, dims_at, scope_at, variable_at}
-use Rattle.cfn_model.specs.Sums.{when, floor, unary, residual, is_live, is_live_tuple}
+use Rattle.cfn_model.specs.Network.{Network, Fits, IsNetwork, cell, cells, dims_at, scope_at, variable_at}
+use Rattle.cfn_model.specs.Sums.{when, floor, residual}
 use Rattle.cfn_model.specs.Steps.{IsValue, IsCell, IsPlace, CanCutTuple}
 use Rattle.cfn_model.specs.Paths.{HasSmallCosts}
 use Rattle.cfn_model.specs.Text.{IsSpelledStep}
 use Rattle.cfn_model.proofs.CallerLemmas.{eqb_same}
-use Rattle.cfn_net.proofs.CallerLemmas.{get_or-dims, tuple_of, tuple_of-numbered}
+use Rattle.cfn_net.proofs.CallerLemmas.{Fits-length, digit_at, get_or-dims, tuple_of, tuple_of-numbered}
 use Rattle.cfn_store.specs.Exact.{AllInPlace, IsExactAlong}
 use Rattle.cfn_store.specs.Standing.{Standing, history}
+use Rattle.cfn_store.specs.declared.scan.Extreme.{Extreme}
+use Rattle.cfn_store.specs.Extremes.{IsLeastBetween}
 use Rattle.cfn_store.specs.Rooms.{UnaryFits, ResidualsFit, IsProjectRoom, IsExtendRoom}
 use Rattle.cfn_store.proofs.CallerLemmas.{exact_now}
 use Rattle.cfn_rebase.specs.declared.balance.Balance.{Balance}
 use Rattle.cfn_rebase.specs.Balancing.{worth}
-use Rattle.cfn_rebase.specs.Making.{MayFollow}
+use Rattle.cfn_rebase.specs.Making.{IsCost, MayFollow}
 
 pub events_in_place : (Q : Network) (s : Standing) (events : List Event) → Q ≡ s.network → reverse events ≡ history s → IsExactAlong s.network (history s) → AllInPlace Q (reverse events)
 events_in_place Q s events network same exact = subst (λ P. AllInPlace P (reverse events)) (sym network) (subst (AllInPlace s.network) (sym same) (exact_now s.network (history s) exact).range)
@@ -36,6 +39,28 @@ tuple_reaches Q s events k f n low b test network same is_cell is_floor is teste
       λ can. (let t = tuple_of-numbered (dims_at P f) n is_cell.cell in let r = clause (tuple_of (dims_at P f) n) t.fits t.number in let h = can (tuple_of (dims_at P f) n) t.fits t.number in
           tested.1 (omega (arith, ints, r, h, is_floor))),
     )
+
+-- two tuples with one number are one
+cell_once : (sizes one other : List ℕ) → Fits sizes one → Fits sizes other → cell sizes one ≡ cell sizes other → one ≡ other
+cell_once sizes one other a b same =
+    let n = Fits-length sizes one a in
+    let m = Fits-length sizes other b in
+    ext_get_or 0 one other (omega (arith, n, m))
+    (λ i l. let h : i < length sizes = omega (arith, n, l) in
+    sym (digit_at sizes one i a h) ∙ ap (λ c. (c / cells (drop (suc i) sizes)) % get_or sizes i 0) same ∙ digit_at sizes other i b h)
+
+-- the cost that a search for a tuple finds is that of the tuple with its number
+pub picked_cost : (s : Standing) (f n i a j b : ℕ) (found : Extreme) → IsLeastBetween s.network (history s) f i a j b found → found.cell ≡ n → IsCost s f n found.cost
+picked_cost s f n i a j b found is at = λ tuple fits here.
+    subst (λ t. pos found.cost ≡ residual s.network (history s) f t) (cell_once (dims_at s.network f) is.tuple tuple is.picked.fits fits (is.cell_is ∙ at ∙ sym here)) (sym is.cost_is)
+
+pub cost_reaches : (s : Standing) (k f n low cost : ℕ) (b : Balance) (test : Bool) → IsCell s.network f n → low ≡ floor s.network (history s) → IsCost s f n cost → worth b ≡ pos cost →
+    (IsTrue test ↔ (pos k ≤ℤ (pos low +ℤ worth b))) → IsTrue test ↔ CanCutTuple s.network (history s) k f n
+cost_reaches s k f n low cost b test is_cell is_floor is same tested = (
+  λ yes tuple fits at. (let r = is tuple fits at in let h = tested.0 yes in omega (arith, ints, r, h, same, is_floor)),
+  λ can. (let t = tuple_of-numbered (dims_at s.network f) n is_cell.cell in let r = is (tuple_of (dims_at s.network f) n) t.fits t.number in let h = can (tuple_of (dims_at s.network f) n) t.fits t.number in
+      tested.1 (omega (arith, ints, r, h, same, is_floor))),
+)
 
 pub project_fits : (s : Standing) (f i a m : ℕ) → IsValue s.network (variable_at s.network f i) a → HasSmallCosts s.network (Did (Project f i a m) ∷ history s) → UnaryFits s f i a m
 project_fits s f i a m value small = λ live.

@@ -1,5 +1,5 @@
 -- A walk goes from node to node.
-use Rattle.std.proofs.Common.{◌≡◌, ℕ, ◌+◌, ◌<◌, ◌≤◌, inl, inr, List, [], ◌∷◌, ◌++◌, length, reverse, refl, sym, ap, ap₂, ◌∙◌, subst, arith, append_assoc, Vec, Global}
+use Rattle.std.proofs.Common.{◌≡◌, ℕ, ◌+◌, ◌<◌, ◌≤◌, inl, List, [], ◌∷◌, ◌++◌, length, reverse, refl, sym, ap, ◌∙◌, subst, arith, append_assoc, Vec, Global}
 use Rattle.std.proofs.lemmas.List.{reverse-append}
 use Rattle.std.specs.Prelude.{None, Bool, true, false, if◌then◌else◌, vec_len}
 use Rattle.cfn_model.specs.declared.step.Step.{Step}
@@ -17,7 +17,7 @@ use Rattle.cfn_proof.specs.declared.tree.End.{End}
 use Rattle.cfn_proof.specs.declared.tree.End.TheVariants.{Free, Shut, Split}
 use Rattle.cfn_proof.specs.declared.tree.Node.{Node}
 use Rattle.cfn_proof.specs.Legs.{event_of}
-use Rattle.cfn_proof.specs.Nodes.{node_at, open_node, tree_at, tree_of, with_children, IsFree, IsLinked, leave_at, close_at, split_behind_at}
+use Rattle.cfn_proof.specs.Nodes.{node_at, open_node, tree_at, tree_of, with_children, IsLinked, leave_at, close_at, split_behind_at}
 use Rattle.cfn_proof.proofs.CallerLemmas.{tree_at_is}
 use Rattle.cfn_store.specs.Marking.{IsBehind}
 use Rattle.cfn_store.specs.Standing.{Standing, history}

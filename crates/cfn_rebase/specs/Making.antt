@@ -1,9 +1,11 @@
 -- When a step can be made where a store stands, at a threshold.
-use Rattle.std.specs.Prelude.{◌≡◌, ℕ, Bool, true, false, [], ◌∷◌, ◌++◌}
+use Rattle.std.specs.Prelude.{◌≡◌, ℕ, Bool, true, false, [], List, ◌∷◌, ◌++◌, pos}
 use Rattle.cfn_model.specs.declared.step.Step.{Step}
 use Rattle.cfn_model.specs.declared.step.Step.TheVariants.{Project, Extend, Lift, CutValue, CutTuple}
 use Rattle.cfn_model.specs.declared.step.Decision.{Decision}
 use Rattle.cfn_model.specs.declared.step.Event.TheVariants.{Did}
+use Rattle.cfn_model.specs.Network.{Fits, cell, dims_at}
+use Rattle.cfn_model.specs.Sums.{residual}
 use Rattle.cfn_model.specs.Paths.{HasSmallCosts}
 use Rattle.cfn_model.specs.Steps.{IsValue, IsCell, CanCutValue, CanCutTuple, Allowed}
 use Rattle.cfn_proof.specs.declared.path.Side.{Side}
@@ -31,3 +33,7 @@ IsTried old k step new false = (MayFollow old k step → ⊥) × (new.network �
 abbrev pub decision_of : Side → Decision
 decision_of (Holds d) = d
 decision_of (Fails d) = d
+
+-- A number is the residual cost of the tuple of f with the number c.
+abbrev pub IsCost : Standing → ℕ → ℕ → ℕ → Type 0
+IsCost s f c cost = (tuple : List ℕ) → Fits (dims_at s.network f) tuple → cell (dims_at s.network f) tuple ≡ c → pos cost ≡ residual s.network (history s) f tuple

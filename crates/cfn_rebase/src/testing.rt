@@ -1,14 +1,14 @@
 //! Whether a step may be made: it is in range, allowed at the threshold, and leaves each cost of what is live below 2^64.
 //!
 //! A shift may be made exactly where its amount is within the store's room. What is cut is asked for its cost: a live value's is
-//! the store's; the cost of a value that is not live, and of a tuple, is added up over the events.
+//! the store's, and so is that of a live tuple of a function of two variables; any other is added up over the events.
 
-ghost use Rattle.std.specs.Prelude.{◌≡◌, ◌+◌, ◌<◌, ◌≤◌, ◌↔◌, length, reverse, pos, ◌+ℤ◌, ◌≤ℤ◌, IsTrue, IsFalse};
+ghost use Rattle.std.specs.Prelude.{◌≡◌, ◌+◌, ◌<◌, ◌≤◌, ◌↔◌, length, reverse, pos, ◌+ℤ◌, ◌≤ℤ◌, IsTrue, IsFalse, IfSome};
 ghost use Rattle.cfn_model.specs.Steps.{IsValue, IsCell, CanCutValue, CanCutTuple};
 ghost use Rattle.cfn_model.specs.Text.{IsSpelledStep};
 ghost use Rattle.cfn_store.specs.Standing.{history};
 ghost use Rattle.cfn_rebase.specs.Balancing.{worth, IsLight};
-ghost use Rattle.cfn_rebase.specs.Making.{CanMake, MayFollow};
+ghost use Rattle.cfn_rebase.specs.Making.{CanMake, IsCost, MayFollow};
 
 use crate::balance::{Balance, residual_balance, unary_balance};
 use crate::ranges::{is_cell, is_place, is_value};
@@ -100,11 +100,38 @@ fn can_cut_tuple(
     ensures { IsTrue result ↔ CanCutTuple store.now.network (history store.now) threshold f number }
 {
     store.exact();
+    if let Some(cost) = live_residual(network, store, f, number) {
+        let balance = Balance {
+            more: u128::from(cost),
+            less: 0,
+        };
+        return reaches(threshold, store.floor(), balance);
+    }
     reaches(
         threshold,
         store.floor(),
         residual_balance(network, events, f, number),
     )
+}
+
+/// The residual cost of the tuple of `f` with a number, where the store has it: of a live tuple of a function of two variables.
+fn live_residual(network: &Network, store: &Store<'_>, f: u32, number: u32) -> Option<u64>
+    requires network { network.now ≡ store.now.network }
+    requires number { IsCell store.now.network f number }
+    ensures { IfSome result (IsCost store.now f number) }
+{
+    network.limits();
+    if network.scope(f).len() != 2 {
+        return None;
+    }
+    let one = network.value_at(f, number, 0);
+    let other = network.value_at(f, number, 1);
+    let found = store.least_between(f, 0, one, 1, other)?;
+    if found.cell == number {
+        Some(found.cost)
+    } else {
+        None
+    }
 }
 
 /// Whether a floor and a cost reach the threshold together.

@@ -1,4 +1,4 @@
-use Rattle.std.proofs.Common.{◌≡◌, refl, sym, ap, reverse, subst}
+use Rattle.std.proofs.Common.{◌≡◌, ap, reverse}
 use Rattle.std.specs.Prelude.{true, false}
 use Rattle.cfn_rebase.specs.Walking.{weights}
 use Rattle.cfn_rebase.proofs.Walkings.{at_own, walks_own, walks_as, walk_ends, falls}
