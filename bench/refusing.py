@@ -1,12 +1,11 @@
 #!/usr/bin/env python3
-"""What the program answers where memory is refused: each of its allocations in turn, on one run of each command, on `check` of
-a certificate with 100,000 nested splits, and on `solve` by several workers.
+"""What the program answers where memory is refused: each of its allocations in turn, on one run of each command, on `check`,
+`rebase` and `merge` of certificates with 100,000 nested splits, and on `solve` by several workers.
 
 A library that cc compiles from refusing.c stands between the program and the C library, and refuses one allocation.
-It prints the statuses by ranges of allocations, and whether a run that ends with 0 says what the whole run says; for several
-workers, whose allocations come in another order each time, how often each status came, and whether each certificate that a
+It prints the statuses by ranges of allocations, and whether a run says what the whole run says; for several workers, whose allocations come in another order each time, how often each status came, and whether each certificate that a
 report stands for was judged good. Twice as many allocations are refused there as the whole run asked for. It ends with 1 where a
-status is none of 0 and 6.
+status is neither that of the whole run nor 6.
 """
 
 import argparse
@@ -33,6 +32,16 @@ def write_deep(path):
     with open(path, "w", encoding="ascii") as file:
         file.write("wcspcert 2\nnetwork 1 1 10\nlower 0\nbest none\ntree\n")
         file.write("split 0 1\n" * SPLITS + "open\n" * (SPLITS + 1) + "end\n")
+
+
+def write_wide(network, certificate):
+    """A network of a variable for each split, and a good certificate of it of which `rebase` keeps all."""
+    with open(network, "w", encoding="ascii") as file:
+        file.write(f"wide {SPLITS} 2 0 10\n" + "2\n" * SPLITS)
+    with open(certificate, "w", encoding="ascii") as file:
+        file.write(f"wcspcert 2\nnetwork {SPLITS} 0 10\nlower 0\nbest none\ntree\n")
+        file.writelines(f"split {variable} 0\n" for variable in range(SPLITS))
+        file.write("open\n" * (SPLITS + 1) + "end\n")
 
 
 class Runs:
@@ -87,7 +96,7 @@ def tell(name, status, allocations, each):
         if place == allocations or each[place] != each[first]:
             print(f"  {first + 1} to {place} refused: status {each[first][0]}, last line {each[first][1]}")
             first = place
-    return all(other in (0, 6) for other, _ in each)
+    return all(other in (status, 6) for other, _ in each)
 
 
 def measured(program):
@@ -96,6 +105,8 @@ def measured(program):
         certificate, deep, written = runs.file("certificate"), runs.file("deep"), runs.file("written")
         subprocess.run([program, "solve", NETWORK, certificate], stdout=subprocess.DEVNULL, check=False)
         write_deep(deep)
+        wide, wide_deep = runs.file("wide"), runs.file("wide_deep")
+        write_wide(wide, wide_deep)
         commands = {
             "solve": ["solve", NETWORK, written],
             "check": ["check", NETWORK, certificate],
@@ -104,6 +115,11 @@ def measured(program):
             "normal": ["normal", NETWORK],
             "trial": ["trial", "7", "3"],
             "migrate": ["migrate", NETWORK, certificate, written],
+            "rebase": ["rebase", NETWORK, certificate, written],
+            "rebase of nested splits": ["rebase", NETWORK, deep, written, "--budget", "0"],
+            "rebase of nested splits that are kept": ["rebase", wide, wide_deep, written, "--budget", "0"],
+            "merge": ["merge", NETWORK, written, certificate, certificate],
+            "merge of nested splits": ["merge", NETWORK, written, deep, deep],
         }
         right = [tell(name, *runs.answers(words)) for name, words in commands.items()]
         for workers in (2, 4):
