@@ -1,0 +1,3 @@
+mod Expansions
+mod Turns
+mod Words

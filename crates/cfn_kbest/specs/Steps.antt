@@ -1,0 +1,30 @@
+-- Where the store of a search stands between two expansions.
+use Rattle.std.specs.Prelude.{◌≡◌, true, ◌<◌, List, [], ◌∷◌, IfSome}
+use Rattle.cfn_model.specs.declared.step.Event.{Event}
+use Rattle.cfn_model.specs.declared.step.Event.TheVariants.{Took}
+use Rattle.cfn_model.specs.Network.{Network}
+use Rattle.cfn_model.specs.Steps.{IsDecision}
+use Rattle.cfn_proof.specs.Nodes.{Before}
+use Rattle.cfn_store.specs.Standing.{Standing, history}
+use Rattle.cfn_edac.specs.Settling.{IsBehindSettled}
+use Rattle.cfn_node.specs.Enforcing.{IsSettledAt}
+use Rattle.cfn_dive.specs.declared.parts.Parts.{Parts}
+use Rattle.cfn_ranking.specs.Ranked.{Ranked, Waits}
+use Rattle.cfn_kbest.specs.declared.steps.Child.{Child}
+use Rattle.cfn_kbest.specs.declared.steps.Current.{Current}
+
+-- A leaf waits, and the store stands there, with no step yet. The side that leads there from a place where the network was fully
+-- consistent is known, if it was.
+pub record IsAt (r : Ranked) (s : Standing) (current : Current) : Type 0 where
+  pub waits : Waits r current.leaf.number
+  pub only : (path : List Event) → Before r.nodes current.leaf.number path → path ≡ s.base
+  pub block : s.block ≡ []
+  pub since : IfSome current.since (IsBehindSettled s)
+
+-- A child waits on the first side of a split behind which the store stands, with room for the decision.
+pub record IsChild (P : Network) (p : Parts) (r : Ranked) (child : Child) : Type 0 where
+  pub waits : Waits r child.leaf.number
+  pub only : (path : List Event) → Before r.nodes child.leaf.number path → path ≡ Took child.decision ∷ history p.store
+  pub decision : IsDecision P child.decision
+  pub room : 0 < p.store.spare
+  pub settled : child.settled ≡ true → IsSettledAt P (history p.store)

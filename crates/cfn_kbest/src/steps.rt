@@ -1,0 +1,188 @@
+//! Where the store stands next, and what an expansion makes of the list.
+
+ghost use Rattle.std.specs.Prelude.{◌≡◌, ◌+◌, ◌<◌, ◌^◌, List, IfOk, IfSome, OnOk, OnErr};
+ghost use Rattle.cfn_model.specs.declared.step.Event.{Event};
+ghost use Rattle.cfn_proof.specs.Nodes.{Before};
+ghost use Rattle.cfn_dive.specs.Diving.{IsOf};
+ghost use Rattle.cfn_ranking.specs.Ranked.{IsRanked, Waits};
+ghost use Rattle.cfn_kbest.specs.Expanding.{IsExpanded};
+ghost use Rattle.cfn_kbest.specs.Steps.{IsAt, IsChild};
+
+use crate::expanding::{Expanded, Stand, expand};
+use cfn_clock::Halt;
+use cfn_dive::Parts;
+use cfn_leaves::path_to;
+use cfn_model::{Decision, Event};
+use cfn_net::{Network, Scored};
+use cfn_node::since;
+use cfn_proof::laws::same_before;
+use cfn_proof::{NodeId, Tree};
+use cfn_ranking::Ranking;
+use std::alloc::{AllocError, Global};
+
+/// The leaf at which the store stands.
+#[derive(Clone, Copy)]
+pub(crate) struct Current {
+    pub leaf: NodeId,
+    /// The side of a split by which the store stands behind a place where it was fully consistent, if it was.
+    pub since: Option<Event>,
+}
+
+/// The first child of a split behind whose block the store stands.
+#[derive(Clone, Copy)]
+pub(crate) struct Child {
+    pub leaf: NodeId,
+    pub decision: Decision,
+    /// Whether the store was fully consistent at the split.
+    pub settled: bool,
+}
+
+/// Goes to the leaf that is expanded next: a child of the newest split, or else one of least floor. `None` where no leaf waits
+/// that has a floor below the threshold. An `Err` is want of memory.
+pub(crate) fn go_on(
+    alloc: Global,
+    network: &Network,
+    parts: &mut Parts<'_>,
+    ranking: &mut Ranking,
+    child: Option<Child>,
+) -> Result<Option<Current>, AllocError>
+    requires of { IsOf network.now parts.old }
+    requires ranked { IsRanked network.now ranking.old }
+    requires child { IfSome child (IsChild network.now parts.old ranking.old) }
+    ensures at { IfOk result (λ next. IfSome next (IsAt ranking.new parts.new.store)) }
+    ensures of { IsOf network.now parts.new }
+    ensures same { ranking.new ≡ ranking.old }
+{
+    if let Some(child) = child {
+        return Ok(Some(go_down(network, parts, ranking, child)));
+    }
+    let Some(leaf) = ranking.next() else {
+        return Ok(None);
+    };
+    Ok(Some(go_to(alloc, network, parts, ranking, leaf)?))
+}
+
+/// Goes to a leaf that waits, wherever the store stands. An `Err` is want of memory.
+fn go_to(
+    alloc: Global,
+    network: &Network,
+    parts: &mut Parts<'_>,
+    ranking: &Ranking,
+    leaf: NodeId,
+) -> Result<Current, AllocError>
+    requires of { IsOf network.now parts.old }
+    requires ranked { IsRanked network.now ranking.now }
+    requires waits { Waits ranking.now leaf.number }
+    ensures at { IfOk result (IsAt ranking.now parts.new.store) }
+    ensures of { IsOf network.now parts.new }
+{
+    same_before();
+    let path = path_to(alloc, ranking.tree(), leaf)?;
+    parts.store.replay(&path)?;
+    Ok(Current { leaf, since: None })
+}
+
+/// Goes down to the first child of a split behind which the store stands. It takes no memory.
+fn go_down(network: &Network, parts: &mut Parts<'_>, ranking: &Ranking, child: Child) -> Current
+    requires of { IsOf network.now parts.old }
+    requires child { IsChild network.now parts.old ranking.now child }
+    ensures at { IsAt ranking.now parts.new.store result }
+    ensures of { IsOf network.now parts.new }
+{
+    parts.store.take(child.decision);
+    Current {
+        leaf: child.leaf,
+        since: since(child.settled, Event::Took(child.decision)),
+    }
+}
+
+/// Expands the leaf at which the store stands, and answers the first child where it was split. An `Err` is want of memory, which
+/// leaves the ranking as it was.
+pub(crate) fn turn<H: Halt>(
+    alloc: Global,
+    network: &Network,
+    parts: &mut Parts<'_>,
+    ranking: &mut Ranking,
+    best: &mut Scored,
+    current: Current,
+    halt: &H,
+) -> Result<Option<Child>, AllocError>
+    requires of { IsOf network.now parts.old }
+    requires ranked { IsRanked network.now ranking.old }
+    requires few { ranking.old.spent + 1 < 2 ^ 64 }
+    requires best { best.old.network ≡ network.now }
+    requires at { IsAt ranking.old parts.old.store current }
+    ensures of { IsOf network.now parts.new }
+    ensures ranked { IsRanked network.now ranking.new }
+    ensures spent { OnOk result (ranking.new.spent ≡ ranking.old.spent + 1) }
+    ensures err { OnErr result (ranking.new ≡ ranking.old) }
+    ensures count { ranking.new.count ≡ ranking.old.count }
+    ensures best { best.new.network ≡ network.now }
+    ensures turned { IfOk result (λ next. IfSome next (IsChild network.now parts.new ranking.new)) }
+{
+    let stand = Stand {
+        since: current.since,
+        is_root: current.leaf == Tree::ROOT,
+    };
+    let expanded = expand(
+        alloc,
+        network,
+        parts,
+        best,
+        ranking.threshold(),
+        stand,
+        halt,
+    )?;
+    apply(alloc, network, parts, ranking, best, current.leaf, expanded)
+}
+
+/// Says to the ranking what has become of a leaf, and answers the first child where it was split. A cheaper assignment than any
+/// before is kept as the best. An `Err` is want of memory, which leaves the ranking as it was.
+fn apply(
+    alloc: Global,
+    network: &Network,
+    parts: &Parts<'_>,
+    ranking: &mut Ranking,
+    best: &mut Scored,
+    leaf: NodeId,
+    expanded: Expanded,
+) -> Result<Option<Child>, AllocError>
+    requires ranked { IsRanked network.now ranking.old }
+    requires waits { Waits ranking.old leaf.number }
+    requires few { ranking.old.spent + 1 < 2 ^ 64 }
+    requires best { best.old.network ≡ network.now }
+    requires expanded { (path : List Event) → Before ranking.old.nodes leaf.number path → IsExpanded network.now path ranking.old.threshold parts.now expanded }
+    ensures ranked { IsRanked network.now ranking.new }
+    ensures spent { OnOk result (ranking.new.spent ≡ ranking.old.spent + 1) }
+    ensures err { OnErr result (ranking.new ≡ ranking.old) }
+    ensures count { ranking.new.count ≡ ranking.old.count }
+    ensures best { best.new.network ≡ network.now }
+    ensures turned { IfOk result (λ next. IfSome next (IsChild network.now parts.now ranking.new)) }
+{
+    match expanded {
+        Expanded::Closed { block } => {
+            ranking.close(network, leaf, block);
+            Ok(None)
+        }
+        Expanded::Found { block, cost } => {
+            ranking.enter(alloc, network, leaf, block, cost, &parts.values)?;
+            if cost < best.price() {
+                best.fill(network, &parts.values);
+            }
+            Ok(None)
+        }
+        Expanded::Divided {
+            block,
+            decision,
+            low,
+            settled,
+        } => {
+            let first = ranking.divide(network, leaf, block, decision, low)?;
+            Ok(Some(Child {
+                leaf: first,
+                decision,
+                settled,
+            }))
+        }
+    }
+}
