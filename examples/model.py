@@ -9,6 +9,7 @@ import itertools
 import sys
 from collections import Counter
 from collections.abc import Callable, Hashable, Iterable, Mapping, Sequence
+from dataclasses import dataclass
 from typing import Any, Final, TextIO
 
 # The value of each variable, by its name.
@@ -16,6 +17,25 @@ Plan = dict[str, Any]
 
 # What a cost function answers for values that no plan may have together.
 FORBIDDEN: Final = None
+
+
+@dataclass(frozen=True)
+class Listing:
+    """The plans of a report of `kbest` with their costs, the cheapest first. No other plan costs less than `lower`.
+
+    Where the list is complete, no other plan costs less than a listed one.
+    """
+
+    plans: list[tuple[int, Plan]]
+    lower: int
+    is_complete: bool
+
+
+def number(word: str) -> int:
+    """A number from 0 on, in a report's digits. ValueError where a word is none."""
+    if not (word.isascii() and word.isdigit()):
+        raise ValueError(f"{word} is no number of a report")
+    return int(word)
 
 
 class Model:
@@ -93,29 +113,90 @@ class Model:
         lines = {words[0]: words[1:] for words in map(str.split, report) if words}
         if "values" not in lines:
             raise ValueError("the report has no line of values")
-        choices = zip(self._values.items(), lines["values"], strict=True)
-        plan = {name: values[int(word)] for (name, values), word in choices if name not in self._sums}
-        return int(lines["upper"][0]), plan
+        return number(lines["upper"][0]), self._named(list(map(number, lines["values"])))
+
+    def read_list(self, report: Iterable[str]) -> Listing:
+        """The plans of a report of `kbest`, without the sums of `total`. ValueError where the text is no such report."""
+        match [line.split() for line in report]:
+            case [["count", count], *listed, ["lower", lower], ["result", "complete" | "budget" | "time" | "memory" as end]]:
+                plans = [self._listed(words) for words in listed]
+                if number(count) != len(plans):
+                    raise ValueError(f"the report counts {count} plans and lists {len(plans)}")
+                if any(one >= other for one, other in itertools.pairwise(plans)):
+                    raise ValueError("the plans are not in the order of their costs, and then of their values")
+                return Listing([(cost, self._named(values)) for cost, values in plans], number(lower), end == "complete")
+        raise ValueError("this is no report of kbest")
+
+    @staticmethod
+    def _listed(words: Sequence[str]) -> tuple[int, list[int]]:
+        """The cost and the numbers of the values that a line of a list has."""
+        match words:
+            case ["cost", cost, "values", *values]:
+                return number(cost), list(map(number, values))
+        raise ValueError(f"'{' '.join(words)}' is no line of a list")
+
+    def _named(self, chosen: Sequence[int]) -> Plan:
+        """The plan with these numbers of values, without the sums of `total`. ValueError where there is none."""
+        if len(chosen) != len(self._values):
+            raise ValueError(f"{len(chosen)} values for {len(self._values)} variables")
+        for (name, values), place in zip(self._values.items(), chosen):
+            if place >= len(values):
+                raise ValueError(f"{name} has no value {place}")
+        pairs = zip(self._values.items(), chosen)
+        return {name: values[place] for (name, values), place in pairs if name not in self._sums}
+
+
+def said(value: Any) -> str:
+    return ", ".join(value) if isinstance(value, tuple) else str(value)
+
+
+def compare(cost: int, plan: Plan, price: Callable[[Plan], int]) -> None:
+    """ValueError where the data say that a plan has another cost than the report, or breaks a rule."""
+    priced = price(plan)
+    if priced != cost:
+        raise ValueError(f"the report says {cost}, but the data say {priced}")
+
+
+def print_plan(report: Iterable[str], model: Model, price: Callable[[Plan], int]) -> None:
+    cost, plan = model.read(report)
+    for name, value in plan.items():
+        print(f"{name}: {said(value)}")
+    compare(cost, plan, price)
+    print(f"cost {cost}, by the report and by the data")
+
+
+def print_alternatives(report: Iterable[str], model: Model, price: Callable[[Plan], int]) -> None:
+    """The cheapest plan, and what is taken instead in each other one."""
+    listing = model.read_list(report)
+    for place, (cost, plan) in enumerate(listing.plans, start=1):
+        compare(cost, plan, price)
+        print(f"plan {place} costs {cost}")
+        first = listing.plans[0][1]
+        for name, value in plan.items():
+            if place == 1:
+                print(f"    {name}: {said(value)}")
+            elif value != first[name]:
+                print(f"    {name}: {said(value)} instead of {said(first[name])}")
+    print(f"no other plan costs less than {listing.lower}")
+    if not listing.is_complete:
+        print("the search was cut: another plan may cost less than a listed one")
 
 
 def main(model: Model, price: Callable[[Plan], int]) -> None:
     """`write` prints the model's file. `read` prints the plan of a report on standard input, and compares its cost.
 
+    `alternatives` does so with all plans of a report of `kbest`, and says in what each differs from the cheapest.
     price(plan) is what the plan costs by the data, without the model. ValueError where it breaks a rule.
     """
-    match sys.argv[1:]:
-        case ["write"]:
-            model.write(sys.stdout)
-        case ["read"]:
-            try:
-                reported, plan = model.read(sys.stdin)
-                priced = price(plan)
-            except ValueError as error:
-                sys.exit(str(error))
-            for name, value in plan.items():
-                print(f"{name}: {', '.join(value) if isinstance(value, tuple) else value}")
-            if priced != reported:
-                sys.exit(f"the report says {reported}, but the data say {priced}")
-            print(f"cost {priced}, by the report and by the data")
-        case _:
-            sys.exit("usage: write, or read with a report on standard input")
+    try:
+        match sys.argv[1:]:
+            case ["write"]:
+                model.write(sys.stdout)
+            case ["read"]:
+                print_plan(sys.stdin, model, price)
+            case ["alternatives"]:
+                print_alternatives(sys.stdin, model, price)
+            case _:
+                sys.exit("usage: write, or read or alternatives with a report on standard input")
+    except ValueError as error:
+        sys.exit(str(error))

@@ -1,5 +1,8 @@
 #!/usr/bin/env python3
-"""A roster: who works each shift of a week. `write` prints roster.wcsp, `read` the plan of a report."""
+"""A roster: who works each shift of a week.
+
+`write` prints roster.wcsp, `read` the plan of a report, `alternatives` the plans of a report of `kbest`.
+"""
 
 from collections import Counter
 from functools import partial
