@@ -127,11 +127,7 @@ fn live_residual(network: &Network, store: &Store<'_>, f: u32, number: u32) -> O
     let one = network.value_at(f, number, 0);
     let other = network.value_at(f, number, 1);
     let found = store.least_between(f, 0, one, 1, other)?;
-    if found.cell == number {
-        Some(found.cost)
-    } else {
-        None
-    }
+    Some(found.cost)
 }
 
 /// Whether a floor and a cost reach the threshold together.
