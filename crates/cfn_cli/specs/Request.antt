@@ -6,7 +6,7 @@ use Rattle.clap.specs.declared.builder.Command.{Command as Line}
 use Rattle.clap.specs.Words.{App, Kinds, Row, Text, app_of, fault_of, is_simple, is_simple_and_free, new_app, subcommand_of, with_subcommand}
 use Rattle.clap.specs.Simple.{on_top}
 use Rattle.cfn_cli.specs.declared.commands.Command.{Command}
-use Rattle.cfn_cli.specs.declared.commands.Command.TheVariants.{Solve, Check, Cost, Normal, Trial, Migrate, Rebase, Merge, CheckBest}
+use Rattle.cfn_cli.specs.declared.commands.Command.TheVariants.{Solve, Check, Cost, Normal, Trial, Migrate, Rebase, Merge, KBest, CheckBest}
 use Rattle.cfn_cli.specs.Request.Solving.{SolveRequest, IsSolveWithin, solve_app, solve_of, spoken_solve}
 use Rattle.cfn_cli.specs.Request.Checking.{CheckRequest, check_app, check_of, spoken_check}
 use Rattle.cfn_cli.specs.Request.Costing.{CostRequest, IsCostWithin, cost_app, cost_of, spoken_cost}
@@ -15,10 +15,12 @@ use Rattle.cfn_cli.specs.Request.Trying.{TrialRequest, IsTrialWithin, trial_app,
 use Rattle.cfn_cli.specs.Request.Migrating.{MigrateRequest, migrate_app, migrate_of, spoken_migrate}
 use Rattle.cfn_cli.specs.Request.Rebasing.{RebaseRequest, IsRebaseWithin, rebase_app, rebase_of, spoken_rebase}
 use Rattle.cfn_cli.specs.Request.Merging.{MergeRequest, IsMergeWithin, merge_app, merge_of, spoken_merge}
+use Rattle.cfn_cli.specs.Request.Listing.{KBestRequest, IsKBestWithin, k_best_app, k_best_of, spoken_k_best}
 use Rattle.cfn_cli.specs.Request.CheckingBest.{CheckBestRequest, check_best_app, check_best_of, spoken_check_best}
 pub mod Checking
 pub mod CheckingBest
 pub mod Costing
+pub mod Listing
 pub mod Merging
 pub mod Migrating
 pub mod Normalizing
@@ -37,6 +39,7 @@ pub data Request : Type 0 where
   migrate : MigrateRequest → Request
   rebase : RebaseRequest → Request
   merge : MergeRequest → Request
+  k_best : KBestRequest → Request
   check_best : CheckBestRequest → Request
 
 -- The request that a command holds.
@@ -49,6 +52,7 @@ request (Trial a) = trial (spoken_trial a)
 request (Migrate a) = migrate (spoken_migrate a)
 request (Rebase a) = rebase (spoken_rebase a)
 request (Merge a) = merge (spoken_merge a)
+request (KBest a) = k_best (spoken_k_best a)
 request (CheckBest a) = check_best (spoken_check_best a)
 
 -- The numbers of a command lie within their limits.
@@ -61,13 +65,14 @@ IsWithin (Trial a) = IsTrialWithin a
 IsWithin (Migrate a) = Unit {0}
 IsWithin (Rebase a) = IsRebaseWithin a
 IsWithin (Merge a) = IsMergeWithin a
+IsWithin (KBest a) = IsKBestWithin a
 IsWithin (CheckBest a) = Unit {0}
 
 -- The program, which wants one of its commands.
 unfoldable pub command_line : App
-command_line = with_subcommand (with_subcommand (with_subcommand (with_subcommand (with_subcommand (with_subcommand (with_subcommand (with_subcommand (with_subcommand
+command_line = with_subcommand (with_subcommand (with_subcommand (with_subcommand (with_subcommand (with_subcommand (with_subcommand (with_subcommand (with_subcommand (with_subcommand
     (on_top (λ s. record s { subcommand_required = true }) (new_app (codes "wcspsolve")))
-    solve_app.top) check_app.top) cost_app.top) normal_app.top) trial_app.top) migrate_app.top) rebase_app.top) merge_app.top) check_best_app.top
+    solve_app.top) check_app.top) cost_app.top) normal_app.top) trial_app.top) migrate_app.top) rebase_app.top) merge_app.top) k_best_app.top) check_best_app.top
 
 -- What a parse reads of a command is the program's command line, of the kind of which clap tells what the words give.
 pub record IsLine (line : Line) : Type 0 where
@@ -86,7 +91,8 @@ request_named name rows =
     else (if bytes_eq name (codes "migrate") then option_map migrate (migrate_of rows)
     else (if bytes_eq name (codes "rebase") then option_map rebase (rebase_of rows)
     else (if bytes_eq name (codes "merge") then option_map merge (merge_of rows)
-    else (if bytes_eq name (codes "checkbest") then option_map check_best (check_best_of rows) else None))))))))
+    else (if bytes_eq name (codes "kbest") then option_map k_best (k_best_of rows)
+    else (if bytes_eq name (codes "checkbest") then option_map check_best (check_best_of rows) else None)))))))))
 
 abbrev pub request_from : Option (Text × List Row) → Option Request
 request_from = option_and_then (λ met. request_named met.0 met.1)

@@ -7,6 +7,7 @@ ghost use Rattle.cfn_cli.specs.Request.{IsLine, IsWithin, request, request_from,
 mod check;
 mod checkbest;
 mod cost;
+mod kbest;
 mod merge;
 mod migrate;
 mod normal;
@@ -19,6 +20,7 @@ pub use check::CheckArguments;
 pub use checkbest::CheckBestArguments;
 use clap::{ArgMatches, Command as Line};
 pub use cost::CostArguments;
+pub use kbest::KBestArguments;
 pub use merge::MergeArguments;
 pub use migrate::MigrateArguments;
 pub use normal::NormalArguments;
@@ -46,6 +48,8 @@ pub enum Command {
     Rebase(RebaseArguments),
     /// `merge FILE OUT CERT.. [--wcnf]`
     Merge(MergeArguments),
+    /// `kbest FILE K CERT [--budget B] [--seconds S] [--wcnf]`
+    KBest(KBestArguments),
     /// `checkbest FILE CERT [--wcnf]`
     CheckBest(CheckBestArguments),
 }
@@ -63,6 +67,7 @@ pub(crate) fn command_line<'a>(alloc: Global) -> Result<Line<'a>, AllocError>
     let line = under(line, migrate::line(alloc))?;
     let line = under(line, rebase::line(alloc))?;
     let line = under(line, merge::line(alloc))?;
+    let line = under(line, kbest::line(alloc))?;
     under(line, checkbest::line(alloc))
 }
 
@@ -109,6 +114,8 @@ fn named(alloc: Global, name: &str, found: &ArgMatches<'_>) -> Result<Command, C
         Ok(Command::Rebase(rebase::read(alloc, found)?))
     } else if name == "merge" {
         Ok(Command::Merge(merge::read(alloc, found)?))
+    } else if name == "kbest" {
+        Ok(Command::KBest(kbest::read(alloc, found)?))
     } else if name == "checkbest" {
         Ok(Command::CheckBest(checkbest::read(alloc, found)?))
     } else {

@@ -8,6 +8,7 @@
 //!     wcspsolve migrate FILE CERT OUT
 //!     wcspsolve rebase FILE OLD CERT [--workers W] [--budget B] [--seconds S] [--wcnf] [--progress] [--part I] [--parts N]
 //!     wcspsolve merge FILE OUT CERT.. [--wcnf]
+//!     wcspsolve kbest FILE K CERT [--budget B] [--seconds S] [--wcnf]
 //!     wcspsolve checkbest FILE CERT [--wcnf]
 //!
 //! The crate `clap` says which word is which argument. `commands` is the list of the commands, each of which has a file of its

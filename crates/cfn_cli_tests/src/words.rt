@@ -46,6 +46,17 @@ fn checks(alloc: Global, words: &[&str]) -> bool {
     }
 }
 
+/// How many assignments the words ask for, with which limits, where they list the cheapest of `a` into `b`.
+fn lists(alloc: Global, words: &[&str]) -> Option<(u16, u64, Option<u64>)> {
+    match parse(alloc, words) {
+        Ok(Command::KBest(asked))
+            if asked.file.as_str() == "a" && asked.certificate.as_str() == "b" => {
+            Some((asked.count, asked.budget, asked.seconds))
+        }
+        _ => None,
+    }
+}
+
 fn checks_best(alloc: Global, words: &[&str]) -> bool {
     match parse(alloc, words) {
         Ok(Command::CheckBest(asked)) => {
@@ -112,6 +123,7 @@ fn format(alloc: Global, words: &[&str]) -> Option<Format> {
     match parse(alloc, words) {
         Ok(Command::Solve(asked)) => Some(asked.format),
         Ok(Command::Check(asked)) => Some(asked.format),
+        Ok(Command::KBest(asked)) => Some(asked.format),
         Ok(Command::CheckBest(asked)) => Some(asked.format),
         Ok(Command::Cost(asked)) => Some(asked.format),
         Ok(Command::Normal(asked)) => Some(asked.format),
@@ -125,6 +137,7 @@ fn format_is_read(rt: HostRuntime) {
     for words in [
         ["w", "solve", "a", "b"].as_slice(),
         &["w", "check", "a", "b"],
+        &["w", "kbest", "a", "1", "b"],
         &["w", "checkbest", "a", "b"],
         &["w", "cost", "f", "0"],
         &["w", "normal", "f"],
@@ -134,6 +147,7 @@ fn format_is_read(rt: HostRuntime) {
     for words in [
         ["w", "solve", "--wcnf", "a", "b"].as_slice(),
         &["w", "check", "a", "b", "--wcnf"],
+        &["w", "kbest", "a", "1", "--wcnf", "b"],
         &["w", "checkbest", "--wcnf", "a", "b"],
         &["w", "cost", "f", "--wcnf", "0"],
         &["w", "normal", "f", "--wcnf"],
@@ -202,6 +216,31 @@ fn check_is_read(rt: HostRuntime) {
 }
 
 #[test]
+fn k_best_is_read(rt: HostRuntime) {
+    let alloc = rt.alloc();
+    for (words, asked) in [
+        (
+            ["w", "kbest", "a", "1", "b"].as_slice(),
+            (1, MOST_BUDGET, None),
+        ),
+        (
+            &["w", "kbest", "a", "+1000", "b"],
+            (1000, MOST_BUDGET, None),
+        ),
+        (
+            &["w", "kbest", "a", "7", "b", "--budget", "0"],
+            (7, 0, None),
+        ),
+        (
+            &["w", "kbest", "--seconds=0", "a", "7", "b"],
+            (7, MOST_BUDGET, Some(0)),
+        ),
+    ] {
+        assert!(rt; lists(alloc, words) == Some(asked), "{words:?}");
+    }
+}
+
+#[test]
 fn check_best_is_read(rt: HostRuntime) {
     let alloc = rt.alloc();
     assert!(rt; checks_best(alloc, &["w", "checkbest", "a", "b"]));
@@ -265,6 +304,26 @@ fn other_words_are_usage(rt: HostRuntime) {
         &["w", "check", "a"],
         &["w", "check", "a", "b", "c"],
         &["w", "check", "a", "b", "--budget", "1"],
+        &["w", "kbest"],
+        &["w", "kbest", "a", "b"],
+        &["w", "kbest", "a", "0", "b"],
+        &["w", "kbest", "a", "1001", "b"],
+        &["w", "kbest", "a", "-1", "b"],
+        &["w", "kbest", "a", "b", "1"],
+        &["w", "kbest", "a", "1", "a"],
+        &["w", "kbest", "a", "1", "b", "c"],
+        &["w", "kbest", "a", "1", "b", "--workers", "1"],
+        &[
+            "w",
+            "kbest",
+            "a",
+            "1",
+            "b",
+            "--budget",
+            "9223372036854775808",
+        ],
+        &["w", "kbest", "a", "1", "b", "--seconds", "1000000001"],
+        &["w", "kbest", "a", "1", "b", "--progress"],
         &["w", "checkbest"],
         &["w", "checkbest", "a"],
         &["w", "checkbest", "a", "b", "c"],

@@ -18,6 +18,7 @@ usage_text =
     ∷ (codes "wcspsolve" ∷ codes "migrate" ∷ codes "FILE" ∷ codes "CERT" ∷ codes "OUT" ∷ [])
     ∷ (codes "wcspsolve" ∷ codes "rebase" ∷ codes "FILE" ∷ codes "OLD" ∷ codes "CERT" ∷ codes "[--workers" ∷ codes "W]" ∷ codes "[--budget" ∷ codes "B]" ∷ codes "[--seconds" ∷ codes "S]" ∷ codes "[--wcnf]" ∷ codes "[--progress]" ∷ codes "[--part" ∷ codes "I]" ∷ codes "[--parts" ∷ codes "N]" ∷ [])
     ∷ (codes "wcspsolve" ∷ codes "merge" ∷ codes "FILE" ∷ codes "OUT" ∷ codes "CERT.." ∷ codes "[--wcnf]" ∷ [])
+    ∷ (codes "wcspsolve" ∷ codes "kbest" ∷ codes "FILE" ∷ codes "K" ∷ codes "CERT" ∷ codes "[--budget" ∷ codes "B]" ∷ codes "[--seconds" ∷ codes "S]" ∷ codes "[--wcnf]" ∷ [])
     ∷ (codes "wcspsolve" ∷ codes "checkbest" ∷ codes "FILE" ∷ codes "CERT" ∷ codes "[--wcnf]" ∷ [])
     ∷ [])
 

@@ -50,7 +50,7 @@ impl Run {
         failing: &[u64],
         kept: &str,
     ) -> Result<Run, AllocError> {
-        let mut desk = MemoryDesk::make(rt.alloc(), files, 2000, 500, failing)?;
+        let mut desk = MemoryDesk::make(rt.alloc(), files, 2000, 1000, failing)?;
         let status = run(rt, rt.alloc(), words, &mut desk, &OpenGate, &Still).code();
         Run::left(rt.alloc(), status, &desk, kept)
     }
@@ -62,7 +62,7 @@ impl Run {
         file: &[u8],
         gate: &G,
     ) -> Result<Run, AllocError> {
-        let mut desk = MemoryDesk::make(rt.alloc(), &[("in", file)], 2000, 500, &[])?;
+        let mut desk = MemoryDesk::make(rt.alloc(), &[("in", file)], 2000, 1000, &[])?;
         let status = run(rt, rt.alloc(), words, &mut desk, gate, &Still).code();
         Run::left(rt.alloc(), status, &desk, "out")
     }

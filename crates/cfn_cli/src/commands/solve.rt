@@ -13,10 +13,10 @@ use clap::{ArgMatches, Command};
 use std::alloc::{AllocError, Global};
 
 /// The greatest budget, 2^63 - 1.
-const MOST_BUDGET: u64 = 9_223_372_036_854_775_807;
+pub(super) const MOST_BUDGET: u64 = 9_223_372_036_854_775_807;
 
 /// The greatest limit of time, in seconds.
-const MOST_SECONDS: u64 = 1_000_000_000;
+pub(super) const MOST_SECONDS: u64 = 1_000_000_000;
 
 /// What to solve, and how far to go.
 #[derive(Drop)]
