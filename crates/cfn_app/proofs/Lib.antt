@@ -3,6 +3,7 @@ mod Counting
 mod Ends
 mod Files
 mod LeastCost
+mod Lists
 mod Merges
 mod Pairing
 mod Stating

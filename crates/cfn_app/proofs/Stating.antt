@@ -2,7 +2,7 @@
 use Rattle.std.proofs.Common.{◌≡◌, refl, subst}
 use Rattle.std.specs.Prelude.{Option, Some, None}
 use Rattle.cfn_desk.specs.Outside.{Outside, IsIdle}
-use Rattle.cfn_cli.specs.Request.{Request, solve, check, cost, normal, trial, migrate, rebase, merge, check_best}
+use Rattle.cfn_cli.specs.Request.{Request, solve, check, cost, normal, trial, migrate, rebase, merge, k_best, check_best}
 use Rattle.cfn_app.specs.declared.status.Status.{Status}
 use Rattle.cfn_app.specs.Endings.{Ends}
 use Rattle.cfn_app.specs.Saying.{Counts}
@@ -12,6 +12,7 @@ use Rattle.cfn_app.proofs.Counting.{by, counted, ends_idle, unheard}
 use Rattle.cfn_app.proofs.Stating.Checking.{check_unheard, check_status, check_counts, check_idle}
 use Rattle.cfn_app.proofs.Stating.CheckingBest.{check_best_unheard, check_best_status, check_best_counts, check_best_idle}
 use Rattle.cfn_app.proofs.Stating.Costing.{cost_unheard, cost_status, cost_counts, cost_idle}
+use Rattle.cfn_app.proofs.Stating.Listing.{k_best_unheard, k_best_status, k_best_counts, k_best_idle}
 use Rattle.cfn_app.proofs.Stating.Merging.{merge_unheard, merge_status, merge_counts, merge_idle}
 use Rattle.cfn_app.proofs.Stating.Migrating.{migrate_unheard, migrate_status, migrate_counts, migrate_idle}
 use Rattle.cfn_app.proofs.Stating.Normalizing.{normal_unheard, normal_status, normal_counts, normal_idle}
@@ -21,6 +22,7 @@ use Rattle.cfn_app.proofs.Stating.Trying.{trial_unheard, trial_status, trial_cou
 mod Checking
 mod CheckingBest
 mod Costing
+mod Listing
 mod Merging
 mod Migrating
 mod Normalizing
@@ -41,6 +43,7 @@ module _ (old new : Outside) (status : Status) where
   unheard_status (migrate ask) same ends = migrate_unheard ask old new status same ends
   unheard_status (rebase ask) same ends = rebase_unheard ask old new status same ends
   unheard_status (merge ask) same ends = merge_unheard ask old new status same ends
+  unheard_status (k_best ask) same ends = k_best_unheard ask old new status same ends
   unheard_status (check_best ask) same ends = check_best_unheard ask old new status same ends
 
   status_of : (ask : Request) → RunsOf ask old new status → StatusOf ask old new status
@@ -52,6 +55,7 @@ module _ (old new : Outside) (status : Status) where
   status_of (migrate ask) run = migrate_status ask old new status run
   status_of (rebase ask) run = rebase_status ask old new status run
   status_of (merge ask) run = merge_status ask old new status run
+  status_of (k_best ask) run = k_best_status ask old new status run
   status_of (check_best ask) run = check_best_status ask old new status run.0 run.1
 
   counts_of : (ask : Request) → RunsOf ask old new status → Counts old.calls new.calls status
@@ -63,6 +67,7 @@ module _ (old new : Outside) (status : Status) where
   counts_of (migrate ask) run = migrate_counts ask old new status run
   counts_of (rebase ask) run = rebase_counts ask old new status run
   counts_of (merge ask) run = merge_counts ask old new status run
+  counts_of (k_best ask) run = k_best_counts ask old new status run
   counts_of (check_best ask) run = check_best_counts ask old new status run.0 run.1
 
   idle_of : (ask : Request) → RunsOf ask old new status → IsIdle old.calls → IsIdle new.calls
@@ -74,6 +79,7 @@ module _ (old new : Outside) (status : Status) where
   idle_of (migrate ask) run before = migrate_idle ask old new status run before
   idle_of (rebase ask) run before = rebase_idle ask old new status run before
   idle_of (merge ask) run before = merge_idle ask old new status run before
+  idle_of (k_best ask) run before = k_best_idle ask old new status run before
   idle_of (check_best ask) run before = check_best_idle ask old new status run.0 run.1 before
 
 -- ---- all runs

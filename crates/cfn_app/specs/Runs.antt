@@ -4,7 +4,7 @@ use Rattle.std.specs.Prelude.{◌≡◌, Option, Some, None}
 use Rattle.cfn_model.specs.Text.{memory_fault_text}
 use Rattle.cfn_report.specs.Texts.{usage_text}
 use Rattle.cfn_desk.specs.Outside.{Outside, IsIdle}
-use Rattle.cfn_cli.specs.Request.{Request, solve, check, cost, normal, trial, migrate, rebase, merge, check_best}
+use Rattle.cfn_cli.specs.Request.{Request, solve, check, cost, normal, trial, migrate, rebase, merge, k_best, check_best}
 use Rattle.cfn_app.specs.declared.status.Status.{Status}
 use Rattle.cfn_app.specs.declared.status.Status.TheVariants.{Done, Nothing, LimitSpent, Usage, Refused, Fault, NoMemory, Disproved}
 use Rattle.cfn_app.specs.Endings.{Ends}
@@ -13,6 +13,7 @@ use Rattle.cfn_app.specs.Runs.Solving.{Solves, SolveStatus}
 use Rattle.cfn_app.specs.Runs.Checking.{Checks, CheckStatus}
 use Rattle.cfn_app.specs.Runs.CheckingBest.{ChecksBest, CheckBestStatus}
 use Rattle.cfn_app.specs.Runs.Costing.{Costs, CostStatus}
+use Rattle.cfn_app.specs.Runs.Listing.{ListsBest, KBestStatus}
 use Rattle.cfn_app.specs.Runs.Merging.{Merges, MergeStatus}
 use Rattle.cfn_app.specs.Runs.Migrating.{Migrates, MigrateStatus}
 use Rattle.cfn_app.specs.Runs.Normalizing.{Normalizes, NormalStatus}
@@ -21,6 +22,7 @@ use Rattle.cfn_app.specs.Runs.Trying.{Tries, TrialStatus}
 pub mod Checking
 pub mod CheckingBest
 pub mod Costing
+pub mod Listing
 pub mod Merging
 pub mod Migrating
 pub mod Normalizing
@@ -30,7 +32,7 @@ pub mod Trying
 
 -- ---- the commands
 
--- How a run may end that is asked this. Only `solve`, `migrate`, `rebase` and `merge` write a file.
+-- How a run may end that is asked this. Only `solve`, `migrate`, `rebase`, `merge` and `kbest` write a file.
 abbrev pub RunsOf : Request → Outside → Outside → Status → Type 0
 RunsOf (solve ask) old new status = Solves ask old new status
 RunsOf (check ask) old new status = (new.files ≡ old.files) × Checks ask old new.calls status
@@ -40,6 +42,7 @@ RunsOf (trial ask) old new status = (new.files ≡ old.files) × Tries ask old.c
 RunsOf (migrate ask) old new status = Migrates ask old new status
 RunsOf (rebase ask) old new status = Rebases ask old new status
 RunsOf (merge ask) old new status = Merges ask old new status
+RunsOf (k_best ask) old new status = ListsBest ask old new status
 RunsOf (check_best ask) old new status = (new.files ≡ old.files) × ChecksBest ask old new.calls status
 
 -- What the status of a run says that is asked this.
@@ -52,6 +55,7 @@ StatusOf (trial ask) old new status = TrialStatus ask old new status
 StatusOf (migrate ask) old new status = MigrateStatus ask old new status
 StatusOf (rebase ask) old new status = RebaseStatus ask old new status
 StatusOf (merge ask) old new status = MergeStatus ask old new status
+StatusOf (k_best ask) old new status = KBestStatus ask old new status
 StatusOf (check_best ask) old new status = CheckBestStatus ask old new status
 
 -- ---- all runs

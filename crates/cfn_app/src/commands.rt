@@ -7,6 +7,7 @@ ghost use Rattle.cfn_app.specs.Runs.{RunsOf};
 mod checking;
 mod checking_best;
 mod costing;
+mod listing;
 mod merging;
 mod migrating;
 mod normalizing;
@@ -21,6 +22,7 @@ use cfn_solve::Gate;
 use checking::check_file;
 use checking_best::check_best_file;
 use costing::cost_file;
+use listing::list_file;
 use merging::merge_files;
 use migrating::migrate_file;
 use normalizing::normalize_file;
@@ -54,6 +56,7 @@ pub(crate) fn do_command<R: Threads + Wait + Sync, D: Desk, G: Gate + Sync, C: C
         Command::Migrate(ask) => migrate_file(alloc, ask, desk),
         Command::Rebase(ask) => rebase_file(rt, alloc, ask, desk, gate, clock),
         Command::Merge(ask) => merge_files(alloc, ask, desk),
+        Command::KBest(ask) => list_file(alloc, ask, desk, clock),
         Command::CheckBest(ask) => check_best_file(alloc, ask, desk),
     }
 }

@@ -2,7 +2,7 @@
 //!
 //! `run` reads the words of the command line, loads and reads the file, and then solves it, writes the certificate and
 //! says the report; or judges the certificate that it loaded, and says its bounds or its first line that fails, or writes
-//! it in the second version; or judges a list of the cheapest assignments; or says the cost of an assignment, or the file's
+//! it in the second version; or lists the cheapest assignments, or judges such a list; or says the cost of an assignment, or the file's
 //! network in its canonical text; or draws a network and says its least cost. How it may end, with each call of the desk,
 //! and what each status says is defined in specs/Runs.antt, with a file for each command below it, and what a report
 //! promises in specs/Headline.antt.

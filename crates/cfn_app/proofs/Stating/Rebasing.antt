@@ -1,5 +1,5 @@
 -- What each status of `rebase` says, from how a run of it ends.
-use Rattle.std.proofs.Common.{◌≡◌, ◌⊎◌, inl, inr, ℕ, true, false, List, refl, sym, ap, ◌∙◌, subst}
+use Rattle.std.proofs.Common.{◌≡◌, ◌⊎◌, inl, inr, ℕ, true, List, refl, sym, ap, ◌∙◌, subst}
 use Rattle.cfn_model.specs.declared.report.Row.{Row}
 use Rattle.cfn_model.specs.declared.report.ResultWord.{ResultWord}
 use Rattle.cfn_model.specs.declared.report.ResultWord.TheVariants as words
@@ -9,7 +9,7 @@ use Rattle.cfn_model.specs.Certificate.{Certificate}
 use Rattle.cfn_model.specs.Text.{Spells, spelling, report}
 use Rattle.cfn_fault.specs.Fault.{TextFault}
 use Rattle.cfn_fault.proofs.CallerLemmas.{no_text_fault_where_spelled}
-use Rattle.cfn_desk.specs.Outside.{Outside, Open, IsIdle, Stored, Writing, after, faults, says}
+use Rattle.cfn_desk.specs.Outside.{Outside, Open, IsIdle, Stored, Writing, after, says}
 use Rattle.cfn_outcome.specs.Outcome.{Start}
 use Rattle.cfn_resume.specs.Resuming.{Resumes}
 use Rattle.cfn_cli.specs.Request.Rebasing.{RebaseRequest}

@@ -15,7 +15,6 @@ use Rattle.cfn_outcome.specs.Outcome.{Start}
 use Rattle.cfn_resume.specs.Resuming.{Resumes}
 use Rattle.cfn_wcnf.specs.declared.fault.Unread.{Unread as FirstUnread}
 use Rattle.cfn_cli.specs.Request.Rebasing.{RebaseRequest}
-use Rattle.cfn_cli.specs.Request.Solving.{SolveRequest}
 use Rattle.cfn_app.specs.declared.status.Status.{Status}
 use Rattle.cfn_app.specs.declared.status.Status.TheVariants.{Done, Nothing, LimitSpent, Usage, Refused, Fault, NoMemory, Disproved}
 use Rattle.cfn_app.specs.Endings.{Ends, IsHindered}

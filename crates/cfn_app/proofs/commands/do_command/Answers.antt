@@ -34,5 +34,8 @@ returns-in-Rebase g c = run_of _ _ _ _ _ c.in-Rebase.is c.rebase_file.ensures
 pub returns-in-Merge : goal.returns-in-Merge
 returns-in-Merge g c = run_of _ _ _ _ _ c.in-Merge.is c.merge_files.ensures
 
+pub returns-in-KBest : goal.returns-in-KBest
+returns-in-KBest g c = run_of _ _ _ _ _ c.in-KBest.is c.list_file.ensures
+
 pub returns-in-CheckBest : goal.returns-in-CheckBest
 returns-in-CheckBest g c = run_of _ _ _ _ _ c.in-CheckBest.is (c.check_best_file.ensures.files, c.check_best_file.ensures.ends)
