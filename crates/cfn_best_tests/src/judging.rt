@@ -8,7 +8,7 @@ use std::alloc::Global;
 use std::test::Fail;
 
 /// One variable of 2 values, and one function over it: it costs 3, and 1 where the value is 1.
-const TINY: &[u8] = b"tiny 1 2 1 10\n2\n1 0 3 1\n1 1\n";
+pub(crate) const TINY: &[u8] = b"tiny 1 2 1 10\n2\n1 0 3 1\n1 1\n";
 
 /// Texts of lists of that network, and what the checker answers to each.
 const TEXTS: [(&[u8], BestCheck); 14] = [
@@ -111,16 +111,16 @@ const TEXTS: [(&[u8], BestCheck); 14] = [
     ),
 ];
 
-/// What the checker answers to a text.
-fn answer(alloc: Global, text: &[u8]) -> Result<BestCheck, Fail> {
-    let network = read(alloc, TINY)?;
+/// What the checker answers to a text of a network that a file has.
+pub(crate) fn answer(alloc: Global, file: &[u8], text: &[u8]) -> Result<BestCheck, Fail> {
+    let network = read(alloc, file)?;
     Ok(check_best(alloc, &network, text)?)
 }
 
 #[test]
 fn lists_are_judged(rt: HostRuntime) -> Result<(), Fail> {
     for (row, (text, expected)) in TEXTS.iter().enumerate() {
-        let judged = answer(rt.alloc(), text)?;
+        let judged = answer(rt.alloc(), TINY, text)?;
         assert!(rt; judged == *expected, "in row {row}");
     }
     Ok(())
