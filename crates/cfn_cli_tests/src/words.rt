@@ -49,8 +49,10 @@ fn checks(alloc: Global, words: &[&str]) -> bool {
 /// How many assignments the words ask for, with which limits, where they list the cheapest of `a` into `b`.
 fn lists(alloc: Global, words: &[&str]) -> Option<(u16, u64, Option<u64>)> {
     match parse(alloc, words) {
-        Ok(Command::KBest(asked))
-            if asked.file.as_str() == "a" && asked.certificate.as_str() == "b" => {
+        Ok(Command::KBest(asked)) => {
+            if asked.file.as_str() != "a" || asked.certificate.as_str() != "b" {
+                return None;
+            }
             Some((asked.count, asked.budget, asked.seconds))
         }
         _ => None,
