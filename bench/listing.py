@@ -78,7 +78,8 @@ def draw_top(draws, network):
     """An upper bound: above all sums, near the cost of an assignment, as large or as small as can be."""
     totals = sorted(network.price(values) for values in assignments(network))
     near = draws.pick(totals[: 1 + len(totals) // 2]) + draws.below(2)
-    return min(draws.pick((totals[-1] + 1, totals[-1] + 1, near, near, GREATEST, draws.between(0, 9))), GREATEST)
+    above = totals[-1] + 1
+    return min(draws.pick((above, above, above, near, near, near, GREATEST, draws.between(0, 9))), GREATEST)
 
 
 def harden(draws, function, top):
@@ -118,9 +119,9 @@ def draw_case(seed):
     draws = Draws(f"listing {seed}")
     is_formula = draws.below(6) == 0
     network, text = draw_formula(draws) if is_formula else ((drawn := draw_network(draws)), text_of(drawn))
-    budget = ["--budget", str(draws.pick((0, 1, 2, 3, 5, 8, 13, 21)))]
+    budget = ["--budget", str(draws.pick((0, 2, 3, 5, 6, 8, 10, 13, 17, 21, 30)))]
     limit = draws.pick((*[[]] * 7, *[budget] * 4, ["--seconds", "0"]))
-    return Case(network, text, is_formula, draws.between(1, MOST_LISTED), limit)
+    return Case(network, text, is_formula, draws.between(1, draws.pick((3, MOST_LISTED))), limit)
 
 
 # Judging
