@@ -6,8 +6,8 @@ The networks have up to 6 variables with up to 4 values, functions of up to 3 va
 costs and upper bounds; some are formulas in wcnf. Of each, 1 to 12 assignments are asked for, of some with a limit. A list has to
 be in order, its costs have to be right, and what is not in it may cost no less than its lower bound; a complete one has to be the
 cheapest. `checkbest` has to verify each certificate, which has to say what the report says. Then each certificate is spoilt: a
-number is changed by one, a line is dropped, said twice or exchanged with another, a leaf is turned into another one. What is
-verified all the same has to be true. It prints counts, and ends with 1 at the first fault.
+number is changed by one, a line is dropped, said twice or exchanged with another, a leaf is turned into another one, other
+assignments are listed. What is verified all the same has to be true. It prints counts, and ends with 1 at the first fault.
 """
 
 import argparse
@@ -228,13 +228,27 @@ def turn_leaf(draws, line):
     return draws.pick(("open", "closed", f"listed {draws.below(MOST_LISTED)}"))
 
 
-def spoil(draws, lines):
+def exchange_list(draws, lines, allowed):
+    """The lines with as many other assignments, in order and at their costs, or with the last one taken away: then its leaf is open."""
+    listed = [place for place, line in enumerate(lines) if line.startswith("values")]
+    if draws.below(2) == 0:
+        others = draws.subset(allowed, len(listed))
+        told = [f"values {cost} {' '.join(map(str, values))}" for cost, values in others]
+        return [*lines[:5], *told, *lines[5 + len(listed) :]]
+    if not listed:
+        return lines
+    last = len(listed) - 1
+    fewer = [f"best {last}", *lines[5 : 5 + last], *lines[6 + last :]]
+    return lines[:4] + ["open" if line == f"listed {last}" else line for line in fewer]
+
+
+def spoil(draws, lines, allowed):
     """Other lines, and the first place at which they differ; or none."""
     head = lines.index("tree")
     place = draws.below(head if draws.below(3) == 0 else len(lines))
     other = draws.pick((min(place + 1, len(lines) - 1), draws.below(len(lines))))
     spoilt = list(lines)
-    match draws.pick(("number", "number", "number", "number", "drop", "exchange", "twice", "leaf", "leaf")):
+    match draws.pick(("number", "number", "number", "number", "drop", "exchange", "twice", "leaf", "leaf", "list")):
         case "number":
             spoilt[place] = change_number(draws, lines[place]) or lines[place]
         case "leaf":
@@ -245,6 +259,8 @@ def spoil(draws, lines):
             spoilt.insert(place, lines[place])
         case "exchange":
             spoilt[place], spoilt[other] = lines[other], lines[place]
+        case "list":
+            spoilt = exchange_list(draws, lines, allowed)
     if spoilt == lines:
         return None
     pairs = itertools.zip_longest(lines, spoilt)
@@ -299,7 +315,7 @@ class Comparison:
 
     def compare_spoilt(self, case, draws, allowed, lines):
         """Spoils a certificate, and judges what is verified all the same."""
-        made = spoil(draws, lines)
+        made = spoil(draws, lines, allowed)
         if made is None:
             return
         spoilt, place = made
