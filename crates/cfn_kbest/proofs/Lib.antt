@@ -1,3 +1,4 @@
 mod Expansions
+mod Marks
 mod Turns
 mod Words

@@ -1,9 +1,10 @@
 -- Where the store of a search stands between two expansions.
-use Rattle.std.specs.Prelude.{◌≡◌, true, ◌<◌, List, [], ◌∷◌, IfSome}
+use Rattle.std.specs.Prelude.{◌≡◌, true, false, ℕ, ◌<◌, Bool, List, [], ◌∷◌, length, slice_index_or, IfSome}
 use Rattle.cfn_model.specs.declared.step.Event.{Event}
 use Rattle.cfn_model.specs.declared.step.Event.TheVariants.{Took}
 use Rattle.cfn_model.specs.Network.{Network}
 use Rattle.cfn_model.specs.Steps.{IsDecision}
+use Rattle.cfn_proof.specs.declared.tree.Node.{Node}
 use Rattle.cfn_proof.specs.Nodes.{Before}
 use Rattle.cfn_store.specs.Standing.{Standing, history}
 use Rattle.cfn_edac.specs.Settling.{IsBehindSettled}
@@ -28,3 +29,21 @@ pub record IsChild (P : Network) (p : Parts) (r : Ranked) (child : Child) : Type
   pub decision : IsDecision P child.decision
   pub room : 0 < p.store.spare
   pub settled : child.settled ≡ true → IsSettledAt P (history p.store)
+
+-- The newest event leads on from a place where the network was fully consistent at some threshold.
+abbrev pub IsBehindPlace : Network → List Event → Type 0
+IsBehindPlace P [] = ⊥
+IsBehindPlace P (event ∷ before) = IsSettledAt P before
+
+-- The mark beside a node, where there is one.
+abbrev pub mark_at : List Bool → ℕ → Bool
+mark_at marks i = slice_index_or marks i false
+
+-- Beside each node there is a mark, and one that is set says that the node stands behind such a place.
+pub record AreMarked (P : Network) (nodes : List Node) (marks : List Bool) : Type 0 where
+  pub long : length marks ≡ length nodes
+  pub settled : (i : ℕ) (path : List Event) → i < length nodes → mark_at marks i ≡ true → Before nodes i path → IsBehindPlace P path
+
+-- A path ends by an event that leads on from such a place.
+abbrev pub EndsBehindPlace : Network → List Event → Event → Type 0
+EndsBehindPlace P path event = (above : List Event) × (path ≡ event ∷ above) × IsSettledAt P above

@@ -2,10 +2,12 @@
 
 ghost use Rattle.std.specs.Prelude.{◌≡◌, ◌≤◌, ◌^◌, true, is_some, [], IfOk, IfSome, OnOk};
 ghost use Rattle.cfn_model.specs.declared.limits.TheConstants.{GREATEST};
+ghost use Rattle.cfn_model.specs.Network.{Network};
 ghost use Rattle.cfn_model.specs.Paths.{HasSmallCosts};
 ghost use Rattle.cfn_model.specs.Sums.{floor};
 ghost use Rattle.cfn_dive.specs.Diving.{IsOf};
 ghost use Rattle.cfn_ranking.specs.Ranked.{IsRanked};
+ghost use Rattle.cfn_kbest.specs.Steps.{AreMarked};
 ghost use Rattle.cfn_kbest.specs.Searching.{IsBestOf, word_of as the_word};
 
 use crate::steps::{go_on, turn};
@@ -99,6 +101,9 @@ fn search<H: Halt>(
     ensures spent { ranking.new.spent ≤ budget }
     ensures past { IfSome result (λ _. H.limited halt.now ≡ true) }
 {
+    let Ok(mut marks) = no_marks(alloc, ranking) else {
+        return None;
+    };
     let mut child = None;
     for _ in 0..budget {
         if ranking.spent() >= budget {
@@ -107,15 +112,24 @@ fn search<H: Halt>(
         if let Some(past) = halt.past() {
             return Some(past);
         }
-        let Ok(Some(current)) = go_on(alloc, network, parts, ranking, child) else {
+        let Ok(Some(current)) = go_on(alloc, network, parts, ranking, &marks, child) else {
             return None;
         };
-        match turn(alloc, network, parts, ranking, best, current, halt) {
+        match turn(
+            alloc, network, parts, ranking, best, &mut marks, current, halt,
+        ) {
             Ok(next) => child = next,
             Err(AllocError) => return None,
         }
     }
     None
+}
+
+/// A mark for each node, none of which is set. An `Err` is want of memory.
+fn no_marks(alloc: Global, ranking: &Ranking) -> Result<Vec<bool>, AllocError>
+    ensures { IfOk result (λ marks. (P : Network) → AreMarked P ranking.now.nodes marks.items) }
+{
+    vec![in alloc; false; ranking.tree().len()]
 }
 
 /// What a search comes to.

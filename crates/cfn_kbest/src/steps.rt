@@ -1,12 +1,12 @@
 //! Where the store stands next, and what an expansion makes of the list.
 
-ghost use Rattle.std.specs.Prelude.{◌≡◌, ◌+◌, ◌<◌, ◌^◌, List, IfOk, IfSome, OnOk, OnErr};
+ghost use Rattle.std.specs.Prelude.{◌≡◌, ◌+◌, ◌<◌, ◌≤◌, ◌^◌, List, [], ◌∷◌, ◌++◌, length, vec_len, vec_capacity, IfOk, IfSome, OnOk, OnErr};
 ghost use Rattle.cfn_model.specs.declared.step.Event.{Event};
-ghost use Rattle.cfn_proof.specs.Nodes.{Before};
+ghost use Rattle.cfn_proof.specs.Nodes.{node_at, Before};
 ghost use Rattle.cfn_dive.specs.Diving.{IsOf};
 ghost use Rattle.cfn_ranking.specs.Ranked.{IsRanked, Waits};
 ghost use Rattle.cfn_kbest.specs.Expanding.{IsExpanded};
-ghost use Rattle.cfn_kbest.specs.Steps.{IsAt, IsChild};
+ghost use Rattle.cfn_kbest.specs.Steps.{AreMarked, EndsBehindPlace, IsAt, IsChild};
 
 use crate::expanding::{Expanded, Stand, expand};
 use cfn_clock::Halt;
@@ -16,7 +16,7 @@ use cfn_model::{Decision, Event};
 use cfn_net::{Network, Scored};
 use cfn_node::since;
 use cfn_proof::laws::same_before;
-use cfn_proof::{NodeId, Tree};
+use cfn_proof::{End, NodeId, Path, Side, Tree};
 use cfn_ranking::Ranking;
 use std::alloc::{AllocError, Global};
 
@@ -44,10 +44,12 @@ pub(crate) fn go_on(
     network: &Network,
     parts: &mut Parts<'_>,
     ranking: &mut Ranking,
+    marks: &[bool],
     child: Option<Child>,
 ) -> Result<Option<Current>, AllocError>
     requires of { IsOf network.now parts.old }
     requires ranked { IsRanked network.now ranking.old }
+    requires marked { AreMarked network.now ranking.old.nodes marks.now }
     requires child { IfSome child (IsChild network.now parts.old ranking.old) }
     ensures at { IfOk result (λ next. IfSome next (IsAt ranking.new parts.new.store)) }
     ensures of { IsOf network.now parts.new }
@@ -59,7 +61,7 @@ pub(crate) fn go_on(
     let Some(leaf) = ranking.next() else {
         return Ok(None);
     };
-    Ok(Some(go_to(alloc, network, parts, ranking, leaf)?))
+    Ok(Some(go_to(alloc, network, parts, ranking, marks, leaf)?))
 }
 
 /// Goes to a leaf that waits, wherever the store stands. An `Err` is want of memory.
@@ -68,10 +70,12 @@ fn go_to(
     network: &Network,
     parts: &mut Parts<'_>,
     ranking: &Ranking,
+    marks: &[bool],
     leaf: NodeId,
 ) -> Result<Current, AllocError>
     requires of { IsOf network.now parts.old }
     requires ranked { IsRanked network.now ranking.now }
+    requires marked { AreMarked network.now ranking.now.nodes marks.now }
     requires waits { Waits ranking.now leaf.number }
     ensures at { IfOk result (IsAt ranking.now parts.new.store) }
     ensures of { IsOf network.now parts.new }
@@ -79,7 +83,63 @@ fn go_to(
     same_before();
     let path = path_to(alloc, ranking.tree(), leaf)?;
     parts.store.replay(&path)?;
-    Ok(Current { leaf, since: None })
+    Ok(Current {
+        leaf,
+        since: since_at(network, ranking, marks, &path, leaf),
+    })
+}
+
+/// The side that leads to a leaf from a place where the network was fully consistent, where that is marked.
+fn since_at(
+    network: &Network,
+    ranking: &Ranking,
+    marks: &[bool],
+    path: &Path,
+    leaf: NodeId,
+) -> Option<Event>
+    requires ranked { IsRanked network.now ranking.now }
+    requires waits { Waits ranking.now leaf.number }
+    requires marked { AreMarked network.now ranking.now.nodes marks.now }
+    requires before { Before ranking.now.nodes leaf.number path.now }
+    ensures { IfSome result (EndsBehindPlace network.now path.now) }
+{
+    if marks[leaf.number as usize] {
+        newest(ranking, path, leaf)
+    } else {
+        None
+    }
+}
+
+/// The side of its parent's split by which the path of a leaf without steps ends.
+fn newest(ranking: &Ranking, path: &Path, leaf: NodeId) -> Option<Event>
+    requires there { leaf.number < length ranking.now.nodes }
+    requires empty { (node_at ranking.now.nodes leaf.number).block ≡ [] }
+    ensures { IfSome result (λ event. (above : List Event) × (path.now ≡ event ∷ above)) }
+{
+    let tree = ranking.tree();
+    tree.linked();
+    let node = tree.node(leaf);
+    let parent = node.parent?;
+    let End::Split {
+        decision,
+        first,
+        ..
+    } = tree.node(parent).end
+    else {
+        return None;
+    };
+    let side = side_of(decision, first == leaf);
+    path.way_up().above(side, &node.block)?;
+    Some(side.event())
+}
+
+/// A side of a split.
+fn side_of(decision: Decision, is_first: bool) -> Side {
+    if is_first {
+        Side::Holds(decision)
+    } else {
+        Side::Fails(decision)
+    }
 }
 
 /// Goes down to the first child of a split behind which the store stands. It takes no memory.
@@ -104,6 +164,7 @@ pub(crate) fn turn<H: Halt>(
     parts: &mut Parts<'_>,
     ranking: &mut Ranking,
     best: &mut Scored,
+    marks: &mut Vec<bool>,
     current: Current,
     halt: &H,
 ) -> Result<Option<Child>, AllocError>
@@ -111,6 +172,7 @@ pub(crate) fn turn<H: Halt>(
     requires ranked { IsRanked network.now ranking.old }
     requires few { ranking.old.spent + 1 < 2 ^ 64 }
     requires best { best.old.network ≡ network.now }
+    requires marked { AreMarked network.now ranking.old.nodes marks.old.items }
     requires at { IsAt ranking.old parts.old.store current }
     ensures of { IsOf network.now parts.new }
     ensures ranked { IsRanked network.now ranking.new }
@@ -118,6 +180,7 @@ pub(crate) fn turn<H: Halt>(
     ensures err { OnErr result (ranking.new ≡ ranking.old) }
     ensures count { ranking.new.count ≡ ranking.old.count }
     ensures best { best.new.network ≡ network.now }
+    ensures marked { OnOk result (AreMarked network.now ranking.new.nodes marks.new.items) }
     ensures turned { IfOk result (λ next. IfSome next (IsChild network.now parts.new ranking.new)) }
 {
     let stand = Stand {
@@ -133,7 +196,16 @@ pub(crate) fn turn<H: Halt>(
         stand,
         halt,
     )?;
-    apply(alloc, network, parts, ranking, best, current.leaf, expanded)
+    apply(
+        alloc,
+        network,
+        parts,
+        ranking,
+        best,
+        marks,
+        current.leaf,
+        expanded,
+    )
 }
 
 /// Says to the ranking what has become of a leaf, and answers the first child where it was split. A cheaper assignment than any
@@ -144,6 +216,7 @@ fn apply(
     parts: &Parts<'_>,
     ranking: &mut Ranking,
     best: &mut Scored,
+    marks: &mut Vec<bool>,
     leaf: NodeId,
     expanded: Expanded,
 ) -> Result<Option<Child>, AllocError>
@@ -151,12 +224,14 @@ fn apply(
     requires waits { Waits ranking.old leaf.number }
     requires few { ranking.old.spent + 1 < 2 ^ 64 }
     requires best { best.old.network ≡ network.now }
+    requires marked { AreMarked network.now ranking.old.nodes marks.old.items }
     requires expanded { (path : List Event) → Before ranking.old.nodes leaf.number path → IsExpanded network.now path ranking.old.threshold parts.now expanded }
     ensures ranked { IsRanked network.now ranking.new }
     ensures spent { OnOk result (ranking.new.spent ≡ ranking.old.spent + 1) }
     ensures err { OnErr result (ranking.new ≡ ranking.old) }
     ensures count { ranking.new.count ≡ ranking.old.count }
     ensures best { best.new.network ≡ network.now }
+    ensures marked { OnOk result (AreMarked network.now ranking.new.nodes marks.new.items) }
     ensures turned { IfOk result (λ next. IfSome next (IsChild network.now parts.now ranking.new)) }
 {
     match expanded {
@@ -177,7 +252,9 @@ fn apply(
             low,
             settled,
         } => {
+            marks.reserve(2)?;
             let first = ranking.divide(network, leaf, block, decision, low)?;
+            push_twice(marks, settled);
             Ok(Some(Child {
                 leaf: first,
                 decision,
@@ -185,4 +262,13 @@ fn apply(
             }))
         }
     }
+}
+
+/// Puts two marks behind all others, where there is room.
+fn push_twice(marks: &mut Vec<bool>, mark: bool)
+    requires { vec_len marks.old + 2 ≤ vec_capacity marks.old }
+    ensures { marks.new.items ≡ marks.old.items ++ mark ∷ mark ∷ [] }
+{
+    marks.push_reserved(mark);
+    marks.push_reserved(mark);
 }

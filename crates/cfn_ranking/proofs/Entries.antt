@@ -24,7 +24,7 @@ use Rattle.cfn_listing.specs.declared.list.Listed.{Listed}
 use Rattle.cfn_listing.specs.Certificates.{solution_of, solutions_of}
 use Rattle.cfn_listing.specs.Trees.{number_at}
 use Rattle.cfn_ranking.specs.Ranked.{Ranked, AreLeaves, AreWithin, IsFound, IsLeafOf, HasLeaf, IsToExpand, Waits, IsKept, IsRanked}
-use Rattle.cfn_ranking.specs.Changes.{Drops, CanStay, Exchanges, IsPlaceOf, Leaves, MakesRoom, MayClose, entered, has_room, drops}
+use Rattle.cfn_ranking.specs.Changes.{Drops, CanStay, Exchanges, KeepsPaths, IsPlaceOf, Leaves, MakesRoom, MayClose, entered, has_room, drops}
 use Rattle.cfn_ranking.proofs.Nodes.{before_leave, free_shut, kept_by_leave}
 use Rattle.cfn_ranking.proofs.Counts.{count_leave, splits_leave}
 use Rattle.cfn_ranking.proofs.Lists.{all_front, all_insert, has_front, has_insert, has_inserted, last_within, leaves_front, leaves_insert, leaves_moved, length_insert, length_solutions, ordered_front, ordered_insert, place_front, solutions_push, within_last}
@@ -300,3 +300,14 @@ enters P r now leaf block p k listed ranked waits leaves place ex linked is =
     let price : k ≡ threshold_of P.upper r.count (insert (solutions_of ex.rest) q s) = is ∙ ap (λ (t : Ranked). threshold_of P.upper t.count t.list) ex.is in
     let done = keeps_priced P (entered mid leaf block q s) k kept (λ few. room.full (λ e. few (length_insert (solutions_of ex.rest) q s ∙ e))) price in
     subst (λ (t : Ranked). IsRanked P (record t { threshold = k })) (sym ex.is) done
+
+-- and what stands before a node stays
+pub keeps_paths : (P : Network) (r now : Ranked) (leaf : NodeId) (block : List Step) (p : ℕ) (listed : Listed) → IsRanked P r → Waits r leaf.number → Exchanges r leaf block p listed now → KeepsPaths r.nodes now.nodes
+keeps_paths P r now leaf block p listed ranked waits ex =
+    let room = is_roomy P r ex.items ex.rest ex.others ex.less ranked ex.list_is ex.linked ex.room in
+    let still = room.waits leaf.number waits in
+    let nodes : now.nodes ≡ leave_at ex.less leaf.number block = ap (λ (t : Ranked). t.nodes) ex.is in
+    record {
+      long = ap length nodes ∙ length-leave_at ex.less leaf.number block still.there ∙ sym room.kept.floors ∙ ranked.kept.floors;
+      before = λ i history before. room.before i history (before_leave ex.less leaf.number block i history still.there still.free (subst (λ n. Before n i history) nodes before));
+    }

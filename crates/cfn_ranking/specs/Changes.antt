@@ -12,7 +12,7 @@ use Rattle.cfn_model.specs.Tree.{CanClose, IsStrictSplit}
 use Rattle.cfn_model.specs.Certificate.{Solution, IsSolution}
 use Rattle.cfn_proof.specs.declared.tree.NodeId.{NodeId}
 use Rattle.cfn_proof.specs.declared.tree.Node.{Node}
-use Rattle.cfn_proof.specs.Nodes.{node_at, IsFree, IsLinked, split_behind_at, close_at, leave_at}
+use Rattle.cfn_proof.specs.Nodes.{node_at, Before, IsFree, IsLinked, split_behind_at, close_at, leave_at}
 use Rattle.cfn_listing.specs.declared.list.Listed.{Listed}
 use Rattle.cfn_listing.specs.Certificates.{solution_of, solutions_of}
 use Rattle.cfn_best.specs.List.{IsBefore}
@@ -99,6 +99,11 @@ pub record Exchanges (r : Ranked) (leaf : NodeId) (block : List Step) (p : ℕ) 
   pub linked : IsLinked less
   pub room : MakesRoom r.count r.nodes items r.leaves less rest others
   pub is : new ≡ entered (record r { nodes = less; list = solutions_of rest; leaves = others }) leaf block (min p (length rest)) (solution_of listed)
+
+-- There are as many nodes as before, and what stands before one stood before it.
+pub record KeepsPaths (old new : List Node) : Type 0 where
+  pub long : length new ≡ length old
+  pub before : (i : ℕ) (history : List Event) → Before new i history → Before old i history
 
 -- The place of an assignment in a list: all before it come before it, and it comes before the next.
 pub record IsPlaceOf (list : List Solution) (s : Solution) (p : ℕ) : Type 0 where

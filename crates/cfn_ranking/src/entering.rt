@@ -6,7 +6,7 @@ ghost use Rattle.cfn_model.specs.declared.step.Event.{Event};
 ghost use Rattle.cfn_proof.specs.Nodes.{Before, IsFree};
 ghost use Rattle.cfn_best.specs.List.{threshold_of};
 ghost use Rattle.cfn_ranking.specs.Ranked.{IsRanked, Waits};
-ghost use Rattle.cfn_ranking.specs.Changes.{CanStay, Drops, Exchanges, Leaves, MakesRoom};
+ghost use Rattle.cfn_ranking.specs.Changes.{CanStay, Drops, Exchanges, KeepsPaths, Leaves, MakesRoom};
 
 use crate::place::place_of;
 use crate::ranking::{Ranking, is_free};
@@ -35,6 +35,7 @@ impl Ranking {
         ensures ranked { IsRanked network.now self.new }
         ensures spent { OnOk result (self.new.spent ≡ self.old.spent + 1) }
         ensures count { self.new.count ≡ self.old.count }
+        ensures paths { OnOk result (KeepsPaths self.old.nodes self.new.nodes) }
         ensures err { OnErr result (self.new ≡ self.old) }
     {
         network.limits();

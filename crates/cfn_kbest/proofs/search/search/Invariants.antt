@@ -2,7 +2,7 @@ use Rattle.std.proofs.Common.{◌≡◌, ◌≤◌}
 use Rattle.std.specs.Prelude.{IfSome}
 use Rattle.cfn_dive.specs.Diving.{IsOf}
 use Rattle.cfn_ranking.specs.Ranked.{IsRanked}
-use Rattle.cfn_kbest.specs.Steps.{IsChild}
+use Rattle.cfn_kbest.specs.Steps.{AreMarked, IsChild}
 use Rattle.cfn_kbest.proofs.search.search.Given as goal
 
 abbrev pub invariant-loop : goal.invariant-loop
@@ -12,4 +12,5 @@ invariant-loop g l =
     × IsRanked l.network l.ranking
     × (l.ranking.count ≡ l.initial.ranking.count)
     × (l.ranking.spent ≤ l.budget)
+    × AreMarked l.network l.ranking.nodes l.marks.items
     × IfSome l.child (IsChild l.network l.parts l.ranking)

@@ -1,6 +1,8 @@
-use Rattle.std.proofs.Common.{sym, ◌∙◌, subst}
+use Rattle.std.proofs.Common.{sym, ap, ◌∙◌, subst}
 use Rattle.cfn_proof.specs.Nodes.{Before}
 use Rattle.cfn_leaves.specs.Ways.{IsPathOf}
+use Rattle.cfn_model.specs.Steps.{after}
+use Rattle.cfn_kbest.proofs.Marks.{stands_behind}
 use Rattle.cfn_kbest.proofs.Turns.{path_is, path_runs, path_tame}
 use Rattle.cfn_kbest.proofs.steps.go_to.Goals as goal
 
@@ -30,5 +32,9 @@ returns-clause-at c =
       waits = c.requires.waits;
       only = λ other is. c.same_before.ensures.once r.nodes i other path c.requires.ranked.kept.linked is before ∙ sym c.in_ok-replay.ensures.ok.0;
       block = c.in_ok-replay.ensures.ok.1;
-      since = tt;
+      since = stands_behind c.args.network.now c.since_at.result path c.replay.new.self (c.in_ok-replay.ensures.network ∙ c.requires.of.network) (ap (λ b. after b c.replay.new.self.base) c.in_ok-replay.ensures.ok.1 ∙ c.in_ok-replay.ensures.ok.0) c.since_at.ensures;
     }
+
+pub since_at-requires-clause-before : goal.since_at-requires-clause-before
+since_at-requires-clause-before c =
+    path_is c.args.network.now c.args.ranking.now c.args.leaf.number c.in_ok-path.path c.requires.ranked c.requires.waits (subst (λ n. IsPathOf n c.args.leaf.number c.in_ok-path.path) c.tree.ensures c.in_ok-path.ensures)

@@ -7,9 +7,9 @@ use Rattle.cfn_proof.specs.Nodes.{Before}
 use Rattle.cfn_best.specs.List.{threshold_of}
 use Rattle.cfn_listing.specs.Certificates.{solutions_of}
 use Rattle.cfn_ranking.specs.Ranked.{Ranked, IsRanked}
-use Rattle.cfn_ranking.specs.Changes.{IsPlaceOf, Leaves}
+use Rattle.cfn_ranking.specs.Changes.{IsPlaceOf, KeepsPaths, Leaves}
 use Rattle.cfn_ranking.proofs.Lists.{as_many}
-use Rattle.cfn_ranking.proofs.Entries.{can_stay, enters}
+use Rattle.cfn_ranking.proofs.Entries.{can_stay, enters, keeps_paths}
 use Rattle.cfn_ranking.proofs.Places.{listable}
 use Rattle.cfn_ranking.proofs.ranking.Ranking.enter.Goals as goal
 
@@ -39,3 +39,9 @@ invariant_of-exchange-clause-values_some c = let l = ap length c.in_ok-values.en
 
 pub invariant_of-exchange-clause-values_fit : goal.invariant_of-exchange-clause-values_fit
 invariant_of-exchange-clause-values_fit c = subst (λ v. AllByRecursion (λ a. a ≤ GREATEST) v) (sym c.in_ok-values.ensures.items) (listable c.args.network.now c.args.self.now c.args.leaf c.args.block (record { cost = c.args.cost; values = c.args.values.now }) c.limits.ensures c.requires.ranked c.requires.waits c.requires.leaves).small
+
+pub returns-clause-paths : goal.returns-clause-paths
+returns-clause-paths c =
+    let r = c.args.self.now in
+    subst (λ (t : Ranked). KeepsPaths r.nodes t.nodes) (sym c.self-2.view_is)
+    (keeps_paths c.args.network.now r c.exchange.new.self c.args.leaf c.args.block c.in-Some.place _ c.requires.ranked c.requires.waits c.in_ok-exchange.ensures.ok)
