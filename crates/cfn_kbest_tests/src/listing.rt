@@ -83,17 +83,26 @@ const ROWS: [Row; 8] = [
     ),
 ];
 
+/// Whether `checkbest` verifies a list of a file, and says this of it.
+fn is_verified<R: AllocGlobal + Threads + Wait + Sync>(
+    rt: &R,
+    file: &[u8],
+    list: &[u8],
+    verdict: &[u8],
+) -> Result<bool, AllocError> {
+    let words = ["wcspsolve", "checkbest", "in", "list"];
+    let run = Run::over(rt, &words, &[("in", file), ("list", list)], &[], "list")?;
+    Ok(run.status == 0 && run.said() == verdict)
+}
+
 /// Whether `kbest` ends so, and `checkbest` verifies what it wrote so.
 fn lists<R: AllocGlobal + Threads + Wait + Sync>(
     rt: &R,
     (file, count, status, said, verdict): Row,
 ) -> Result<bool, AllocError> {
     let run = Run::of(rt, &["wcspsolve", "kbest", "in", count, "out"], file, &[])?;
-    let files = [("in", file), ("list", run.certificate())];
-    let words = ["wcspsolve", "checkbest", "in", "list"];
-    let judged = Run::over(rt, &words, &files, &[], "list")?;
     let is_due = run.status == status && run.said() == said && run.begun == 0;
-    Ok(is_due && judged.status == 0 && judged.said() == verdict)
+    Ok(is_due && is_verified(rt, file, run.certificate(), verdict)?)
 }
 
 #[test]
@@ -109,11 +118,10 @@ fn lists_seven<R: AllocGlobal + Threads + Wait + Sync>(rt: &R) -> Result<bool, A
     let run = Run::of(rt, &["wcspsolve", "kbest", "in", "7", "out"], TRI, &[])?;
     let is_first = run.says(b"cost 3 values 0 0 0");
     let is_last = run.says(b"cost 3 values 1 1 1");
-    Ok(
-        run.status == 0
-            && is_first != is_last
-            && run.says(b"count 7\ncost 1 values 1 1 0\nlower 3\nresult complete"),
-    )
+    let is_due = run.status == 0
+        && is_first != is_last
+        && run.says(b"count 7\ncost 1 values 1 1 0\nlower 3\nresult complete");
+    Ok(is_due && is_verified(rt, TRI, run.certificate(), b"verified lower 3 count 7\n")?)
 }
 
 #[test]
