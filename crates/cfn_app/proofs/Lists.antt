@@ -1,5 +1,5 @@
 -- What a search for a list of the cheapest assignments promises, and how a run that lists them ends.
-use Rattle.std.proofs.Common.{◌≡◌, ℕ, ◌<◌, ◌≤◌, true, false, List, [], ◌∷◌, length, refl, sym, ap, ◌∙◌, subst, arith}
+use Rattle.std.proofs.Common.{◌≡◌, ℕ, ◌≤◌, true, false, List, [], ◌∷◌, length, refl, sym, ap, ◌∙◌, subst, arith}
 use Rattle.std.specs.Prelude.{Result, Ok, Err, is_ok, is_err, is_some}
 use Rattle.cfn_model.specs.declared.step.Event.{Event}
 use Rattle.cfn_model.specs.declared.step.Event.TheVariants.{Took, Refused}
@@ -11,8 +11,7 @@ use Rattle.cfn_best.specs.Lines.{Spells}
 use Rattle.cfn_best.specs.Laws.{IsNotIn, OthersCostMore, Cheapest, Fewer}
 use Rattle.cfn_listing.specs.declared.word.ListWord.{ListWord}
 use Rattle.cfn_listing.specs.declared.word.ListWord.TheVariants as words
-use Rattle.cfn_listing.specs.declared.list.Listed as of_list
-use Rattle.cfn_listing.specs.Certificates.{solutions_of, spelling}
+use Rattle.cfn_listing.specs.Certificates.{spelling}
 use Rattle.cfn_listing.specs.Trees.{open_leaves}
 use Rattle.cfn_ranking.specs.Finished.{IsListOf, threshold}
 use Rattle.cfn_kbest.specs.Searching.{HasListCause}
@@ -21,7 +20,6 @@ use Rattle.cfn_desk.specs.Outside as desk
 use Rattle.cfn_desk.specs.Outside.{Outside, Call, Load, Bytes, HasFile}
 use Rattle.cfn_cli.specs.Request.Listing.{KBestRequest}
 use Rattle.cfn_app.specs.declared.status.Status.{Status}
-use Rattle.cfn_app.specs.declared.status.Status.TheVariants.{Done, Nothing}
 use Rattle.cfn_app.specs.Endings.{Outputs}
 use Rattle.cfn_app.specs.Loading.{ReadsAs, Unread}
 use Rattle.cfn_app.specs.Runs.Listing.{IsComplete, PromisesList, Lists, ListsBest, list_status, status_when_complete}
@@ -68,15 +66,6 @@ module _ (P : Network) (ask : KBestRequest) (spent : ℕ) (c : ListCertificate) 
         let none : length c.list ≡ 0 = ap length empty in
         fewer_law P c values network listed.good (bound_whole done) (omega (arith, none, listed.asked_is, some)) fits (subst (λ list. IsNotIn list values) (sym empty) (no_assignment values)));
   }
-
--- the status of a complete list, by whether it has an assignment
-pub none_listed : (list : List of_list.Listed) → length list ≡ 0 → Nothing ≡ status_when_complete (solutions_of list)
-none_listed [] none = refl
-none_listed (s ∷ list) none = absurd (omega arith)
-
-pub some_listed : (list : List of_list.Listed) → 0 < length list → Done ≡ status_when_complete (solutions_of list)
-some_listed [] some = absurd (omega arith)
-some_listed (s ∷ list) some = refl
 
 -- a search behind a file that was opened
 pub listed_behind : {T E : Type 0} (P : Network) (ask : KBestRequest) (old middle new : Outside) (opened : Result T E) (status : Status) (spent : ℕ) (c : ListCertificate) (word : ListWord) → is_err opened ≡ false → middle ≡ desk.after (desk.Open ask.certificate (is_ok opened)) old →
