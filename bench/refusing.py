@@ -1,11 +1,12 @@
 #!/usr/bin/env python3
 """What the program answers where memory is refused: each of its allocations in turn, on one run of each command, on `check`,
-`rebase` and `merge` of certificates with 100,000 nested splits, and on `solve` by several workers.
+`rebase`, `merge` and `checkbest` of certificates with 100,000 nested splits, on `solve` by several workers, and on `kbest`.
 
 A library that cc compiles from refusing.c stands between the program and the C library, and refuses one allocation.
 It prints the statuses by ranges of allocations, and whether a run says what the whole run says; for several workers, whose allocations come in another order each time, how often each status came, and whether each certificate that a
-report stands for was judged good. Twice as many allocations are refused there as the whole run asked for. It ends with 1 where a
-status is neither that of the whole run nor 6.
+report stands for was judged good. Twice as many allocations are refused there as the whole run asked for. Of `kbest` it prints
+the same of each allocation that the whole run asked for. It ends with 1 where a status is neither that of the whole run nor 6,
+or a certificate is not good.
 """
 
 import argparse
@@ -18,6 +19,7 @@ import tempfile
 BENCH = os.path.dirname(os.path.abspath(__file__))
 TOP = os.path.dirname(BENCH)
 NETWORK = os.path.join(TOP, "examples", "tiny.wcsp")
+TRI = os.path.join(TOP, "examples", "tri.wcsp")
 SPLITS = 100_000
 
 
@@ -31,6 +33,13 @@ def write_deep(path):
     """A good certificate of the network in which each split stands in the first child of the one before."""
     with open(path, "w", encoding="ascii") as file:
         file.write("wcspcert 2\nnetwork 1 1 10\nlower 0\nbest none\ntree\n")
+        file.write("split 0 1\n" * SPLITS + "open\n" * (SPLITS + 1) + "end\n")
+
+
+def write_deep_list(path):
+    """A good list of no assignment, with the same tree."""
+    with open(path, "w", encoding="ascii") as file:
+        file.write("wcspbest 1\nnetwork 1 1 10\ncount 1\nlower 0\nbest 0\ntree\n")
         file.write("split 0 1\n" * SPLITS + "open\n" * (SPLITS + 1) + "end\n")
 
 
@@ -71,21 +80,23 @@ class Runs:
             each.append((other, "as the whole run" if text == said else text.decode().split("\n")[-2:-1]))
         return status, allocations, each
 
-    def together(self, network, certificate, workers):
-        """How often each status and last line came where one allocation was refused, and whether the certificate was good."""
-        words = ["solve", network, certificate, "--workers", str(workers)]
-        self.run(words, 0)
-        tally = collections.Counter()
-        for refused in range(1, 2 * asked(self.count) + 1):
+    def judged(self, name, words, judge, rounds):
+        """Prints how often each status and last line came where one of `rounds` times as many allocations as the whole run asked
+        for was refused, and whether the certificate was judged good. Answers whether all is right."""
+        whole, _ = self.run(words, 0)
+        certificate, tally = judge[-1], collections.Counter()
+        for refused in range(1, rounds * asked(self.count) + 1):
             if os.path.exists(certificate):
                 os.remove(certificate)
             status, said = self.run(words, refused)
             last = said.decode().split("\n")[-2] if said else "nothing"
             if last.startswith("result"):
-                judged = subprocess.run([self.program, "check", network, certificate], stdout=subprocess.PIPE, check=False)
-                last += ", " + judged.stdout.decode().split(" ")[0]
+                verdict = subprocess.run([self.program, *judge], stdout=subprocess.PIPE, check=False)
+                last += ", " + verdict.stdout.decode().split(" ")[0]
             tally[status, last] += 1
-        return tally
+        for (status, last), times in sorted(tally.items()):
+            print(f"{name}: status {status}, last line {last}: {times} times")
+        return all(status in (whole, 6) and (not last.startswith("result") or last.endswith(", verified")) for status, last in tally)
 
 
 def tell(name, status, allocations, each):
@@ -105,6 +116,9 @@ def measured(program):
         certificate, deep, written = runs.file("certificate"), runs.file("deep"), runs.file("written")
         subprocess.run([program, "solve", NETWORK, certificate], stdout=subprocess.DEVNULL, check=False)
         write_deep(deep)
+        listed, deep_list = runs.file("listed"), runs.file("deep_list")
+        subprocess.run([program, "kbest", NETWORK, "2", listed], stdout=subprocess.DEVNULL, check=False)
+        write_deep_list(deep_list)
         wide, wide_deep = runs.file("wide"), runs.file("wide_deep")
         write_wide(wide, wide_deep)
         commands = {
@@ -120,13 +134,15 @@ def measured(program):
             "rebase of nested splits that are kept": ["rebase", wide, wide_deep, written, "--budget", "0"],
             "merge": ["merge", NETWORK, written, certificate, certificate],
             "merge of nested splits": ["merge", NETWORK, written, deep, deep],
+            "kbest": ["kbest", NETWORK, "2", written],
+            "checkbest": ["checkbest", NETWORK, listed],
+            "checkbest of nested splits": ["checkbest", NETWORK, deep_list],
         }
         right = [tell(name, *runs.answers(words)) for name, words in commands.items()]
-        for workers in (2, 4):
-            tally = runs.together(os.path.join(TOP, "examples", "tri.wcsp"), written, workers)
-            for (status, last), times in sorted(tally.items()):
-                print(f"solve by {workers} workers: status {status}, last line {last}: {times} times")
-            right.append(all(status in (0, 6) for status, _ in tally))
+        for workers in ("2", "4"):
+            words = ["solve", TRI, written, "--workers", workers]
+            right.append(runs.judged(f"solve by {workers} workers", words, ["check", TRI, written], 2))
+        right.append(runs.judged("kbest of 7", ["kbest", TRI, "7", written], ["checkbest", TRI, written], 1))
     return all(right)
 
 
