@@ -54,9 +54,9 @@ pub fn kbest<H: Halt>(
 {
     let tables = Tables::expand(alloc, network)?;
     let low = root_floor(alloc, network, &tables)?;
-    let mut parts = Parts::make(alloc, network, &tables, Rule::Degrees)?;
-    let mut best = Scored::empty(alloc, network)?;
     let mut ranking = Ranking::make(alloc, network, limits.count, low)?;
+    let mut best = Scored::empty(alloc, network)?;
+    let mut parts = Parts::make(alloc, network, &tables, Rule::Degrees)?;
     let past = search(
         alloc,
         network,
@@ -66,6 +66,7 @@ pub fn kbest<H: Halt>(
         limits.budget,
         halt,
     );
+    drop(parts);
     Ok(ended(network, ranking, limits.budget, past))
 }
 
