@@ -2,8 +2,8 @@
 """Builds the program from a copy of the crates that it stands on, each of which is proved first.
 
 `rt ci` proves them, those first that the longest chain of others waits for, and as many side by side as there are processors (`rt
-lib` would lock all crates below the one that it proves, so that hardly two ever went side by side). It keeps what
-it proved on this machine, so a build that was broken off goes on. The copy has no tests and no must-fail edits, which the gate alone tries.
+lib` would lock all crates below the one that it proves, so that hardly two ever went side by side). It keeps what it proved on this
+machine, so a build that was broken off goes on. The copy has no tests and no must-fail edits, which the gate alone tries.
 
 `costs.txt` has what each crate took, in units of the check of `cfn_model`; from these, and from what the crates before took on
 this machine, the minutes left are reckoned.
