@@ -51,7 +51,7 @@ child_only P r i block d base ranked waits only path before =
     way.is ∙ ap (λ h. Took d ∷ after block h) (only way.above way.before)
 
 pub turned_child : (P : Network) (p : Parts) (r : Ranked) (i : ℕ) (block : List Step) (d : Decision) (low : ℕ) (settled : Bool) (first : NodeId) (now : Ranked) → IsRanked P r → Waits r i → first.number ≡ length r.nodes → now ≡ divided r i block d low
-    → ((path : List Event) → Before r.nodes i path → IsExpanded P path r.threshold p (Divided block d low settled)) → IsChild P p now (record { leaf = first; decision = d; settled = settled })
+    → ((path : List Event) → Before r.nodes i path → IsExpanded P path r.threshold p (Divided block d low settled)) → IsChild P p now (record { leaf = first; decision = d; floor = low; settled = settled })
 turned_child P p r i block d low settled first now ranked waits first_is now_is expanded =
     let way = before_some r.nodes i ranked.kept.linked waits.there in
     let is = expanded way.0 way.1 in

@@ -10,6 +10,7 @@ ghost use Rattle.cfn_ranking.specs.Ranked.{IsRanked};
 ghost use Rattle.cfn_kbest.specs.Steps.{AreMarked};
 ghost use Rattle.cfn_kbest.specs.Searching.{IsBestOf, word_of as the_word};
 
+use crate::dive::Dive;
 use crate::steps::{go_on, turn};
 use cfn_branch::Rule;
 use cfn_clock::{Halt, Past};
@@ -105,6 +106,7 @@ fn search<H: Halt>(
     let Ok(mut marks) = no_marks(alloc, ranking) else {
         return None;
     };
+    let mut dive = Dive::new(alloc);
     let mut child = None;
     for _ in 0..budget {
         if ranking.spent() >= budget {
@@ -113,7 +115,8 @@ fn search<H: Halt>(
         if let Some(past) = halt.past() {
             return Some(past);
         }
-        let Ok(Some(current)) = go_on(alloc, network, parts, ranking, &marks, child) else {
+        let Ok(Some(current)) = go_on(alloc, network, parts, ranking, &marks, &mut dive, child)
+        else {
             return None;
         };
         match turn(

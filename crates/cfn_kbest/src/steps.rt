@@ -8,6 +8,7 @@ ghost use Rattle.cfn_ranking.specs.Ranked.{IsRanked, Waits};
 ghost use Rattle.cfn_kbest.specs.Expanding.{IsExpanded};
 ghost use Rattle.cfn_kbest.specs.Steps.{AreMarked, EndsBehindPlace, IsAt, IsChild};
 
+use crate::dive::Dive;
 use crate::expanding::{Expanded, Stand, expand};
 use cfn_clock::Halt;
 use cfn_dive::Parts;
@@ -33,18 +34,21 @@ pub(crate) struct Current {
 pub(crate) struct Child {
     pub leaf: NodeId,
     pub decision: Decision,
-    /// Whether the store was fully consistent at the split.
+    /// The floor at the split.
+    pub floor: u128,
+    /// Whether the store was fully consistent there.
     pub settled: bool,
 }
 
-/// Goes to the leaf that is expanded next: a child of the newest split, or else one of least floor. `None` where no leaf waits
-/// that has a floor below the threshold. An `Err` is want of memory.
+/// Goes to the leaf that is expanded next: a child of the newest split, or else a second child of the dive, or else one of
+/// least floor. `None` where no leaf waits that has a floor below the threshold. An `Err` is want of memory.
 pub(crate) fn go_on(
     alloc: Global,
     network: &Network,
     parts: &mut Parts<'_>,
     ranking: &mut Ranking,
     marks: &[bool],
+    dive: &mut Dive,
     child: Option<Child>,
 ) -> Result<Option<Current>, AllocError>
     requires of { IsOf network.now parts.old }
@@ -56,12 +60,26 @@ pub(crate) fn go_on(
     ensures same { ranking.new ≡ ranking.old }
 {
     if let Some(child) = child {
+        dive.split(child.leaf, child.floor);
         return Ok(Some(go_down(network, parts, ranking, child)));
     }
-    let Some(leaf) = ranking.next() else {
+    let Some(leaf) = next_leaf(ranking, dive) else {
         return Ok(None);
     };
     Ok(Some(go_to(alloc, network, parts, ranking, marks, leaf)?))
+}
+
+/// A second child of the dive, or else a leaf of least floor, at which the next dive begins.
+fn next_leaf(ranking: &mut Ranking, dive: &mut Dive) -> Option<NodeId>
+    requires { length ranking.old.numbers ≡ length ranking.old.nodes }
+    ensures waits { IfSome result (λ leaf. Waits ranking.old leaf.number) }
+    ensures same { ranking.new ≡ ranking.old }
+{
+    if let Some(leaf) = dive.back(ranking) {
+        return Some(leaf);
+    }
+    dive.begin();
+    ranking.next()
 }
 
 /// Goes to a leaf that waits, wherever the store stands. An `Err` is want of memory.
@@ -258,6 +276,7 @@ fn apply(
             Ok(Some(Child {
                 leaf: first,
                 decision,
+                floor: low,
                 settled,
             }))
         }
