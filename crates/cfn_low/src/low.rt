@@ -149,11 +149,14 @@ impl<M: Incumbent> Low<M> {
         }
     }
 
-    /// Takes a note in, and reads the word. What is seen then is at most what the note had seen, and no more than before.
+    /// Takes a note in, and reads the word. What is seen then is at most what the note had seen, no more than before, and no more
+    /// than the price of what is kept. A part that has all shares sees that price.
     pub fn heed(&self, holder: &mut Holder<M>, note: Note<M>) -> u64
         ensures seen { holder.new ≡ record holder.old { seen = result } }
         ensures falls { result ≤ holder.old.seen }
         ensures below { result ≤ note }
+        ensures price { result ≤ price_of M.network holder.old }
+        ensures whole { holder.old.shares ≡ 128 → result ≡ price_of M.network holder.old }
     {
         let Note {
             seat,

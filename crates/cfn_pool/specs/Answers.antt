@@ -20,19 +20,22 @@ Takes P old worker want Spent new = (new ≡ old) × HasNone (pool old) AllSpent
 Takes P old worker want Again new = (new ≡ old) × HasNone (pool old) AllOut
 Takes P old worker want NoMemory new = new ≡ old
 
--- The piece takes the place of its leaf, and the pool sees the word, which is no more than it and the note had seen.
-pub record IsGiven (old : Pool) (piece : PieceValue) (note : ℕ) (new : Pool) : Type 0 where
+-- The piece takes the place of its leaf, and the pool sees the word, which is no more than it and the note had seen, and at most
+-- the price of what it keeps, which it is where all shares are there.
+pub record IsGiven (P : Network) (old : Pool) (piece : PieceValue) (note : ℕ) (new : Pool) : Type 0 where
   pub word : ℕ
   pub falls : word ≤ old.view.seen
   pub noted : word ≤ note
+  pub below : word ≤ price P old.view.best
+  pub whole : old.view.shares ≡ all_shares → word ≡ price P old.view.best
   pub gives : PoolGives old word (piece_of piece) new
 
 -- It does; or the leaf is not out as the task says; or there is no memory. In the last two cases piece and note are given
 -- back, and nothing changes.
-abbrev pub Gives : {M : Type 0} → Held → PieceValue → ℕ → Handed M → Held → Type 0
-Gives old piece note Done new = IsGiven (pool old) piece note (pool new)
-Gives old piece note (Gone given told) new = (given ≡ piece) × (told ≡ note) × (new ≡ old) × (IsOut (pool old) piece.task → ⊥)
-Gives old piece note (Memory given told) new = (given ≡ piece) × (told ≡ note) × (new ≡ old)
+abbrev pub Gives : {M : Type 0} → Network → Held → PieceValue → ℕ → Handed M → Held → Type 0
+Gives P old piece note Done new = IsGiven P (pool old) piece note (pool new)
+Gives P old piece note (Gone given told) new = (given ≡ piece) × (told ≡ note) × (new ≡ old) × (IsOut (pool old) piece.task → ⊥)
+Gives P old piece note (Memory given told) new = (given ≡ piece) × (told ≡ note) × (new ≡ old)
 
 -- The pool sees the word, which is no more than it had seen, and at most the price of what it keeps, which it is where all
 -- shares are there; and free leaves are closed.

@@ -46,10 +46,11 @@ impl<M: Incumbent> Pool<M> {
     pub fn give(&mut self, low: &Low<M>, piece: Piece, note: Note<M>) -> Handed<M>
         requires own { piece.network ≡ M.network }
         requires seen { note ≤ piece.threshold }
-        ensures gives { Gives self.old piece note result self.new }
+        ensures gives { Gives M.network self.old piece note result self.new }
     {
         piece.kept();
         self.holder.kept();
+        self.holder.best().priced();
         match self.leaves.give(piece) {
             leaves::Handed::Done => {
                 low.heed(&mut self.holder, note);

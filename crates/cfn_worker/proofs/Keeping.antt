@@ -48,7 +48,7 @@ goes_returned P start old new task own some back search =
     goes_by P start old new 0 (Returns task) own tt some back search
     (ap (λ (p : Pool). p.begun) left) (ap (λ (p : Pool). p.rows) left) (ap (λ (p : Pool). p.budget) left) (ap (λ (p : Pool). p.view.shares) left) (let e = ap (λ (p : Pool). p.view.seen) left in omega (arith, e))
 
-pub goes_given : (P : Network) (start : Start) (old new : Pool) (piece : PieceValue) (note : ℕ) → AreNumbered old → IsPiece P (piece_of piece) → note ≤ piece.threshold → IsGiven old piece note new → IsSearch start old → GoesOn start old new
+pub goes_given : (P : Network) (start : Start) (old new : Pool) (piece : PieceValue) (note : ℕ) → AreNumbered old → IsPiece P (piece_of piece) → note ≤ piece.threshold → IsGiven P old piece note new → IsSearch start old → GoesOn start old new
 goes_given P start old new piece note own is seen given search =
     let left = given.gives.left in
     let falls = given.falls in

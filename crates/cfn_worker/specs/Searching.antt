@@ -58,7 +58,7 @@ pub record SweepsBelow (P : Network) (before : ℕ) (old new : Pool) : Type 0 wh
 -- a row of bounds is noted where one is due, and the pool is swept where its threshold has fallen.
 pub record HandsIn (P : Network) (old : Pool) (piece : PieceValue) (note : ℕ) (new : Pool) : Type 0 where
   pub given : Pool
-  pub gives : IsGiven old piece note given
+  pub gives : IsGiven P old piece note given
   pub noted : Pool
   pub notes : NotesOrWaits P given noted
   pub sweeps : SweepsBelow P old.view.seen noted new

@@ -136,7 +136,7 @@ impl Made {
         requires least { account.old.least ≤ self.threshold }
         requires search { IsSearch M.start (pool held.old) }
         ensures goes { GoesOn M.start (pool held.old) (pool held.new) }
-        ensures gives { OnOk result (IsGiven (pool held.old) self account.old.part.seen (pool held.new)) }
+        ensures gives { OnOk result (IsGiven M.network (pool held.old) self account.old.part.seen (pool held.new)) }
         ensures more { OnOk result ((pool held.old).nodes < (pool held.new).nodes) }
         ensures seen { OnOk result ((pool held.new).view.seen ≤ self.threshold) }
         ensures unplaced { IfErr result (λ why. IsUnplaced held.old self.task why held.new) }

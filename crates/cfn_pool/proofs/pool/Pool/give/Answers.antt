@@ -7,7 +7,8 @@ use Rattle.cfn_leaves.specs.Value.{Holding as Leaves, pool_of}
 use Rattle.cfn_low.specs.Holding.{Holding as Part}
 use Rattle.cfn_low.specs.Steps.{IsReached}
 use Rattle.cfn_pool.specs.Views.{Held, pool, view_of, IsHeld}
-use Rattle.cfn_pool.proofs.Kept.{held, kept_by_step, cheaper_is, fits_is}
+use Rattle.cfn_pool.proofs.Kept.{held, kept_by_step, price_is}
+use Rattle.cfn_net.specs.Scoring.{Scoring, IsPriced}
 use Rattle.cfn_task.specs.Values.{PieceValue, piece_of}
 use Rattle.cfn_machine.specs.Pool.{IsPiece}
 use Rattle.cfn_leaves.specs.Given.{Gives as LeavesGive}
@@ -33,11 +34,14 @@ pub returns-in-Done : goal.returns-in-Done
 returns-in-Done g c =
     let part = c.self.inside.holder in
     let now = c.heed.new.holder in
+    let price = price_is g.M.Incumbent.network part.held (subst (λ (s : Scoring). IsPriced s.network s.held) c.best.ensures c.priced.ensures) in
     record {
-      gives = subst (λ (old : Held). IsGiven (pool old) c.args.piece c.args.note (pool (held c.give.new.self now))) c.self.view_is (record {
+      gives = subst (λ (old : Held). IsGiven g.M.Incumbent.network (pool old) c.args.piece c.args.note (pool (held c.give.new.self now))) c.self.view_is (record {
         word = c.heed.result;
         falls = c.heed.ensures.falls;
         noted = c.heed.ensures.below;
+        below = let b = c.heed.ensures.price in omega (arith, b, price);
+        whole = λ all. c.heed.ensures.whole all ∙ sym price;
         gives = given c.self.inside.leaves c.give.new.self part now c.args.piece c.heed.result c.heed.ensures.seen c.in-Done.ensures.gives;
       });
     }
