@@ -1,22 +1,24 @@
 -- Costly values are cut one after another.
-use Rattle.std.proofs.Common.{◌≡◌, ℕ, ◌+◌, ◌<◌, ◌≤◌, inl, inr, List, length, refl, sym, ap, ◌∙◌, subst, arith}
+use Rattle.std.proofs.Common.{◌≡◌, ℕ, ◌+◌, ◌-◌, ◌<◌, ◌≤◌, min, inl, inr, List, [], ◌∷◌, ◌++◌, map, length, append_assoc, refl, sym, ap, ◌∙◌, subst, arith}
+use Rattle.std.proofs.lemmas.List.{map-append}
 use Rattle.std.proofs.lemmas.Bool.{cases_eq}
 use Rattle.std.proofs.lemmas.Int.{ints}
-use Rattle.std.specs.Prelude.{Result, Ok, Err, IsFalse, ℤ, pos, ◌+ℤ◌, ◌<ℤ◌, Bool, true, false, IsTrue}
+use Rattle.std.specs.Prelude.{Result, Ok, Err, IsErrAnd, IsFalse, ℤ, pos, ◌+ℤ◌, ◌<ℤ◌, Bool, true, false, IsTrue}
 use Rattle.cfn_model.specs.declared.step.Event.{Event}
-use Rattle.cfn_model.specs.declared.step.Step.TheVariants.{CutValue}
+use Rattle.cfn_model.specs.declared.step.Step.TheVariants.{Lift, CutValue}
 use Rattle.cfn_model.specs.Network.{Network}
 use Rattle.cfn_model.specs.Sums.{floor, unary, is_live}
 use Rattle.cfn_model.specs.Steps.{IsValue, CanCutValue}
 use Rattle.cfn_store.specs.Standing.{Standing, history, with_step}
 use Rattle.cfn_gain.specs.declared.limits.Limits.{Limits}
 use Rattle.cfn_gain.specs.declared.limits.Halt.{Halt}
-use Rattle.cfn_gain.specs.declared.limits.Halt.TheVariants.{Dead}
+use Rattle.cfn_gain.specs.declared.limits.Halt.TheVariants.{Dead, Spent}
 use Rattle.cfn_gain.specs.Calls.{GoesOn, Adds, Does, Shows, Grows, Passing}
 use Rattle.cfn_live.specs.Sets.{AreLive}
 use Rattle.cfn_store.specs.Rooms.{sets_of}
 use Rattle.cfn_nc.specs.Passes.{IsLeast}
-use Rattle.cfn_gain.specs.Levels.{AreBelow, IsLevel, AreAllCostly}
+use Rattle.cfn_nc.proofs.CallerLemmas.{append_none, history_step}
+use Rattle.cfn_gain.specs.Levels.{AreBelow, IsLevel, AreAllCostly, AddsCuts, AddsLift, LiftsFirst}
 use Rattle.cfn_gain.proofs.Adding.{passing_grown, passing_start, unchanged, adds_none, no_shorter, on_ok}
 use Rattle.cfn_gain.proofs.Moving.{same_floor, grows_step}
 
@@ -89,3 +91,50 @@ level_grown s mid next limits x result Fact Other grows adds = on_ok result (λ 
 -- where each live value costs something, so does the one of least cost
 pub level_costs : (s : Standing) (x least : ℕ) → IsLeast s.network (history s) x least → AreAllCostly s.network (history s) x → least ≡ 0 → ⊥
 level_costs s x least is costly none = let one = costly.each is.value is.is is.live in let cost = is.cost in absurd (omega (arith, ints, one, cost, none))
+
+-- cuts of one variable
+pub cuts_none : (s : Standing) (x : ℕ) → AddsCuts s s x
+cuts_none s x = record { values = []; block = append_none s.block }
+
+pub cuts_more : (before now next : Standing) (x a : ℕ) → AddsCuts before now x → next ≡ with_step now (CutValue x a) → AddsCuts before next x
+cuts_more before now next x a cuts made = record {
+  values = cuts.values ++ a ∷ [];
+  block = ap (λ t. t.block) made ∙ ap (λ b. b ++ CutValue x a ∷ []) cuts.block ∙ append_assoc before.block (map (CutValue x) cuts.values) (CutValue x a ∷ [])
+      ∙ ap (λ b. before.block ++ b) (sym (map-append (CutValue x) cuts.values (a ∷ [])));
+}
+
+-- a lift behind which values are cut
+lift_first : (before mid now : Standing) (x amount : ℕ) → mid ≡ with_step before (Lift x amount) → AddsCuts mid now x → AddsLift before now x amount
+lift_first before mid now x amount made cuts = record {
+  values = cuts.values;
+  block = cuts.block ∙ ap (λ t. t.block ++ map (CutValue x) cuts.values) made ∙ append_assoc before.block (Lift x amount ∷ []) (map (CutValue x) cuts.values);
+}
+
+same_least : (s : Standing) (x one other : ℕ) → IsLeast s.network (history s) x one → IsLeast s.network (history s) x other → one ≡ other
+same_least s x one other a b = let to = a.most b.value b.is b.live in let back = b.most a.value a.is a.live in let is = a.cost in let was = b.cost in omega (arith, ints, to, back, is, was)
+
+pub lifts_first : (before mid now : Standing) (limits : Limits) (x least found : ℕ) (result : Result (Unit {0}) Halt) → IsLeast before.network (history before) x found → IsLeast before.network (history before) x least → mid ≡ with_step before (Lift x found)
+    → floor mid.network (history mid) < limits.threshold → AddsCuts mid now x → LiftsFirst before now limits x least result
+lifts_first before mid now limits x least found result is its made below cuts =
+    let e = same_least before x found least is its in
+    let rise = ap (λ t. floor t.network (history t)) made ∙ ap (floor before.network) (history_step before (Lift x found)) in
+    inl (lift_first before mid now x (min least (limits.threshold - floor before.network (history before)))
+    (subst (λ m. mid ≡ with_step before (Lift x m)) (omega (arith, e, rise, below)) made) cuts)
+
+-- a lift of what the floor lacks, or none
+pub lifts_halts : (before now : Standing) (limits : Limits) (x least found : ℕ) (halt : Halt) (halted result : Result (Unit {0}) Halt) → halted ≡ Err halt → IsLeast before.network (history before) x found → IsLeast before.network (history before) x least
+    → (halted ≡ Err Dead → now ≡ with_step before (Lift x (limits.threshold - floor before.network (history before)))) → (halted ≡ Err Dead → limits.threshold ≤ floor before.network (history before) + found)
+    → (halted ≡ Err Spent → now ≡ before) → IsErrAnd result (λ h. h ≡ halt) → LiftsFirst before now limits x least result
+lifts_halts before now limits x least found Dead halted result e is its dead short spent ends =
+    let same = same_least before x found least is its in let most = short e in
+    inl (lift_first before now now x (min least (limits.threshold - floor before.network (history before)))
+    (subst (λ m. now ≡ with_step before (Lift x m)) (omega (arith, same, most)) (dead e)) (cuts_none now x))
+lifts_halts before now limits x least found Spent halted (Ok done) e is its dead short spent ends = absurd ends
+lifts_halts before now limits x least found Spent halted (Err h) e is its dead short spent ends = inr (ap Err ends, spent e)
+
+-- a variable with no live value, or whose live values have nothing in common, has nothing to lift
+pub lifts_none : {A : Type 0} (s : Standing) (x least found : ℕ) → IsLeast s.network (history s) x found → IsLeast s.network (history s) x least → 0 < least → found ≡ 0 → A
+lifts_none s x least found is its some none = let e = same_least s x found least is its in absurd (omega (arith, e, some, none))
+
+pub none_least : {A : Type 0} (s : Standing) (x least : ℕ) (values : List ℕ) → AreLive (sets_of s) x values → length values ≡ 0 → IsLeast s.network (history s) x least → A
+none_least s x least values are none is = let found = are.all is.value (record { variable = is.is.variable; value = is.is.value }) is.live in let within = found.1 in absurd (omega (arith, none, within))

@@ -1,7 +1,7 @@
 //! One step, where the block has room for it.
 
-ghost use Rattle.std.specs.Prelude.{◌≡◌, ◌+◌, ◌<◌, ◌≤◌, length, Err, OnOk, OnErr, IsTrue};
-ghost use Rattle.cfn_model.specs.declared.step.Step.TheVariants.{Project, Extend, CutValue, CutTuple};
+ghost use Rattle.std.specs.Prelude.{◌≡◌, ◌+◌, ◌-◌, ◌<◌, ◌≤◌, length, Err, OnOk, OnErr, IsTrue};
+ghost use Rattle.cfn_model.specs.declared.step.Step.TheVariants.{Project, Extend, Lift, CutValue, CutTuple};
 ghost use Rattle.cfn_model.specs.Sums.{floor, is_live};
 ghost use Rattle.cfn_model.specs.Steps.{IsValue, IsCell, CanCutValue, CanCutTuple};
 ghost use Rattle.cfn_nc.specs.Passes.{IsLeast};
@@ -83,6 +83,10 @@ pub fn lift(store: &mut Store<'_>, limits: Limits, x: u32, least: u64) -> Result
     requires some { 0 < least }
     requires least { IsLeast store.old.network (history store.old) x least }
     ensures does { Does store.old store.new limits result }
+    ensures made { OnOk result (store.new ≡ with_step store.old (Lift x least)) }
+    ensures dead { result ≡ Err Halt.Dead → store.new ≡ with_step store.old (Lift x (limits.threshold - floor store.old.network (history store.old))) }
+    ensures short { result ≡ Err Halt.Dead → limits.threshold ≤ floor store.old.network (history store.old) + least }
+    ensures spent { result ≡ Err Halt.Spent → store.new ≡ store.old }
     ensures gains { GainsBehind store.old store.new limits result }
     ensures grows { OnOk result (Grows store.old store.new) }
 {
@@ -97,13 +101,15 @@ pub fn lift(store: &mut Store<'_>, limits: Limits, x: u32, least: u64) -> Result
     }
 }
 
-/// Cuts a value whose unary cost reaches what the floor lacks.
+/// Cuts a value whose unary cost reaches what the floor lacks. An `Err` leaves the store as it was.
 pub fn cut_value(store: &mut Store<'_>, limits: Limits, x: u32, value: u32) -> Result<(), Halt>
     requires goes { GoesOn store.old limits }
     requires value { IsValue store.old.network x value }
     requires reaches { CanCutValue store.old.network (history store.old) limits.threshold x value }
     ensures does { Does store.old store.new limits result }
     ensures made { OnOk result (store.new ≡ with_step store.old (CutValue x value)) }
+    ensures stopped { OnErr result (store.new ≡ store.old) }
+    ensures spent { result ≡ Err Halt.Dead → ⊥ }
     ensures gains { IsTrue (is_live (history store.old) x value) → GainsBehind store.old store.new limits result }
 {
     room(store, limits)?;

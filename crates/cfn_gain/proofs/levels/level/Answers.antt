@@ -1,10 +1,10 @@
-use Rattle.std.proofs.Common.{subst, arith}
+use Rattle.std.proofs.Common.{refl, subst, arith}
 use Rattle.cfn_store.specs.Standing.{history}
 use Rattle.cfn_nc.specs.Passes.{IsLeast}
 use Rattle.cfn_gain.specs.Calls.{Does, Shows}
-use Rattle.cfn_gain.specs.Levels.{AreBelow}
+use Rattle.cfn_gain.specs.Levels.{AreBelow, AddsCuts}
 use Rattle.cfn_gain.proofs.Adding.{does_then}
-use Rattle.cfn_gain.proofs.Leveling.{emptied, level_of, level_grown, level_costs}
+use Rattle.cfn_gain.proofs.Leveling.{emptied, level_of, level_grown, level_costs, cuts_none, lifts_first, lifts_halts, lifts_none, none_least}
 use Rattle.cfn_consistency.specs.Groups.{IsBegun}
 use Rattle.cfn_gain.specs.Gains.{Gains}
 use Rattle.cfn_gain.proofs.Gaining.{gained_none, opened, gains_halt, gains_then}
@@ -75,4 +75,37 @@ returns-clause-closes c = λ costly start begins.
           gains_then start w.lift.new.store last limits c.cut_costly.result (w.in_ok-lift.ensures.gains start begins)
           (subst (λ t. Gains t last limits c.cut_costly.result) w.store-is c.cut_costly.ensures.gains)
       | else-least-gt0 w ↦ absurd (level_costs s c.args.x c.least-least.result c.least-least.ensures costly (let none = w.if-least-gt0.false in omega (arith, none)))
+    ])
+
+pub returns-then-is_empty-clause-lifts : goal.returns-then-is_empty-clause-lifts
+returns-then-is_empty-clause-lifts c = λ least is some.
+    none_least c.args.store.now c.args.x least c.live.result.now c.live.ensures (let t = c.if-is_empty.true in let e = c.is_empty.ensures in grind (arith, t, e)) is
+
+pub returns-then-is_empty-clause-cuts : goal.returns-then-is_empty-clause-cuts
+returns-then-is_empty-clause-cuts c = λ is. cuts_none c.args.store.now c.args.x
+
+pub returns-in_err-lift-clause-lifts : goal.returns-in_err-lift-clause-lifts
+returns-in_err-lift-clause-lifts c = λ least is some.
+    lifts_halts c.args.store.now c.lift.new.store c.args.limits c.args.x least c.least-least.result c.in_err-lift.field-0.0 _ c.from_residual.result refl c.least-least.ensures is
+    c.in_err-lift.ensures.dead c.in_err-lift.ensures.short c.in_err-lift.ensures.spent c.from_residual.ensures.1
+
+pub returns-in_err-lift-clause-cuts : goal.returns-in_err-lift-clause-cuts
+returns-in_err-lift-clause-cuts c = λ is. lifts_none c.args.store.now c.args.x c.least-least.result 0 is c.least-least.ensures c.if-least-gt0.true refl
+
+pub returns-clause-lifts : goal.returns-clause-lifts
+returns-clause-lifts c = λ least is some.
+    (let s = c.args.store.now in let last = c.cut_costly.new.store in
+    elim c.if-least-gt0.branch [
+      | then-least-gt0+in_ok-lift w ↦
+          lifts_first s w.lift.new.store last c.args.limits c.args.x least c.least-least.result c.cut_costly.result c.least-least.ensures is w.in_ok-lift.ensures.made w.in_ok-lift.ensures.does.ends
+          (subst (λ t. AddsCuts t last c.args.x) w.store-is c.cut_costly.ensures.cuts)
+      | else-least-gt0 w ↦ lifts_none s c.args.x least c.least-least.result c.least-least.ensures is some (let none = w.if-least-gt0.false in omega (arith, none))
+    ])
+
+pub returns-clause-cuts : goal.returns-clause-cuts
+returns-clause-cuts c = λ is.
+    (let s = c.args.store.now in
+    elim c.if-least-gt0.branch [
+      | then-least-gt0+in_ok-lift w ↦ lifts_none s c.args.x c.least-least.result 0 is c.least-least.ensures w.if-least-gt0.true refl
+      | else-least-gt0 w ↦ subst (λ t. AddsCuts t c.cut_costly.new.store c.args.x) w.store-is c.cut_costly.ensures.cuts
     ])
