@@ -29,7 +29,8 @@ use Rattle.cfn_dac.specs.Moves.{IsLeastTotal}
 use Rattle.cfn_dac.specs.Shifts.{Shifts, IsIn, GoThrough, IsThrough, LeadsThrough}
 use Rattle.cfn_dac.proofs.CallerLemmas.{either, not_negative, variables_apart}
 use Rattle.cfn_eac.specs.Arms.{IsArm, AreArms, IsGood, pair_at}
-use Rattle.cfn_eac.specs.Owing.{ComesTo, AllComeTo}
+use Rattle.cfn_eac.specs.Asking.{Asks}
+use Rattle.cfn_eac.specs.Owing.{ComesTo, AllComeTo, IsAskedBy}
 use Rattle.cfn_eac.proofs.Existing.{same_place, pair_of_arm, AreFullTo}
 
 -- from a cost that is as much greater an amount that is
@@ -105,6 +106,20 @@ pub list_all : (s : Standing) (x : ℕ) (pairs : List Pair) (values : List ℕ) 
 list_all s x pairs values n amount are all come a value live =
     let at = are.all a (record { variable = value.variable; value = value.value }) live in
     subst (λ v. ComesTo s.network (history s) pairs v (length pairs) (unary s.network (history s) x v) amount) at.2 (come at.0 (omega (arith, at.1, all)))
+
+-- the least that was asked so far, and one value more
+pub asked_least : (s : Standing) (x : ℕ) (pairs : List Pair) (a k least asked new : ℕ) → IsAskedBy s.network (history s) x pairs least ⊎ (floor s.network (history s) + least ≡ k) → IsValue s.network x a → IsTrue (is_live (history s) x a)
+    → (asked ≤ least - 1 → Asks s.network (history s) x pairs a (length pairs) asked) → 0 < least → new ≡ min least asked → IsAskedBy s.network (history s) x pairs new ⊎ (floor s.network (history s) + new ≡ k)
+asked_least s x pairs a k least asked new old value live asks some is = elim (cases_eq new least) [
+  | inl e ↦ subst (λ n. IsAskedBy s.network (history s) x pairs n ⊎ (floor s.network (history s) + n ≡ k)) (sym e) old
+  | inr d ↦
+      inl (record {
+        value = a;
+        is = value;
+        live = live;
+        asks = subst (Asks s.network (history s) x pairs a (length pairs)) (omega (arith, is, d)) (asks (omega (arith, is, d, some)));
+      })
+]
 
 -- no value is free and has full supports in all arms
 nothing_left : (s : ℕ) (z : ℤ) → 0 < s → z ≡ pos 0 → pos s ≤ℤ z → ⊥

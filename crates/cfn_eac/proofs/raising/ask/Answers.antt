@@ -3,7 +3,7 @@ use Rattle.std.specs.Prelude.{slice_index}
 use Rattle.cfn_store.specs.Standing.{history}
 use Rattle.cfn_eac.specs.Asking.{Asks}
 use Rattle.cfn_eac.proofs.Amounts.{good_of_asks}
-use Rattle.cfn_eac.proofs.Owing.{list_more, list_all}
+use Rattle.cfn_eac.proofs.Owing.{list_more, list_all, asked_least}
 use Rattle.cfn_eac.proofs.raising.ask.Goals as goal
 
 pub returns-then-asked-eq0 : goal.returns-then-asked-eq0
@@ -19,9 +19,11 @@ returns-then-asked-eq0 c =
 pub loop-value-preserved : goal.loop-value-preserved
 loop-value-preserved c =
     let s = c.args.store.now in let v = c.loop-value.invariant in let m = c.min-least.ensures in let none = c.if-asked-eq0.false in
+    let at = c.live-value-items.ensures.live c.loop-value.value-index (omega (arith, c.loop-value-test.true)) in
     record {
       some = (let some = v.some in omega (arith, m, some, none));
       come = list_more s.network (history s) c.args.x c.args.pairs.now c.live-value-items.result.now c.loop-value.value-index c.loop-value.least c.asked-asked.result c.min-least.result v.come c.asked-asked.ensures.low m;
+      least = asked_least s c.args.x c.args.pairs.now (slice_index c.live-value-items.result.now c.loop-value.value-index) c.args.limits.threshold c.loop-value.least c.asked-asked.result c.min-least.result v.least (record { variable = at.0.variable; value = at.0.value }) at.1 c.asked-asked.ensures.is v.some m;
       below = (let below = v.below in omega (arith, m, below));
     }
 
@@ -31,5 +33,6 @@ returns c =
     record {
       some = v.some;
       below = v.below;
+      least = v.least;
       come = list_all s c.args.x c.args.pairs.now c.live-value-items.result.now c.loop-value.value-index c.loop-value.least c.live-value-items.ensures c.loop-value-test.false v.come;
     }

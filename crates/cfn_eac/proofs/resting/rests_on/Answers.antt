@@ -3,7 +3,7 @@ use Rattle.std.specs.Prelude.{slice_index, IsTrue}
 use Rattle.cfn_model.specs.declared.step.Event.{Event}
 use Rattle.cfn_model.specs.Network.{Network, arity, variable_at}
 use Rattle.cfn_live.specs.Sets.{live_count}
-use Rattle.cfn_consistency.specs.Openness.{HasOpenPair, is_open}
+use Rattle.cfn_consistency.specs.Openness.{is_open}
 use Rattle.cfn_consistency.specs.Consistency.{HasFullSupport}
 use Rattle.cfn_store.specs.Rooms.{sets_of}
 use Rattle.cfn_store.specs.Standing.{Standing, history}
