@@ -1,0 +1,28 @@
+-- What a record of the pool's steps comes to.
+use Rattle.std.specs.Prelude.{◌≡◌, ℕ, List, MatchOption}
+use Rattle.cfn_model.specs.Network.{Network}
+use Rattle.cfn_machine.specs.Pool.{Pool, AreNumbered, opening_pool}
+use Rattle.cfn_machine.specs.Steps.{PoolStep, PoolSteps, IsLegal, Move, PoolRuns}
+use Rattle.cfn_record.specs.Entries.{Entry, Follows, Runs, entry_of, entries_of, IsAlike, IsSame}
+
+-- What is recorded of a legal step can be done to every pool that is alike, and the pools are alike behind it. Where nothing is recorded,
+-- they stay alike.
+abbrev pub StepFollows : Type 0
+StepFollows = (P : Network) (pool new other : Pool) (word : ℕ) (step : PoolStep) → IsLegal P pool word step → PoolSteps P pool word step new → IsAlike pool other
+    → MatchOption (entry_of word step) (IsAlike new other) (λ entry. (left : Pool) × Follows P other entry left × IsAlike new left)
+
+-- So for a list of legal steps.
+abbrev pub MovesFollow : Type 0
+MovesFollow = (P : Network) (pool new other : Pool) (moves : List Move) → PoolRuns P pool moves new → IsAlike pool other → (left : Pool) × Runs P other (entries_of moves) left × IsAlike new left
+
+-- Each open leaf has a number of its own behind an entry, where it had one before.
+abbrev pub FollowsNumbered : Type 0
+FollowsNumbered = (P : Network) (pool new : Pool) (entry : Entry) → AreNumbered pool → Follows P pool entry new → AreNumbered new
+
+-- One list of entries makes one pool of a pool, as far as tree, numbers, budget, nodes and the threshold seen go.
+abbrev pub OneRun : Type 0
+OneRun = (P : Network) (pool other new left : Pool) (entries : List Entry) → AreNumbered pool → IsSame pool other → Runs P pool entries new → Runs P other entries left → IsSame new left
+
+-- So of the opening, however the word's shares are dealt.
+abbrev pub OneEnd : Type 0
+OneEnd = (P : Network) (shares others budget : ℕ) (entries : List Entry) (new left : Pool) → Runs P (opening_pool P shares budget) entries new → Runs P (opening_pool P others budget) entries left → IsSame new left
