@@ -1,2 +1,4 @@
 pub mod Following
 pub mod Repeating
+pub mod Spelling
+pub mod Parting

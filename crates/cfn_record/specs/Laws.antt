@@ -4,6 +4,7 @@ use Rattle.cfn_model.specs.Network.{Network}
 use Rattle.cfn_machine.specs.Pool.{Pool, AreNumbered, opening_pool}
 use Rattle.cfn_machine.specs.Steps.{PoolStep, PoolSteps, IsLegal, Move, PoolRuns}
 use Rattle.cfn_record.specs.Entries.{Entry, Follows, Runs, entry_of, entries_of, IsAlike, IsSame}
+use Rattle.cfn_record.specs.Lines.{Record, Spells}
 
 -- What is recorded of a legal step can be done to every pool that is alike, and the pools are alike behind it. Where nothing is recorded,
 -- they stay alike.
@@ -26,3 +27,7 @@ OneRun = (P : Network) (pool other new left : Pool) (entries : List Entry) → A
 -- So of the opening, however the word's shares are dealt.
 abbrev pub OneEnd : Type 0
 OneEnd = (P : Network) (shares others budget : ℕ) (entries : List Entry) (new left : Pool) → Runs P (opening_pool P shares budget) entries new → Runs P (opening_pool P others budget) entries left → IsSame new left
+
+-- Bytes spell one record at most.
+abbrev pub OneRecord : Type 0
+OneRecord = (bytes : List ℕ) (r s : Record) → Spells r bytes → Spells s bytes → r ≡ s

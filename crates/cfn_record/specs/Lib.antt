@@ -1,2 +1,4 @@
 pub mod Entries
+pub mod Lines
+pub mod Decoding
 pub mod Laws

@@ -1,6 +1,6 @@
 //! The laws that the definitions have, each the contract of a function with nothing to do.
 
-ghost use Rattle.cfn_record.specs.Laws.{FollowsNumbered, MovesFollow, OneEnd, OneRun, StepFollows};
+ghost use Rattle.cfn_record.specs.Laws.{FollowsNumbered, MovesFollow, OneEnd, OneRecord, OneRun, StepFollows};
 
 /// What is recorded of a legal step, and of a list of them, can be done to every pool that is alike, and leaves alike ones.
 pub fn recorded_steps()
@@ -14,4 +14,9 @@ pub fn one_run()
     ensures numbered { FollowsNumbered }
     ensures run { OneRun }
     ensures end { OneEnd }
+{}
+
+/// Bytes spell one record at most.
+pub fn texts()
+    ensures { OneRecord }
 {}
