@@ -2,3 +2,4 @@ pub mod Following
 pub mod Repeating
 pub mod Spelling
 pub mod Parting
+pub mod Passing

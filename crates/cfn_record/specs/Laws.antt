@@ -4,7 +4,9 @@ use Rattle.cfn_model.specs.Network.{Network}
 use Rattle.cfn_machine.specs.Pool.{Pool, AreNumbered, opening_pool}
 use Rattle.cfn_machine.specs.Steps.{PoolStep, PoolSteps, IsLegal, Move, PoolRuns}
 use Rattle.cfn_record.specs.Entries.{Entry, Follows, Runs, entry_of, entries_of, IsAlike, IsSame}
+use Rattle.cfn_record.specs.declared.kind.RecordFault.{RecordFault}
 use Rattle.cfn_record.specs.Lines.{Record, Spells}
+use Rattle.cfn_record.specs.Fault.{Fault}
 
 -- What is recorded of a legal step can be done to every pool that is alike, and the pools are alike behind it. Where nothing is recorded,
 -- they stay alike.
@@ -31,3 +33,7 @@ OneEnd = (P : Network) (shares others budget : ℕ) (entries : List Entry) (new 
 -- Bytes spell one record at most.
 abbrev pub OneRecord : Type 0
 OneRecord = (bytes : List ℕ) (r s : Record) → Spells r bytes → Spells s bytes → r ≡ s
+
+-- A text has one fault at most: one line, and one kind.
+abbrev pub FaultsAreOne : Type 0
+FaultsAreOne = (P : Network) (bytes : List ℕ) (l m : ℕ) (kind other : RecordFault) → Fault P bytes l kind → Fault P bytes m other → (l ≡ m) × (kind ≡ other)

@@ -1,6 +1,6 @@
 //! The laws that the definitions have, each the contract of a function with nothing to do.
 
-ghost use Rattle.cfn_record.specs.Laws.{FollowsNumbered, MovesFollow, OneEnd, OneRecord, OneRun, StepFollows};
+ghost use Rattle.cfn_record.specs.Laws.{FaultsAreOne, FollowsNumbered, MovesFollow, OneEnd, OneRecord, OneRun, StepFollows};
 
 /// What is recorded of a legal step, and of a list of them, can be done to every pool that is alike, and leaves alike ones.
 pub fn recorded_steps()
@@ -16,7 +16,8 @@ pub fn one_run()
     ensures end { OneEnd }
 {}
 
-/// Bytes spell one record at most.
+/// Bytes spell one record at most, and one line fails first at most, in one way.
 pub fn texts()
-    ensures { OneRecord }
+    ensures one { OneRecord }
+    ensures one_fault { FaultsAreOne }
 {}

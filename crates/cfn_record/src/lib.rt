@@ -1,4 +1,11 @@
-//! A record of what was done to the pool.
+//! Records of what was done to the pool of open leaves in a search: definitions, texts, and laws.
+//!
+//! specs/Entries.antt has the entries of a record, and the pool that they make of another one. specs/Lines.antt has records as text, and
+//! specs/Decoding.antt reads a line backwards. specs/Replaying.antt has what a record comes to, and specs/Fault.antt which line of a text
+//! fails first. `RecordFault` says how a line fails, and `laws` says what follows. Nothing here computes.
 #![tactic(auto)]
 
+mod kind;
 pub mod laws;
+
+pub use kind::RecordFault;

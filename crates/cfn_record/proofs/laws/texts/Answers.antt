@@ -1,5 +1,9 @@
 use Rattle.cfn_record.proofs.Parting.{one_record}
+use Rattle.cfn_record.proofs.Passing.{faults_are_one}
 use Rattle.cfn_record.proofs.laws.texts.Goals as goal
 
-pub returns : goal.returns
-returns c = one_record
+pub returns-clause-one : goal.returns-clause-one
+returns-clause-one c = one_record
+
+pub returns-clause-one_fault : goal.returns-clause-one_fault
+returns-clause-one_fault c = faults_are_one
