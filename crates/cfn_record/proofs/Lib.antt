@@ -3,3 +3,4 @@ pub mod Repeating
 pub mod Spelling
 pub mod Parting
 pub mod Passing
+pub mod Reading

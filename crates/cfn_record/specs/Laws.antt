@@ -1,12 +1,13 @@
 -- What a record of the pool's steps comes to.
-use Rattle.std.specs.Prelude.{◌≡◌, ℕ, List, MatchOption}
+use Rattle.std.specs.Prelude.{◌≡◌, ℕ, List, [], ◌∷◌, ◌++◌, MatchOption}
 use Rattle.cfn_model.specs.Network.{Network}
 use Rattle.cfn_machine.specs.Pool.{Pool, AreNumbered, opening_pool}
 use Rattle.cfn_machine.specs.Steps.{PoolStep, PoolSteps, IsLegal, Move, PoolRuns}
 use Rattle.cfn_record.specs.Entries.{Entry, Follows, Runs, entry_of, entries_of, IsAlike, IsSame}
 use Rattle.cfn_record.specs.declared.kind.RecordFault.{RecordFault}
-use Rattle.cfn_record.specs.Lines.{Record, Spells}
-use Rattle.cfn_record.specs.Fault.{Fault}
+use Rattle.cfn_record.specs.Lines.{Record, RecordLine, Spells, State, AtOver, bytes_of}
+use Rattle.cfn_record.specs.Replaying.{GoodRecord}
+use Rattle.cfn_record.specs.Fault.{Passes, HasPassed, Fault}
 
 -- What is recorded of a legal step can be done to every pool that is alike, and the pools are alike behind it. Where nothing is recorded,
 -- they stay alike.
@@ -37,3 +38,15 @@ OneRecord = (bytes : List ℕ) (r s : Record) → Spells r bytes → Spells s by
 -- A text has one fault at most: one line, and one kind.
 abbrev pub FaultsAreOne : Type 0
 FaultsAreOne = (P : Network) (bytes : List ℕ) (l m : ℕ) (kind other : RecordFault) → Fault P bytes l kind → Fault P bytes m other → (l ≡ m) × (kind ≡ other)
+
+-- Where the bytes spell a good record, there is no fault.
+abbrev pub NoFaultWhereGood : Type 0
+NoFaultWhereGood = (P : Network) (bytes : List ℕ) (r : Record) (l : ℕ) (kind : RecordFault) → Spells r bytes → GoodRecord P r → Fault P bytes l kind → ⊥
+
+-- Where all lines of a text are right, it spells a good record.
+abbrev pub WholeTexts : Type 0
+WholeTexts = (P : Network) (bytes : List ℕ) (ls : List RecordLine) → HasPassed P bytes [] ls AtOver → (r : Record) × Spells r bytes × GoodRecord P r
+
+-- One right line more leaves all right.
+abbrev pub OneMorePasses : Type 0
+OneMorePasses = (P : Network) (bytes rest more : List ℕ) (front : List RecordLine) (s t : State) (l : RecordLine) → HasPassed P bytes rest front s → Passes P front s l more t → rest ≡ bytes_of l ++ more → HasPassed P bytes more (front ++ l ∷ []) t

@@ -1,6 +1,6 @@
 //! The laws that the definitions have, each the contract of a function with nothing to do.
 
-ghost use Rattle.cfn_record.specs.Laws.{FaultsAreOne, FollowsNumbered, MovesFollow, OneEnd, OneRecord, OneRun, StepFollows};
+ghost use Rattle.cfn_record.specs.Laws.{FaultsAreOne, FollowsNumbered, MovesFollow, NoFaultWhereGood, OneEnd, OneMorePasses, OneRecord, OneRun, StepFollows, WholeTexts};
 
 /// What is recorded of a legal step, and of a list of them, can be done to every pool that is alike, and leaves alike ones.
 pub fn recorded_steps()
@@ -16,8 +16,16 @@ pub fn one_run()
     ensures end { OneEnd }
 {}
 
-/// Bytes spell one record at most, and one line fails first at most, in one way.
+/// For every network and all bytes: they spell one record at most; where that is good, no line fails; and one line fails first at most, in
+/// one way.
 pub fn texts()
     ensures one { OneRecord }
+    ensures not_both { NoFaultWhereGood }
     ensures one_fault { FaultsAreOne }
+{}
+
+/// Lines that are right stay so with one right line more; and where every line of a text is right, it spells a good record.
+pub fn line_by_line()
+    ensures one_more { OneMorePasses }
+    ensures whole { WholeTexts }
 {}
