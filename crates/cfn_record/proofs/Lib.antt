@@ -4,3 +4,4 @@ pub mod Spelling
 pub mod Parting
 pub mod Passing
 pub mod Reading
+pub mod Rows
