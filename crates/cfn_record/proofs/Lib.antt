@@ -4,4 +4,5 @@ pub mod Spelling
 pub mod Parting
 pub mod Passing
 pub mod Reading
+pub mod Searching
 pub mod Rows

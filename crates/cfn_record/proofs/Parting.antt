@@ -57,7 +57,7 @@ behind (Open block) rest = rest
 behind (Closed block) rest = rest
 behind (Split block d first second) rest = lines_of_tree first ++ (lines_of_tree second ++ rest)
 
-said_append : (a b : List Line) → said (a ++ b) ≡ said a ++ said b
+pub said_append : (a b : List Line) → said (a ++ b) ≡ said a ++ said b
 said_append a b = map-append (λ l. Says l) a b
 
 with_end : (block : List Step) (ls : List Line) (rest : List RecordLine) → said (map (λ step. lines.Node (Makes step)) block ++ ls) ++ rest ≡ block_lines block ++ (said ls ++ rest)

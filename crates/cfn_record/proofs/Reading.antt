@@ -1,5 +1,6 @@
 -- The lines of a good record are right, and lines that are right up to the end are those of a good record.
 use Rattle.std.proofs.Common.{◌≡◌, ℕ, ◌≤◌, List, [], ◌∷◌, ◌++◌, refl, sym, ap, ap₂, subst, ◌∙◌, arith, append_assoc, append-nil, inl, inr}
+use Rattle.std.proofs.lemmas.List.{append_cancel_left}
 use Rattle.std.specs.Prelude.{◌⊎◌, Option, Some, None, map}
 use Rattle.std.specs.List.{AllByRecursion}
 use Rattle.cfn_model.specs.declared.step.Step.{Step}
@@ -14,7 +15,7 @@ use Rattle.cfn_model.proofs.Versions.{has_decision}
 use Rattle.cfn_fault.specs.Nodes.{Item, Makes, Splits, NodeFollows}
 use Rattle.cfn_fault.specs.Lines as lines
 use Rattle.cfn_fault.specs.Lines.{Line}
-use Rattle.cfn_fault.proofs.Running.{nothing_over, node_follows, run_append}
+use Rattle.cfn_fault.proofs.Running.{node_follows, nothing_over, run_append, run_split, same_end}
 use Rattle.cfn_machine.specs.Pool.{Free, Out, Leaf, IsLeaf, Pool, Piece}
 use Rattle.cfn_machine.specs.Steps.{PoolGives}
 use Rattle.cfn_machine.proofs.CallerLemmas.{gives_out, replaced_leaf}
@@ -23,10 +24,10 @@ use Rattle.cfn_record.specs.Entries as entries
 use Rattle.cfn_record.specs.Entries.{Entry, Gave, Freed, CalledBack, Swept, Follows, Runs}
 use Rattle.cfn_record.specs.Lines.{Record, RecordLine, Heading, Budget, Take, Give, Says, bytes_of, text_of, IsSpelledLine, said, lines_of_tree, lines_of_entry, lines_of_entries, lines_of_best, lines_of, IsSpelled, Spells, State, AtHeading, AtNumbers, AtBudget, AtEvents, AtValues, AtEnd, AtOver, LineFollows, HeadingFollows, NumbersFollow, BudgetFollows, TakeFollows, GiveFollows, BackFollows, RecallFollows, SweepFollows, NodeLineFollows, NoBestFollows, BestFollows, ValuesFollow, EndFollows}
 use Rattle.cfn_record.specs.Replaying.{opening, GoodRecord}
-use Rattle.cfn_record.specs.Fault.{Comes, PoolIs, IsOutTo, StandsFirst, IsGranted, GivesGranted, GivePasses, ComesToGood, HasNumbers, LinePasses, Passes, AllPass, HasPassed, Fault}
-use Rattle.cfn_record.specs.Laws.{NoFaultWhereGood, OneMorePasses, WholeTexts}
-use Rattle.cfn_record.proofs.Spelling.{same_line}
-use Rattle.cfn_record.proofs.Parting.{same_tree}
+use Rattle.cfn_record.specs.Fault.{Comes, PoolIs, IsOutTo, StandsFirst, IsGranted, GivesGranted, GivePasses, ComesToGood, HasNumbers, LinePasses, Passes, AllPass, HasPassed, MayCome, NoneComes, Fault}
+use Rattle.cfn_record.specs.Laws.{EntryPasses, NoFaultWhereGood, NoWholePiece, OneMorePasses, WholeTexts}
+use Rattle.cfn_record.proofs.Spelling.{heads, tails, same_line}
+use Rattle.cfn_record.proofs.Parting.{said_append, same_tree}
 use Rattle.cfn_record.proofs.Passing.{come_once, no_fault_behind}
 
 abbrev pub AllSpelled : List RecordLine → Type 0
@@ -156,19 +157,19 @@ module _ (P : Network) where
       let owned : IsLeaf pool.tree [] leaf (Out worker task.grant) back.path = subst (λ x. IsLeaf pool.tree [] leaf (Out x task.grant) back.path) step.2 named in
       (back.path, subst (λ x. IsLeaf pool.tree [] leaf (Out worker x) back.path) step.4 owned)
 
-  entry_passes : (front : List RecordLine) (pool new : Pool) (entry : Entry) (rest : List ℕ) → Comes P front [] pool → Follows P pool entry new → AllSpelled (lines_of_entry entry) → AllPass P front (AtEvents []) (lines_of_entry entry) rest (AtEvents [])
-  entry_passes front pool new (entries.Took worker want leaf grant) rest comes step spelled =
+  its_lines : (front : List RecordLine) (pool new : Pool) (entry : Entry) (rest : List ℕ) → Comes P front [] pool → Follows P pool entry new → AllSpelled (lines_of_entry entry) → AllPass P front (AtEvents []) (lines_of_entry entry) rest (AtEvents [])
+  its_lines front pool new (entries.Took worker want leaf grant) rest comes step spelled =
       (AtEvents [], record { spelled = spelled.0; follows = TakeFollows; right = record { pool = pool; comes = comes; such = (new, step) } }, refl)
-  entry_passes front pool new (Gave worker leaf grant threshold seen tree) rest comes step spelled =
+  its_lines front pool new (Gave worker leaf grant threshold seen tree) rest comes step spelled =
       let granted : GivesGranted (text_of (lines_of_tree tree) ++ rest) grant =
       λ other stands. (let same : tree ≡ other = one_tree tree other rest stands.rest spelled.1 stands.spelled stands.text in subst (IsGranted grant) same (step.7, step.8)) in
       let right : GivePasses P front (text_of (lines_of_tree tree) ++ rest) worker leaf grant threshold seen =
       record { pool = pool; comes = comes; out = gave_out pool new worker leaf grant seen step.0 step.2 step.3 step.4 step.1; granted = granted; sees = (step.9, step.10) } in
       (AtEvents ([] ∷ []), record { spelled = spelled.0; follows = GiveFollows; right = right }, nodes_pass P rest (front ++ Give worker leaf grant threshold seen ∷ []) ([] ∷ []) [] (lines.lines_of_tree tree) (runs_tree [] [] tree) spelled.1)
-  entry_passes front pool new (Freed worker leaf grant) rest comes step spelled =
+  its_lines front pool new (Freed worker leaf grant) rest comes step spelled =
       (AtEvents [], record { spelled = spelled.0; follows = BackFollows; right = record { pool = pool; comes = comes; such = freed_out pool new worker leaf grant step } }, refl)
-  entry_passes front pool new CalledBack rest comes step spelled = (AtEvents [], record { spelled = spelled.0; follows = RecallFollows; right = tt }, refl)
-  entry_passes front pool new (Swept seen) rest comes step spelled =
+  its_lines front pool new CalledBack rest comes step spelled = (AtEvents [], record { spelled = spelled.0; follows = RecallFollows; right = tt }, refl)
+  its_lines front pool new (Swept seen) rest comes step spelled =
       (AtEvents [], record { spelled = spelled.0; follows = SweepFollows; right = record { pool = pool; comes = comes; such = step.1 } }, refl)
 
 -- runs and lines of entries, put together
@@ -179,6 +180,78 @@ entries_append (x ∷ a) b = ap (λ r. lines_of_entry x ++ r) (entries_append a 
 pub run_more : (P : Network) (pool between new : Pool) (a : List Entry) (entry : Entry) → Runs P pool a between → Follows P between entry new → Runs P pool (a ++ entry ∷ []) new
 run_more P pool between new [] entry run step = (new, subst (λ p. Follows P p entry new) run step, refl)
 run_more P pool between new (x ∷ a) entry run step = (run.0, run.1, run_more P run.0 between new a entry run.2 step)
+
+pub comes_more : (P : Network) (front : List RecordLine) (pool new : Pool) (entry : Entry) → Comes P front [] pool → Follows P pool entry new → Comes P (front ++ lines_of_entry entry) [] new
+comes_more P front pool new entry comes step =
+    let one = lines_of_entry entry in
+    let more = lines_of_entries comes.entries in
+    let whole : ((more ++ []) ++ one) ≡ lines_of_entries (comes.entries ++ entry ∷ []) ++ [] =
+    ap (λ x. x ++ one) (append-nil more) ∙ ap (λ x. more ++ x) (sym (append-nil one)) ∙ sym (entries_append comes.entries (entry ∷ [])) ∙ sym (append-nil (lines_of_entries (comes.entries ++ entry ∷ []))) in
+    record {
+      variables = comes.variables;
+      functions = comes.functions;
+      upper = comes.upper;
+      budget = comes.budget;
+      entries = comes.entries ++ entry ∷ [];
+      lines_are = ap (λ x. x ++ one) comes.lines_are ∙ ap (λ x. Heading ∷ Says (lines.Numbers comes.variables comes.functions comes.upper) ∷ Budget comes.budget ∷ x) whole;
+      run = run_more P (opening P comes.budget) pool new comes.entries entry comes.run step;
+    }
+
+pub entry_passes : EntryPasses
+entry_passes P bytes more front pool new entry passed comes step spelled = (
+  record {
+    text = passed.text ∙ sym (text_append front (lines_of_entry entry) more);
+    right = pass_append P [] AtHeading (AtEvents []) (AtEvents []) front (lines_of_entry entry) more passed.right (its_lines P front pool new entry more comes step spelled);
+  },
+  comes_more P front pool new entry comes step,
+)
+
+-- ---- a piece that stops before its last line
+
+none_due : (l : Line) (ls : List Line) (m : lines.State) (paths : List (List Event)) → lines.Follows (lines.AtNodes Second []) l m → lines.Runs m ls (lines.AtNodes Second paths) → ⊥
+none_due l ls m paths (lines.NodeLineFollows node) run = elim node [ ]
+none_due l ls m paths lines.EndFollows run = no_more (subst (λ x. lines.Runs lines.AtOver x (lines.AtNodes Second paths)) (nothing_over ls (lines.AtNodes Second paths) run) run)
+
+not_due : (ls : List Line) (path : List Event) (paths : List (List Event)) → lines.Runs (lines.AtNodes Second []) ls (lines.AtNodes Second (path ∷ paths)) → ⊥
+not_due [] path paths run = absurd (let e = same_due run in cc)
+not_due (l ∷ ls) path paths run = none_due l ls run.0 (path ∷ paths) run.1 run.2
+
+-- the lines of a certificate's nodes behind others, as lines of a record
+said_back : (ls ms : List Line) (rest : List RecordLine) → said ms ≡ said ls ++ rest → (more : List Line) × (ms ≡ ls ++ more)
+said_back [] ms rest e = (ms, refl)
+said_back (l ∷ ls) [] rest e = absurd cc
+said_back (l ∷ ls) (m ∷ ms) rest e = let more = said_back ls ms rest (tails e) in (more.0, ap₂ (λ x xs. x ∷ xs) (same_said (heads e)) more.1)
+  where
+    same_said : {a b : Line} → Says a ≡ Says b → a ≡ b
+    same_said e = cc
+
+next_comes : (l : Line) (m : lines.State) (ls : List Line) (path : List Event) (paths : List (List Event)) → lines.Follows (lines.AtNodes Second (path ∷ paths)) l m → IsSpelledLine (Says l) → MayCome (AtEvents (path ∷ paths)) (Says l)
+next_comes l m ls path paths (lines.NodeLineFollows {more = more} node) spelled = (spelled, AtEvents more, NodeLineFollows node)
+
+pub no_whole_piece : NoWholePiece
+no_whole_piece ls path paths more tree run spelled none stands =
+    let whole = lines.lines_of_tree tree in
+    let all : lines.Runs (lines.AtNodes Second ([] ∷ [])) whole (lines.AtNodes Second []) = runs_tree [] [] tree in
+    elim (one_longer (said ls) (said whole) more stands.rest spelled stands.spelled stands.text) [
+      | inr it ↦
+          (let behind = said_back whole ls it.rest it.whole in
+          let parts = run_split (lines.AtNodes Second ([] ∷ [])) (lines.AtNodes Second (path ∷ paths)) whole behind.0 (subst (λ x. lines.Runs (lines.AtNodes Second ([] ∷ [])) x (lines.AtNodes Second (path ∷ paths))) behind.1 run) in
+          let due = same_end (lines.AtNodes Second ([] ∷ [])) parts.0 (lines.AtNodes Second []) whole parts.1 all in
+          not_due behind.0 path paths (subst (λ x. lines.Runs x behind.0 (lines.AtNodes Second (path ∷ paths))) due parts.2))
+      | inl it ↦
+          (let behind = said_back ls whole it.rest it.whole in
+          let parts = run_split (lines.AtNodes Second ([] ∷ [])) (lines.AtNodes Second []) ls behind.0 (subst (λ x. lines.Runs (lines.AtNodes Second ([] ∷ [])) x (lines.AtNodes Second [])) behind.1 all) in
+          let due = same_end (lines.AtNodes Second ([] ∷ [])) parts.0 (lines.AtNodes Second (path ∷ paths)) ls parts.1 run in
+          let rest = subst (λ x. lines.Runs x behind.0 (lines.AtNodes Second [])) due parts.2 in
+          let its : said whole ≡ said ls ++ said behind.0 = ap said behind.1 ∙ said_append ls behind.0 in
+          let there : more ≡ text_of (said behind.0) ++ stands.rest =
+          append_cancel_left (text_of (said ls)) more (text_of (said behind.0) ++ stands.rest) (stands.text ∙ ap (λ x. text_of x ++ stands.rest) its ∙ text_append (said ls) (said behind.0) stands.rest) in
+          by_rest behind.0 rest (spelled_back (said ls) (said behind.0) (subst AllSpelled its stands.spelled)) there)
+    ]
+  where
+    by_rest : (ms : List Line) → lines.Runs (lines.AtNodes Second (path ∷ paths)) ms (lines.AtNodes Second []) → AllSpelled (said ms) → more ≡ text_of (said ms) ++ stands.rest → ⊥
+    by_rest [] run spelled text = absurd (let e = same_due run in cc)
+    by_rest (m ∷ ms) run spelled text = none.line (Says m) (text_of (said ms) ++ stands.rest) (next_comes m run.0 ms path paths run.1 spelled.0) (text ∙ append_assoc (bytes_of (Says m)) (text_of (said ms)) stands.rest)
 
 abbrev head_of : Record → List RecordLine → List RecordLine
 head_of r ls = Heading ∷ Says (lines.Numbers r.variables r.functions r.upper) ∷ Budget r.budget ∷ ls
@@ -204,7 +277,7 @@ module _ (P : Network) (r : Record) where
   entries_pass before (entry ∷ entries) pool new rest run more spelled =
       let one = lines_of_entry entry in
       let others = lines_of_entries entries in
-      let here = entry_passes P (before_of before) pool more.0 entry (text_of others ++ rest) (comes_to before pool run) more.1 (spelled_front one others spelled) in
+      let here = its_lines P (before_of before) pool more.0 entry (text_of others ++ rest) (comes_to before pool run) more.1 (spelled_front one others spelled) in
       let behind = entries_pass (before ++ entry ∷ []) entries more.0 new rest (run_more P (opening P r.budget) pool more.0 before entry run more.1) more.2 (spelled_back one others spelled) in
       let front : before_of (before ++ entry ∷ []) ≡ before_of before ++ one = ap (head_of r) (entries_append before (entry ∷ []) ∙ ap (λ x. lines_of_entries before ++ x) (append-nil one)) in
       pass_append P (before_of before) (AtEvents []) (AtEvents []) (AtEvents []) one others rest here (subst (λ f. AllPass P f (AtEvents []) others rest (AtEvents [])) front behind)

@@ -1,13 +1,20 @@
 -- What a record of the pool's steps comes to.
-use Rattle.std.specs.Prelude.{◌≡◌, ℕ, List, [], ◌∷◌, ◌++◌, MatchOption}
-use Rattle.cfn_model.specs.Network.{Network}
+use Rattle.std.specs.Prelude.{◌≡◌, ℕ, List, [], ◌∷◌, ◌++◌, MatchOption, Option}
+use Rattle.std.specs.List.{AllByRecursion}
+use Rattle.cfn_model.specs.declared.step.Event.{Event}
+use Rattle.cfn_model.specs.declared.version.Version.TheVariants.{Second}
+use Rattle.cfn_model.specs.Network.{Network, IsNetwork}
+use Rattle.cfn_model.specs.Tree.{Tree}
+use Rattle.cfn_model.specs.Certificate.{Solution, IsBest}
+use Rattle.cfn_fault.specs.Lines as lines
+use Rattle.cfn_fault.specs.Lines.{Line}
 use Rattle.cfn_machine.specs.Pool.{Pool, AreNumbered, opening_pool}
 use Rattle.cfn_machine.specs.Steps.{PoolStep, PoolSteps, IsLegal, Move, PoolRuns}
 use Rattle.cfn_record.specs.Entries.{Entry, Follows, Runs, entry_of, entries_of, IsAlike, IsSame}
 use Rattle.cfn_record.specs.declared.kind.RecordFault.{RecordFault}
-use Rattle.cfn_record.specs.Lines.{Record, RecordLine, Spells, State, AtOver, bytes_of}
-use Rattle.cfn_record.specs.Replaying.{GoodRecord}
-use Rattle.cfn_record.specs.Fault.{Passes, HasPassed, Fault}
+use Rattle.cfn_record.specs.Lines.{Record, RecordLine, Spells, State, AtEvents, AtOver, bytes_of, text_of, said, lines_of_entry, IsSpelledLine}
+use Rattle.cfn_record.specs.Replaying.{GoodRecord, record_of, sweep_at}
+use Rattle.cfn_record.specs.Fault.{Comes, StandsFirst, Passes, HasPassed, NoneComes, Fault}
 
 -- What is recorded of a legal step can be done to every pool that is alike, and the pools are alike behind it. Where nothing is recorded,
 -- they stay alike.
@@ -18,6 +25,11 @@ StepFollows = (P : Network) (pool new other : Pool) (word : ℕ) (step : PoolSte
 -- So for a list of legal steps.
 abbrev pub MovesFollow : Type 0
 MovesFollow = (P : Network) (pool new other : Pool) (moves : List Move) → PoolRuns P pool moves new → IsAlike pool other → (left : Pool) × Runs P other (entries_of moves) left × IsAlike new left
+
+-- The record of a search is good where its last step is a sweep at the best assignment's cost, and it comes to the search's own tree.
+abbrev pub SearchIsRecorded : Type 0
+SearchIsRecorded = (P : Network) (shares budget : ℕ) (moves : List Move) (best : Option Solution) (new : Pool) → IsNetwork P → IsBest P best → PoolRuns P (opening_pool P shares budget) (moves ++ sweep_at P best ∷ []) new
+    → (good : GoodRecord P (record_of P budget (moves ++ sweep_at P best ∷ []) best)) × (good.pool.tree ≡ new.tree)
 
 -- Each open leaf has a number of its own behind an entry, where it had one before.
 abbrev pub FollowsNumbered : Type 0
@@ -50,3 +62,17 @@ WholeTexts = (P : Network) (bytes : List ℕ) (ls : List RecordLine) → HasPass
 -- One right line more leaves all right.
 abbrev pub OneMorePasses : Type 0
 OneMorePasses = (P : Network) (bytes rest more : List ℕ) (front : List RecordLine) (s t : State) (l : RecordLine) → HasPassed P bytes rest front s → Passes P front s l more t → rest ≡ bytes_of l ++ more → HasPassed P bytes more (front ++ l ∷ []) t
+
+-- An entry that can be done leaves all right behind its lines, and the lines come to the pool that it leaves.
+abbrev pub EntryPasses : Type 0
+EntryPasses = (P : Network) (bytes more : List ℕ) (front : List RecordLine) (pool new : Pool) (entry : Entry) → HasPassed P bytes (text_of (lines_of_entry entry) ++ more) front (AtEvents []) → Comes P front [] pool → Follows P pool entry new
+    → AllByRecursion IsSpelledLine (lines_of_entry entry) → HasPassed P bytes more (front ++ lines_of_entry entry) (AtEvents []) × Comes P (front ++ lines_of_entry entry) [] new
+
+-- Where a piece's lines stop before its last one, and no line stands behind them that may come, no whole piece stands there.
+abbrev pub NoWholePiece : Type 0
+NoWholePiece = (ls : List Line) (path : List Event) (paths : List (List Event)) (more : List ℕ) (tree : Tree) → lines.Runs (lines.AtNodes Second ([] ∷ [])) ls (lines.AtNodes Second (path ∷ paths)) → AllByRecursion IsSpelledLine (said ls)
+    → NoneComes (AtEvents (path ∷ paths)) more → StandsFirst (text_of (said ls) ++ more) tree → ⊥
+
+-- Lines that come to one pool come to no other, as far as tree, numbers, budget, nodes and the threshold seen go.
+abbrev pub ComesOnce : Type 0
+ComesOnce = (P : Network) (front : List RecordLine) (pool other : Pool) → Comes P front [] pool → Comes P front [] other → IsSame pool other
