@@ -1,10 +1,9 @@
 -- What is recorded of legal steps can be done to every pool that is alike.
-use Rattle.std.proofs.Common.{◌≡◌, ℕ, ◌≤◌, List, [], ◌∷◌, refl, sym, ap, ◌∙◌, subst, arith}
+use Rattle.std.proofs.Common.{◌≡◌, ℕ, ◌≤◌, [], ◌∷◌, refl, sym, ap, ◌∙◌, subst, arith}
 use Rattle.std.specs.Prelude.{Option, Some, None, MatchOption}
 use Rattle.cfn_model.specs.Network.{Network}
-use Rattle.cfn_model.specs.Tree.{Tree, count}
-use Rattle.cfn_machine.specs.Pool.{Task, Piece, Pool, View}
-use Rattle.cfn_machine.specs.Steps.{PoolTakes, PoolGives, PoolReturns, PoolStep, Takes, Gives, Returns, Recalls, Sweeps, Meets, Notes, PoolSteps, IsLegal, Move, PoolRuns, pool_recalled, pool_swept}
+use Rattle.cfn_machine.specs.Pool.{Task, Pool, View}
+use Rattle.cfn_machine.specs.Steps.{PoolTakes, PoolGives, PoolReturns, PoolStep, Takes, Gives, Returns, Recalls, Sweeps, Meets, Notes, PoolSteps, IsLegal, pool_recalled, pool_swept}
 use Rattle.cfn_machine.proofs.Numbering.{by_noted}
 use Rattle.cfn_record.specs.Entries.{Entry, Took, Gave, Freed, CalledBack, Swept, Follows, Runs, entry_of, with_entry, entries_of, IsAlike}
 use Rattle.cfn_record.specs.Laws.{StepFollows, MovesFollow}

@@ -6,3 +6,4 @@ pub mod Passing
 pub mod Reading
 pub mod Searching
 pub mod Rows
+pub mod CallerLemmas

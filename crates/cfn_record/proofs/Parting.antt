@@ -1,7 +1,7 @@
 -- The lines of a record say what it is.
 use Rattle.std.proofs.Common.{◌≡◌, ℕ, List, [], ◌∷◌, ◌++◌, map, refl, sym, ap, ap₂, subst, ◌∙◌, append_assoc}
 use Rattle.std.proofs.lemmas.List.{map-append}
-use Rattle.std.specs.Prelude.{Option, Some, None, flat_map}
+use Rattle.std.specs.Prelude.{Option, Some, None}
 use Rattle.cfn_model.specs.declared.step.Step.{Step}
 use Rattle.cfn_model.specs.declared.step.Decision.{Decision}
 use Rattle.cfn_model.specs.Tree.{Tree, Open, Closed, Split}
@@ -10,7 +10,7 @@ use Rattle.cfn_fault.specs.Nodes.{Item, Makes, LeavesOpen, Closes, Splits}
 use Rattle.cfn_fault.specs.Lines as lines
 use Rattle.cfn_fault.specs.Lines.{Line}
 use Rattle.cfn_record.specs.Entries.{Entry, Took, Gave, Freed, CalledBack, Swept}
-use Rattle.cfn_record.specs.Lines.{Record, RecordLine, Heading, Budget, Take, Give, Back, Recall, Sweep, Says, said, lines_of_tree, lines_of_entry, lines_of_entries, lines_of_best, lines_of, Spells}
+use Rattle.cfn_record.specs.Lines.{Record, RecordLine, Heading, Budget, Take, Give, Back, Recall, Sweep, Says, said, lines_of_tree, lines_of_entry, lines_of_entries, lines_of_best, lines_of}
 use Rattle.cfn_record.specs.Laws.{OneRecord}
 use Rattle.cfn_record.proofs.Spelling.{heads, tails, same_lines}
 

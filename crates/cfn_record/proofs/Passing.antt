@@ -1,22 +1,21 @@
 -- Two ways over the lines of one text are one, as far as both go.
-use Rattle.std.proofs.Common.{◌≡◌, ◌≢◌, ℕ, suc, ◌+◌, ◌<◌, ◌≤◌, inl, inr, List, [], ◌∷◌, ◌++◌, length, refl, sym, ap, ap₂, subst, ◌∙◌, arith, append_assoc, append-nil}
+use Rattle.std.proofs.Common.{◌≡◌, ◌≢◌, ℕ, ◌+◌, ◌<◌, ◌≤◌, inl, inr, List, [], ◌∷◌, ◌++◌, length, refl, sym, ap, subst, ◌∙◌, arith, append_assoc, append-nil}
 use Rattle.std.specs.Prelude.{◌⊎◌, Option}
 use Rattle.cfn_model.specs.declared.step.Event.{Event}
 use Rattle.cfn_model.specs.Network.{Network}
 use Rattle.cfn_model.specs.Certificate.{Solution, Good}
 use Rattle.cfn_fault.specs.Nodes.{Item, NodeFollows, ItemFollows}
 use Rattle.cfn_model.specs.declared.version.Version.TheVariants.{Second}
-use Rattle.cfn_fault.specs.Lines as lines
 use Rattle.cfn_machine.specs.Pool.{Out, IsLeaf, Pool, tree_of}
 use Rattle.cfn_record.specs.declared.kind.RecordFault.{RecordFault}
 use Rattle.cfn_record.specs.declared.kind.RecordFault.TheVariants as kinds
 use Rattle.cfn_record.specs.Entries.{Entry, Took, Follows, Runs, IsSame}
-use Rattle.cfn_record.specs.Lines.{RecordLine, Heading, Budget, Says, bytes_of, text_of, IsSpelledLine, lines_of_entries, lines_of_best, State, AtHeading, AtEvents, AtOver, LineFollows, HeadingFollows, NumbersFollow, BudgetFollows, TakeFollows, GiveFollows, BackFollows, RecallFollows, SweepFollows, NodeLineFollows, NoBestFollows, BestFollows, ValuesFollow, EndFollows}
+use Rattle.cfn_record.specs.Lines.{RecordLine, bytes_of, text_of, lines_of_best, State, AtHeading, AtEvents, AtOver, LineFollows, HeadingFollows, NumbersFollow, BudgetFollows, TakeFollows, GiveFollows, BackFollows, RecallFollows, SweepFollows, NodeLineFollows, NoBestFollows, BestFollows, ValuesFollow, EndFollows}
 use Rattle.cfn_record.specs.Replaying.{opening, certificate_of}
-use Rattle.cfn_record.specs.Fault.{Comes, PoolIs, IsOutTo, GivePasses, GiveFails, NotOut, NotGranted, SeenAbove, ComesToGood, ComesToBad, LinePasses, LineFails, Passes, AllPass, HasPassed, MayCome, NoneComes, Fault, ByGrammar, ByLine}
+use Rattle.cfn_record.specs.Fault.{ComesTo, PoolIs, IsOutTo, GivePasses, GiveFails, NotOut, BreaksGrant, SeenAbove, ComesToGood, ComesToBad, LinePasses, LineFails, Passes, AllPass, HasPassed, MayCome, NoneComes, Fault, ByGrammar, ByLine}
 use Rattle.cfn_record.specs.Laws.{FaultsAreOne}
 use Rattle.cfn_record.proofs.Following.{left_by, follows_too}
-use Rattle.cfn_record.proofs.Repeating.{alike, turned, one_end}
+use Rattle.cfn_record.proofs.Repeating.{alike, one_end}
 use Rattle.cfn_record.proofs.Spelling.{heads, tails, same_line, some_bytes}
 use Rattle.cfn_record.proofs.Parting.{NoEvent, same_entries, best_no_event, same_best, told_budget}
 
@@ -26,7 +25,7 @@ record SameComing (pool other : Pool) (a b : List RecordLine) : Type 0 where
   pools : IsSame pool other
   others : a ≡ b
 
-come_same : (P : Network) (front a b : List RecordLine) (pool other : Pool) → NoEvent a → NoEvent b → Comes P front a pool → Comes P front b other → SameComing pool other a b
+come_same : (P : Network) (front a b : List RecordLine) (pool other : Pool) → NoEvent a → NoEvent b → ComesTo P front a pool → ComesTo P front b other → SameComing pool other a b
 come_same P front a b pool other na nb one two =
     let whole = sym one.lines_are ∙ two.lines_are in
     let budget : one.budget ≡ two.budget = told_budget (heads (tails (tails whole))) in
@@ -34,14 +33,14 @@ come_same P front a b pool other na nb one two =
     let run : Runs P (opening P two.budget) two.entries pool = subst (λ x. Runs P (opening P x) two.entries pool) budget (subst (λ x. Runs P (opening P one.budget) x pool) both.0 one.run) in
     record { pools = one_end P 128 128 two.budget two.entries pool other run two.run; others = both.1 }
 
-pub come_once : (P : Network) (front : List RecordLine) (pool other : Pool) → Comes P front [] pool → Comes P front [] other → IsSame pool other
+pub come_once : (P : Network) (front : List RecordLine) (pool other : Pool) → ComesTo P front [] pool → ComesTo P front [] other → IsSame pool other
 come_once P front pool other one two = (come_same P front [] [] pool other tt tt one two).pools
 
 record SameBest (pool other : Pool) (p q : Option Solution) : Type 0 where
   pools : IsSame pool other
   best : p ≡ q
 
-end_once : (P : Network) (front : List RecordLine) (p q : Option Solution) (pool other : Pool) → Comes P front (lines_of_best p) pool → Comes P front (lines_of_best q) other → SameBest pool other p q
+end_once : (P : Network) (front : List RecordLine) (p q : Option Solution) (pool other : Pool) → ComesTo P front (lines_of_best p) pool → ComesTo P front (lines_of_best q) other → SameBest pool other p q
 end_once P front p q pool other one two =
     let none = λ (best : Option Solution). subst NoEvent (append-nil (lines_of_best best)) (best_no_event best []) in
     let same = come_same P front (lines_of_best p) (lines_of_best q) pool other (none p) (none q) one two in
@@ -80,7 +79,7 @@ out_too pool other worker leaf grant same out = (out.0, subst (λ t. IsLeaf t []
 
 give_not_both : (P : Network) (front : List RecordLine) (more : List ℕ) (worker leaf grant threshold seen : ℕ) (kind : RecordFault) → GivePasses P front more worker leaf grant threshold seen → GiveFails P front more worker leaf grant threshold seen kind → ⊥
 give_not_both P front more worker leaf grant threshold seen kind right (NotOut pool comes is never) = never (out_too right.pool pool worker leaf grant (come_once P front right.pool pool right.comes comes) right.out)
-give_not_both P front more worker leaf grant threshold seen kind right (NotGranted pool comes is tree stands other) = other (right.granted tree stands)
+give_not_both P front more worker leaf grant threshold seen kind right (BreaksGrant pool comes is tree stands other) = other (right.granted tree stands)
 give_not_both P front more worker leaf grant threshold seen kind right (SeenAbove pool comes is out granted above) =
     let same = come_once P front right.pool pool right.comes comes in
     above (right.sees.0, (let e = same.seen in let low = right.sees.1 in omega (arith, e, low)))
@@ -113,15 +112,15 @@ right_not_wrong P front s l t more kind EndFollows right wrong = good_not_bad P 
 
 give_one_kind : (P : Network) (front : List RecordLine) (more : List ℕ) (worker leaf grant threshold seen : ℕ) (a b : RecordFault) → GiveFails P front more worker leaf grant threshold seen a → GiveFails P front more worker leaf grant threshold seen b → a ≡ b
 give_one_kind P front more worker leaf grant threshold seen a b (NotOut pool comes is never) (NotOut pool' comes' is' never') = is ∙ sym is'
-give_one_kind P front more worker leaf grant threshold seen a b (NotOut pool comes is never) (NotGranted pool' comes' is' tree stands other) = is ∙ sym is'
+give_one_kind P front more worker leaf grant threshold seen a b (NotOut pool comes is never) (BreaksGrant pool' comes' is' tree stands other) = is ∙ sym is'
 give_one_kind P front more worker leaf grant threshold seen a b (NotOut pool comes is never) (SeenAbove pool' comes' is' out granted above) =
     absurd (never (out_too pool' pool worker leaf grant (come_once P front pool' pool comes' comes) out))
-give_one_kind P front more worker leaf grant threshold seen a b (NotGranted pool comes is tree stands other) (NotOut pool' comes' is' never) = is ∙ sym is'
-give_one_kind P front more worker leaf grant threshold seen a b (NotGranted pool comes is tree stands other) (NotGranted pool' comes' is' tree' stands' other') = is ∙ sym is'
-give_one_kind P front more worker leaf grant threshold seen a b (NotGranted pool comes is tree stands other) (SeenAbove pool' comes' is' out granted above) = absurd (other (granted tree stands))
+give_one_kind P front more worker leaf grant threshold seen a b (BreaksGrant pool comes is tree stands other) (NotOut pool' comes' is' never) = is ∙ sym is'
+give_one_kind P front more worker leaf grant threshold seen a b (BreaksGrant pool comes is tree stands other) (BreaksGrant pool' comes' is' tree' stands' other') = is ∙ sym is'
+give_one_kind P front more worker leaf grant threshold seen a b (BreaksGrant pool comes is tree stands other) (SeenAbove pool' comes' is' out granted above) = absurd (other (granted tree stands))
 give_one_kind P front more worker leaf grant threshold seen a b (SeenAbove pool comes is out granted above) (NotOut pool' comes' is' never) =
     absurd (never (out_too pool pool' worker leaf grant (come_once P front pool pool' comes comes') out))
-give_one_kind P front more worker leaf grant threshold seen a b (SeenAbove pool comes is out granted above) (NotGranted pool' comes' is' tree stands other) = absurd (other (granted tree stands))
+give_one_kind P front more worker leaf grant threshold seen a b (SeenAbove pool comes is out granted above) (BreaksGrant pool' comes' is' tree stands other) = absurd (other (granted tree stands))
 give_one_kind P front more worker leaf grant threshold seen a b (SeenAbove pool comes is out granted above) (SeenAbove pool' comes' is' out' granted' above') = is ∙ sym is'
 
 one_kind : (P : Network) (front : List RecordLine) (s : State) (l : RecordLine) (t : State) (more : List ℕ) (a b : RecordFault) → LineFollows s l t → LineFails P front more l a → LineFails P front more l b → a ≡ b

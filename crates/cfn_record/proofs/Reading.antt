@@ -1,5 +1,5 @@
 -- The lines of a good record are right, and lines that are right up to the end are those of a good record.
-use Rattle.std.proofs.Common.{◌≡◌, ℕ, ◌≤◌, List, [], ◌∷◌, ◌++◌, refl, sym, ap, ap₂, subst, ◌∙◌, arith, append_assoc, append-nil, inl, inr}
+use Rattle.std.proofs.Common.{◌≡◌, ℕ, List, [], ◌∷◌, ◌++◌, refl, sym, ap, ap₂, subst, ◌∙◌, append_assoc, append-nil, inl, inr}
 use Rattle.std.proofs.lemmas.List.{append_cancel_left}
 use Rattle.std.specs.Prelude.{◌⊎◌, Option, Some, None, map}
 use Rattle.std.specs.List.{AllByRecursion}
@@ -12,19 +12,18 @@ use Rattle.cfn_model.specs.Network.{Network}
 use Rattle.cfn_model.specs.Tree.{Tree, Open, Closed, Split}
 use Rattle.cfn_model.specs.Certificate.{Solution, threshold_of}
 use Rattle.cfn_model.proofs.Versions.{has_decision}
-use Rattle.cfn_fault.specs.Nodes.{Item, Makes, Splits, NodeFollows}
+use Rattle.cfn_fault.specs.Nodes.{Makes, Splits}
 use Rattle.cfn_fault.specs.Lines as lines
 use Rattle.cfn_fault.specs.Lines.{Line}
 use Rattle.cfn_fault.proofs.Running.{node_follows, nothing_over, run_append, run_split, same_end}
 use Rattle.cfn_machine.specs.Pool.{Free, Out, Leaf, IsLeaf, Pool, Piece}
 use Rattle.cfn_machine.specs.Steps.{PoolGives}
 use Rattle.cfn_machine.proofs.CallerLemmas.{gives_out, replaced_leaf}
-use Rattle.cfn_record.specs.declared.kind.RecordFault.{RecordFault}
 use Rattle.cfn_record.specs.Entries as entries
 use Rattle.cfn_record.specs.Entries.{Entry, Gave, Freed, CalledBack, Swept, Follows, Runs}
-use Rattle.cfn_record.specs.Lines.{Record, RecordLine, Heading, Budget, Take, Give, Says, bytes_of, text_of, IsSpelledLine, said, lines_of_tree, lines_of_entry, lines_of_entries, lines_of_best, lines_of, IsSpelled, Spells, State, AtHeading, AtNumbers, AtBudget, AtEvents, AtValues, AtEnd, AtOver, LineFollows, HeadingFollows, NumbersFollow, BudgetFollows, TakeFollows, GiveFollows, BackFollows, RecallFollows, SweepFollows, NodeLineFollows, NoBestFollows, BestFollows, ValuesFollow, EndFollows}
+use Rattle.cfn_record.specs.Lines.{Record, RecordLine, Heading, Budget, Give, Says, bytes_of, text_of, IsSpelledLine, said, lines_of_tree, lines_of_entry, lines_of_entries, lines_of_best, lines_of, IsSpelled, State, AtHeading, AtNumbers, AtBudget, AtEvents, AtValues, AtEnd, AtOver, LineFollows, HeadingFollows, NumbersFollow, BudgetFollows, TakeFollows, GiveFollows, BackFollows, RecallFollows, SweepFollows, NodeLineFollows, NoBestFollows, BestFollows, ValuesFollow, EndFollows}
 use Rattle.cfn_record.specs.Replaying.{opening, GoodRecord}
-use Rattle.cfn_record.specs.Fault.{Comes, PoolIs, IsOutTo, StandsFirst, IsGranted, GivesGranted, GivePasses, ComesToGood, HasNumbers, LinePasses, Passes, AllPass, HasPassed, MayCome, NoneComes, Fault}
+use Rattle.cfn_record.specs.Fault.{ComesTo, IsOutTo, KeepsGrant, PieceKeepsGrant, GivePasses, ComesToGood, LinePasses, Passes, AllPass, MayCome}
 use Rattle.cfn_record.specs.Laws.{EntryPasses, NoFaultWhereGood, NoWholePiece, OneMorePasses, WholeTexts}
 use Rattle.cfn_record.proofs.Spelling.{heads, tails, same_line}
 use Rattle.cfn_record.proofs.Parting.{said_append, same_tree}
@@ -157,12 +156,12 @@ module _ (P : Network) where
       let owned : IsLeaf pool.tree [] leaf (Out worker task.grant) back.path = subst (λ x. IsLeaf pool.tree [] leaf (Out x task.grant) back.path) step.2 named in
       (back.path, subst (λ x. IsLeaf pool.tree [] leaf (Out worker x) back.path) step.4 owned)
 
-  its_lines : (front : List RecordLine) (pool new : Pool) (entry : Entry) (rest : List ℕ) → Comes P front [] pool → Follows P pool entry new → AllSpelled (lines_of_entry entry) → AllPass P front (AtEvents []) (lines_of_entry entry) rest (AtEvents [])
+  its_lines : (front : List RecordLine) (pool new : Pool) (entry : Entry) (rest : List ℕ) → ComesTo P front [] pool → Follows P pool entry new → AllSpelled (lines_of_entry entry) → AllPass P front (AtEvents []) (lines_of_entry entry) rest (AtEvents [])
   its_lines front pool new (entries.Took worker want leaf grant) rest comes step spelled =
       (AtEvents [], record { spelled = spelled.0; follows = TakeFollows; right = record { pool = pool; comes = comes; such = (new, step) } }, refl)
   its_lines front pool new (Gave worker leaf grant threshold seen tree) rest comes step spelled =
-      let granted : GivesGranted (text_of (lines_of_tree tree) ++ rest) grant =
-      λ other stands. (let same : tree ≡ other = one_tree tree other rest stands.rest spelled.1 stands.spelled stands.text in subst (IsGranted grant) same (step.7, step.8)) in
+      let granted : PieceKeepsGrant (text_of (lines_of_tree tree) ++ rest) grant =
+      λ other stands. (let same : tree ≡ other = one_tree tree other rest stands.rest spelled.1 stands.spelled stands.text in subst (KeepsGrant grant) same (step.7, step.8)) in
       let right : GivePasses P front (text_of (lines_of_tree tree) ++ rest) worker leaf grant threshold seen =
       record { pool = pool; comes = comes; out = gave_out pool new worker leaf grant seen step.0 step.2 step.3 step.4 step.1; granted = granted; sees = (step.9, step.10) } in
       (AtEvents ([] ∷ []), record { spelled = spelled.0; follows = GiveFollows; right = right }, nodes_pass P rest (front ++ Give worker leaf grant threshold seen ∷ []) ([] ∷ []) [] (lines.lines_of_tree tree) (runs_tree [] [] tree) spelled.1)
@@ -181,7 +180,7 @@ pub run_more : (P : Network) (pool between new : Pool) (a : List Entry) (entry :
 run_more P pool between new [] entry run step = (new, subst (λ p. Follows P p entry new) run step, refl)
 run_more P pool between new (x ∷ a) entry run step = (run.0, run.1, run_more P run.0 between new a entry run.2 step)
 
-pub comes_more : (P : Network) (front : List RecordLine) (pool new : Pool) (entry : Entry) → Comes P front [] pool → Follows P pool entry new → Comes P (front ++ lines_of_entry entry) [] new
+pub comes_more : (P : Network) (front : List RecordLine) (pool new : Pool) (entry : Entry) → ComesTo P front [] pool → Follows P pool entry new → ComesTo P (front ++ lines_of_entry entry) [] new
 comes_more P front pool new entry comes step =
     let one = lines_of_entry entry in
     let more = lines_of_entries comes.entries in
@@ -196,6 +195,9 @@ comes_more P front pool new entry comes step =
       lines_are = ap (λ x. x ++ one) comes.lines_are ∙ ap (λ x. Heading ∷ Says (lines.Numbers comes.variables comes.functions comes.upper) ∷ Budget comes.budget ∷ x) whole;
       run = run_more P (opening P comes.budget) pool new comes.entries entry comes.run step;
     }
+
+pub comes_first : (P : Network) (variables functions upper budget : ℕ) → ComesTo P (Heading ∷ Says (lines.Numbers variables functions upper) ∷ Budget budget ∷ []) [] (opening P budget)
+comes_first P variables functions upper budget = record { variables = variables; functions = functions; upper = upper; budget = budget; entries = []; lines_are = refl; run = refl }
 
 pub entry_passes : EntryPasses
 entry_passes P bytes more front pool new entry passed comes step spelled = (
@@ -260,7 +262,7 @@ module _ (P : Network) (r : Record) where
   abbrev before_of : List Entry → List RecordLine
   before_of entries = head_of r (lines_of_entries entries)
 
-  comes_to : (entries : List Entry) (pool : Pool) → Runs P (opening P r.budget) entries pool → Comes P (before_of entries) [] pool
+  comes_to : (entries : List Entry) (pool : Pool) → Runs P (opening P r.budget) entries pool → ComesTo P (before_of entries) [] pool
   comes_to entries pool run = record {
     variables = r.variables;
     functions = r.functions;
@@ -283,7 +285,7 @@ module _ (P : Network) (r : Record) where
       pass_append P (before_of before) (AtEvents []) (AtEvents []) (AtEvents []) one others rest here (subst (λ f. AllPass P f (AtEvents []) others rest (AtEvents [])) front behind)
 
   -- the best assignment and the end
-  best_passes : (best : Option Solution) (front : List RecordLine) (pool : Pool) (rest : List ℕ) → Comes P front [] pool → pool.view.seen ≡ threshold_of P.upper best → AllSpelled (lines_of_best best) → AllPass P front (AtEvents []) (lines_of_best best) rest AtEnd
+  best_passes : (best : Option Solution) (front : List RecordLine) (pool : Pool) (rest : List ℕ) → ComesTo P front [] pool → pool.view.seen ≡ threshold_of P.upper best → AllSpelled (lines_of_best best) → AllPass P front (AtEvents []) (lines_of_best best) rest AtEnd
   best_passes None front pool rest comes seen spelled = (AtEnd, record { spelled = tt; follows = NoBestFollows; right = record { pool = pool; comes = comes; such = seen } }, refl)
   best_passes (Some best) front pool rest comes seen spelled =
       (AtValues, record { spelled = spelled.0; follows = BestFollows; right = record { pool = pool; comes = comes; such = seen } }, (AtEnd, record { spelled = spelled.1.0; follows = ValuesFollow; right = tt }, refl))
@@ -303,8 +305,7 @@ module _ (P : Network) (r : Record) where
       } in
       let last : AllPass P (before_of r.entries ++ best) AtEnd end [] AtOver = (AtOver, record { spelled = tt; follows = EndFollows; right = done }, refl) in
       let ended = pass_append P (before_of r.entries) (AtEvents []) AtEnd AtOver best end [] (best_passes r.best (before_of r.entries) good.pool (text_of end ++ []) (comes_to r.entries good.pool good.run) good.seen (spelled_front best end behind)) last in
-      let all = pass_append P (before_of []) (AtEvents []) (AtEvents []) AtOver entries (best ++ end) [] (entries_pass [] r.entries (opening P r.budget) good.pool (text_of (best ++ end) ++ []) refl good.run (spelled_front entries (best ++ end) events)) ended in
-      (
+      let all = pass_append P (before_of []) (AtEvents []) (AtEvents []) AtOver entries (best ++ end) [] (entries_pass [] r.entries (opening P r.budget) good.pool (text_of (best ++ end) ++ []) refl good.run (spelled_front entries (best ++ end) events)) ended in (
         AtNumbers,
         record { spelled = tt; follows = HeadingFollows; right = tt },
         (AtBudget, record { spelled = spelled.1.0; follows = NumbersFollow; right = (good.variables, good.functions, good.upper) }, (AtEvents [], record { spelled = spelled.1.1.0; follows = BudgetFollows; right = tt }, all)),
@@ -346,7 +347,7 @@ ended P front s l (next ∷ ls) rest run =
     record { before = l ∷ more.before; whole = ap (λ x. l ∷ x) more.whole; right = subst (ComesToGood P) (append_assoc front (l ∷ []) more.before) more.right }
 
 -- the last threshold seen is what the best assignment says
-best_right : (P : Network) (front : List RecordLine) (s t : State) (best : Option Solution) (ls : List RecordLine) (rest : List ℕ) (pool : Pool) → Comes P front [] pool → AllPass P front s (lines_of_best best ++ ls) rest t → pool.view.seen ≡ threshold_of P.upper best
+best_right : (P : Network) (front : List RecordLine) (s t : State) (best : Option Solution) (ls : List RecordLine) (rest : List ℕ) (pool : Pool) → ComesTo P front [] pool → AllPass P front s (lines_of_best best ++ ls) rest t → pool.view.seen ≡ threshold_of P.upper best
 best_right P front s t None ls rest pool comes run = (let right = run.1.right in sym (come_once P front pool right.pool comes right.comes).seen ∙ right.such)
 best_right P front s t (Some best) ls rest pool comes run = (let right = run.1.right in sym (come_once P front pool right.pool comes right.comes).seen ∙ right.such)
 

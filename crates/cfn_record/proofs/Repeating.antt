@@ -5,9 +5,9 @@ use Rattle.cfn_model.specs.Network.{Network}
 use Rattle.cfn_model.specs.Tree.{Tree, Open}
 use Rattle.std.specs.Prelude.{None}
 use Rattle.cfn_machine.specs.Pool.{Out, Task, Piece, Pool, View, leaves_with, AreNumbered, opening_pool}
-use Rattle.cfn_machine.specs.Steps.{PoolTakes, PoolGives, PoolReturns, Takes, Gives, Returns, Recalls, Sweeps}
+use Rattle.cfn_machine.specs.Steps.{PoolGives, PoolReturns, Takes, Gives, Returns, Recalls, Sweeps}
 use Rattle.cfn_machine.proofs.CallerLemmas.{keeps_numbered, opens_numbered, gives_out, one_path, one_task, one_pool}
-use Rattle.cfn_record.specs.Entries.{Entry, Took, Gave, Freed, CalledBack, Swept, Follows, Runs, IsAlike, IsSame}
+use Rattle.cfn_record.specs.Entries.{Entry, Took, Gave, Freed, CalledBack, Swept, Follows, IsAlike, IsSame}
 use Rattle.cfn_record.specs.Laws.{FollowsNumbered, OneRun, OneEnd}
 use Rattle.cfn_record.proofs.Following.{seen_after, left_by, follows_too, seen_is}
 

@@ -1,22 +1,22 @@
 -- Worked examples on tiny: the record of a search that may make no node, and records that are refused.
-use Rattle.std.proofs.Common.{◌≡◌, ℕ, zero, suc, ◌+◌, ◌<◌, ◌≤◌, inl, inr, List, [], ◌∷◌, ◌++◌, refl, ap, sym, subst, ◌∙◌, arith, append_assoc, lit<, lit≤}
+use Rattle.std.proofs.Common.{◌≡◌, ℕ, zero, suc, ◌<◌, ◌≤◌, inl, inr, List, [], ◌∷◌, ◌++◌, refl, ap, sym, subst, ◌∙◌, arith, append_assoc, lit<, lit≤}
 use Rattle.std.specs.Fmt.{digits}
-use Rattle.std.specs.Prelude.{codes, Some, None, slice_index, IsFalse}
+use Rattle.std.specs.Prelude.{codes, None, slice_index, IsFalse}
 use Rattle.std.specs.List.{AllByRecursion}
 use Rattle.cfn_model.specs.Sums.{floor, is_live}
 use Rattle.cfn_model.specs.Tree.{Tree, Open, Closed, Split}
 use Rattle.cfn_model.specs.Certificate.{Good}
 use Rattle.cfn_model.specs.Text.{spelling}
 use Rattle.cfn_model.proofs.CallerLemmas.{tiny}
-use Rattle.cfn_fault.specs.Nodes.{LeavesOpen, Closes, ItemFollows}
+use Rattle.cfn_fault.specs.Nodes.{Closes, ItemFollows}
 use Rattle.cfn_fault.specs.Lines as lines
-use Rattle.cfn_machine.specs.Pool.{Free, Out, Leaf, Shut, Task, Piece, Pool}
+use Rattle.cfn_machine.specs.Pool.{Out, Leaf, Shut, tree_of, Task, Piece, Pool}
 use Rattle.cfn_machine.specs.Steps.{pool_swept, pool_recalled}
 use Rattle.cfn_record.specs.declared.kind.RecordFault.TheVariants as kinds
-use Rattle.cfn_record.specs.Entries.{Entry, Took, Gave, Freed, CalledBack, Swept, Follows, Runs}
+use Rattle.cfn_record.specs.Entries.{Entry, Took, Gave, CalledBack, Swept, Follows, Runs}
 use Rattle.cfn_record.specs.Lines.{Record, RecordLine, Heading, Budget, Take, Give, Back, Recall, Sweep, Says, bytes_of, text_of, IsSpelledLine, lines_of_tree, lines_of_entries, lines_of_best, lines_of, AtHeading, AtNumbers, AtBudget, AtEvents, AtEnd, AtOver, EndFollows, HeadingFollows, NumbersFollow, BudgetFollows, TakeFollows, GiveFollows, BackFollows, RecallFollows, SweepFollows, NodeLineFollows, NoBestFollows}
 use Rattle.cfn_record.specs.Replaying.{opening, certificate_of, GoodRecord}
-use Rattle.cfn_record.specs.Fault.{Comes, StandsFirst, IsGranted, GivesGranted, NotGranted, SeenAbove, AllPass, Passes, Fault, ByGrammar, ByLine}
+use Rattle.cfn_record.specs.Fault.{ComesTo, StandsFirst, KeepsGrant, PieceKeepsGrant, BreaksGrant, SeenAbove, AllPass, Passes, Fault, ByGrammar, ByLine}
 use Rattle.cfn_record.proofs.Repeating.{one_end}
 use Rattle.cfn_record.proofs.Spelling.{some_bytes}
 use Rattle.cfn_record.proofs.Reading.{one_tree}
@@ -39,8 +39,9 @@ tiny_end = pool_swept tiny (pool_recalled (pool_swept tiny (opening tiny 0) 10))
 tiny_run : Runs tiny (opening tiny 0) tiny_entries tiny_end
 tiny_run = (pool_swept tiny (opening tiny 0) 10, (refl, lit≤ tt), (pool_recalled (pool_swept tiny (opening tiny 0) 10), refl, (tiny_end, (refl, lit≤ tt), refl)))
 
-pub tiny_ends : (new : Pool) → Runs tiny (opening tiny 0) tiny_entries new → new.tree ≡ Leaf 0 Free []
-tiny_ends new run = (one_end tiny 128 128 0 tiny_entries tiny_end new tiny_run run).tree
+-- the tree is one open leaf with an empty block
+pub tiny_ends : (new : Pool) → Runs tiny (opening tiny 0) tiny_entries new → tree_of new.tree ≡ Open []
+tiny_ends new run = ap tree_of (one_end tiny 128 128 0 tiny_entries tiny_end new tiny_run run).tree
 
 pub tiny_certificate : spelling (certificate_of tiny None (Open [])) ≡ codes "wcspcert 2\nnetwork 1 1 10\nlower 0\nbest none\ntree\nopen\nend\n"
 unfolding digits
@@ -65,7 +66,7 @@ begun : (budget : ℕ) (ls : List RecordLine) (rest : List ℕ) → budget ≤ 1
 begun budget ls rest low run =
     (AtNumbers, record { spelled = tt; follows = HeadingFollows; right = tt }, (AtBudget, record { spelled = (lit≤ tt, lit≤ tt, lit≤ tt); follows = NumbersFollow; right = (refl, refl, refl) }, (AtEvents [], record { spelled = (omega arith, tt); follows = BudgetFollows; right = tt }, run)))
 
-comes : (budget : ℕ) (entries : List Entry) (pool : Pool) (ls : List RecordLine) → Runs tiny (opening tiny budget) entries pool → head budget ls ≡ head budget (lines_of_entries entries ++ []) → Comes tiny (head budget ls) [] pool
+comes : (budget : ℕ) (entries : List Entry) (pool : Pool) (ls : List RecordLine) → Runs tiny (opening tiny budget) entries pool → head budget ls ≡ head budget (lines_of_entries entries ++ []) → ComesTo tiny (head budget ls) [] pool
 comes budget entries pool ls run is = record { variables = 1; functions = 1; upper = 10; budget = budget; entries = entries; lines_are = is; run = run }
 
 -- a threshold seen that is above the one before
@@ -79,7 +80,7 @@ sweep_11_is_refused =
     let sweep : Passes tiny (head 0 []) (AtEvents []) (Sweep 10) (text_of (Recall ∷ []) ++ codes "sweep 11\nbest none\nend\n") (AtEvents []) =
     record { spelled = (lit≤ tt, tt); follows = SweepFollows; right = record { pool = opening tiny 0; comes = comes 0 [] (opening tiny 0) [] refl refl; such = lit≤ tt } } in
     let right = begun 0 (Sweep 10 ∷ Recall ∷ []) (codes "sweep 11\nbest none\nend\n") (lit≤ tt) (AtEvents [], sweep, (AtEvents [], record { spelled = tt; follows = RecallFollows; right = tt }, refl)) in
-    let here : Comes tiny (head 0 (Sweep 10 ∷ Recall ∷ [])) [] (pool_recalled swept) = comes 0 (Swept 10 ∷ CalledBack ∷ []) (pool_recalled swept) (Sweep 10 ∷ Recall ∷ []) (swept, (refl, lit≤ tt), (pool_recalled swept, refl, refl)) refl in
+    let here : ComesTo tiny (head 0 (Sweep 10 ∷ Recall ∷ [])) [] (pool_recalled swept) = comes 0 (Swept 10 ∷ CalledBack ∷ []) (pool_recalled swept) (Sweep 10 ∷ Recall ∷ []) (swept, (refl, lit≤ tt), (pool_recalled swept, refl, refl)) refl in
     ByLine (codes "sweep 11\nbest none\nend\n") (codes "best none\nend\n") (head 0 (Sweep 10 ∷ Recall ∷ [])) (AtEvents []) (Sweep 11) (record { text = refl; right = right }) ((lit≤ tt, tt), AtEvents [], SweepFollows) refl
     (refl, record { pool = pool_recalled swept; comes = here; such = lit< tt }) refl
 
@@ -146,7 +147,7 @@ take_passes more = record {
 after_take : (rest : List ℕ) → AllPass tiny [] AtHeading (head 1 (take_line ∷ [])) rest (AtEvents [])
 after_take rest = begun 1 (take_line ∷ []) rest (lit≤ tt) (AtEvents [], take_passes (text_of [] ++ rest), refl)
 
-taken_comes : Comes tiny (head 1 (take_line ∷ [])) [] taken
+taken_comes : ComesTo tiny (head 1 (take_line ∷ [])) [] taken
 taken_comes = comes 1 (Took 0 1 0 1 ∷ []) taken (take_line ∷ []) (taken, take_follows, refl) refl
 
 -- a piece that has no split and no closed leaf
@@ -155,7 +156,7 @@ unfolding digits
 give_is_refused =
     ByLine (codes "give 0 0 1 10 11\nopen\n") (codes "open\n") (head 1 (take_line ∷ [])) (AtEvents []) (Give 0 0 1 10 11) (record { text = refl; right = after_take (codes "give 0 0 1 10 11\nopen\n") })
     ((lit≤ tt, (lit≤ tt, (lit≤ tt, (lit≤ tt, (lit≤ tt, tt))))), AtEvents ([] ∷ []), GiveFollows) refl
-    (NotGranted taken taken_comes refl (Open []) (record { spelled = (tt, tt); rest = []; text = refl }) (λ granted. (let some = granted.0 in absurd (omega (arith, some))))) refl
+    (BreaksGrant taken taken_comes refl (Open []) (record { spelled = (tt, tt); rest = []; text = refl }) (λ granted. (let some = granted.0 in absurd (omega (arith, some))))) refl
 
 some_lines : (tree : Tree) → lines_of_tree tree ≡ [] → ⊥
 some_lines (Open []) e = absurd cc
@@ -182,6 +183,7 @@ seen_is_refused =
     ByLine (codes "give 0 0 1 10 11\n") [] (head 1 (take_line ∷ [])) (AtEvents []) (Give 0 0 1 10 11) (record { text = refl; right = after_take (codes "give 0 0 1 10 11\n") })
     ((lit≤ tt, (lit≤ tt, (lit≤ tt, (lit≤ tt, (lit≤ tt, tt))))), AtEvents ([] ∷ []), GiveFollows) refl
     (SeenAbove taken taken_comes refl ([], (refl, refl, refl)) (λ tree stands. absurd (no_tree tree stands)) (λ sees. (let low = sees.0 in absurd (omega (arith, low))))) refl
+
 -- a leaf that is closed where it may not be closed
 abbrev closed_piece : Piece
 closed_piece = record { task = first_task; tree = Closed []; threshold = 10 }
@@ -205,8 +207,8 @@ closed_is_bad good = elim (good.valid.1) [
     by_variable zero lt none = (let e = none 0 (lit< tt) in absurd (cc))
     by_variable (suc x) lt none = absurd (omega arith)
 
-closed_granted : (rest : List ℕ) → GivesGranted (text_of (lines_of_tree (Closed [])) ++ rest) 1
-closed_granted rest tree stands = let same : Closed [] ≡ tree = one_tree (Closed []) tree rest stands.rest (tt, tt) stands.spelled stands.text in subst (IsGranted 1) same (lit≤ tt, lit≤ tt)
+closed_granted : (rest : List ℕ) → PieceKeepsGrant (text_of (lines_of_tree (Closed [])) ++ rest) 1
+closed_granted rest tree stands = let same : Closed [] ≡ tree = one_tree (Closed []) tree rest stands.rest (tt, tt) stands.spelled stands.text in subst (KeepsGrant 1) same (lit≤ tt, lit≤ tt)
 
 -- lines up to the end, each right
 abbrev closed_lines : List RecordLine
@@ -246,5 +248,5 @@ certificate_is_refused =
         ),
       ),
     ) in
-    let here : Comes tiny front (lines_of_best None) closed = record { variables = 1; functions = 1; upper = 10; budget = 1; entries = Took 0 1 0 1 ∷ Gave 0 0 1 10 10 (Closed []) ∷ []; lines_are = refl; run = closed_run } in
+    let here : ComesTo tiny front (lines_of_best None) closed = record { variables = 1; functions = 1; upper = 10; budget = 1; entries = Took 0 1 0 1 ∷ Gave 0 0 1 10 10 (Closed []) ∷ []; lines_are = refl; run = closed_run } in
     ByLine (codes "end\n") [] front AtEnd (Says lines.End) (record { text = refl; right = right }) (tt, AtOver, EndFollows) refl (refl, record { best = None; pool = closed; comes = here; bad = closed_is_bad }) refl

@@ -1,14 +1,14 @@
 -- The record of a search is good, and comes to the search's own tree.
-use Rattle.std.proofs.Common.{◌≡◌, ℕ, ◌≤◌, List, [], ◌∷◌, ◌++◌, refl, sym, ap, ◌∙◌, subst, arith}
+use Rattle.std.proofs.Common.{◌≡◌, List, [], ◌∷◌, ◌++◌, refl, sym, ap, ◌∙◌, subst, arith}
 use Rattle.std.specs.Prelude.{Option, Some, None}
 use Rattle.cfn_model.specs.Network.{Network}
-use Rattle.cfn_model.specs.Tree.{Tree, Valid}
-use Rattle.cfn_model.specs.Certificate.{Solution, threshold_of}
+use Rattle.cfn_model.specs.Tree.{Valid}
+use Rattle.cfn_model.specs.Certificate.{threshold_of}
 use Rattle.cfn_machine.specs.Pool.{Pool, View, tree_of, opening_pool}
-use Rattle.cfn_machine.specs.Steps.{PoolSteps, Sweeps, Move, PoolRuns}
+use Rattle.cfn_machine.specs.Steps.{PoolSteps, Move, PoolRuns}
 use Rattle.cfn_machine.proofs.Keeping.{holds, opens}
 use Rattle.cfn_record.specs.Entries.{Entry, Swept, Follows, Runs, entry_of, with_entry, entries_of}
-use Rattle.cfn_record.specs.Replaying.{opening, GoodRecord, sweep_at}
+use Rattle.cfn_record.specs.Replaying.{opening, sweep_at}
 use Rattle.cfn_record.specs.Laws.{SearchIsRecorded}
 use Rattle.cfn_record.proofs.Following.{moves_follow, seen_is}
 
@@ -40,8 +40,7 @@ search_is_recorded P shares budget moves best new network fits run =
     let last = last_step P (opening_pool P shares budget) new moves (sweep_at P best) run in
     let seen : new.view.seen ≡ k = ap (λ (p : Pool). p.view.seen) last.1 in
     let sound = holds P (opening_pool P shares budget) new all (opens P shares budget network) run in
-    let valid : Valid P [] (tree_of left.tree) k = subst (λ t. Valid P [] (tree_of t) k) (sym followed.2.tree) (subst (λ x. Valid P [] (tree_of new.tree) x) seen sound.sound.valid) in
-    (
+    let valid : Valid P [] (tree_of left.tree) k = subst (λ t. Valid P [] (tree_of t) k) (sym followed.2.tree) (subst (λ x. Valid P [] (tree_of new.tree) x) seen sound.sound.valid) in (
       record {
         variables = refl;
         functions = refl;

@@ -1,5 +1,5 @@
 -- Lines and their words, as bytes: each line has one spelling.
-use Rattle.std.proofs.Common.{◌≡◌, ℕ, zero, suc, ◌<◌, ◌≤◌, inl, inr, Bool, true, false, List, [], ◌∷◌, ◌++◌, refl, sym, ap, ap₂, subst, ◌∙◌, arith, append_assoc}
+use Rattle.std.proofs.Common.{◌≡◌, ℕ, inl, inr, Bool, true, false, List, [], ◌∷◌, ◌++◌, refl, sym, ap, ap₂, subst, ◌∙◌, append_assoc}
 use Rattle.std.proofs.lemmas.Bool.{cases_Bool, and_parts}
 use Rattle.std.proofs.lemmas.Slice.Eq.{bytes_eq-Decides}
 use Rattle.std.specs.Prelude.{Option, Some, None, map, decimal, codes, not, ◌==◌, if◌then◌else◌}
@@ -8,10 +8,10 @@ use Rattle.std.specs.Str.{bytes_eq}
 use Rattle.cfn_model.specs.declared.step.Step.TheVariants.{Project, Extend, Lift, CutValue, CutTuple}
 use Rattle.cfn_model.specs.declared.step.Decision.TheVariants.{Is, Most}
 use Rattle.cfn_model.specs.Text.{line}
-use Rattle.cfn_fault.specs.Nodes.{Item, Makes, LeavesOpen, Closes, Splits}
+use Rattle.cfn_fault.specs.Nodes.{Makes, LeavesOpen, Closes, Splits}
 use Rattle.cfn_fault.specs.Lines as lines
 use Rattle.cfn_fault.specs.Lines.{Line, Version, Numbers, Lower, NoBest, Best, Values, Root, Node, End}
-use Rattle.cfn_fault.specs.Decoding.{◌>>=◌, words_in, word_from, numeral, numbers_in, at_end, line_by, line_of}
+use Rattle.cfn_fault.specs.Decoding.{◌>>=◌, words_in, numeral, numbers_in, at_end, line_by, line_of}
 use Rattle.cfn_fault.proofs.CallerLemmas.{HasNoEnd, IsClean, decimal_clean, front_of, fronted, inside_front, line_of_front, numeral_is, numeral_of_decimal, said_by, says, words_back}
 use Rattle.cfn_record.specs.Lines.{RecordLine, Heading, Budget, Take, Give, Back, Recall, Sweep, Says, words_of, bytes_of, text_of, AreSpelled, IsSpelledLine}
 use Rattle.cfn_record.specs.Decoding.{heading_line, budget_of, take_of, give_of, back_of, sweep_of, numbers_line, certificate_line, line_said_by, line_said}

@@ -1,5 +1,5 @@
 -- A record of what was done to the pool of open leaves, and the pool that it makes of another one.
-use Rattle.std.specs.Prelude.{◌≡◌, ℕ, ◌≤◌, List, [], ◌∷◌, ◌++◌, Option, Some, None}
+use Rattle.std.specs.Prelude.{◌≡◌, ℕ, ◌≤◌, List, [], ◌∷◌, Option, Some, None}
 use Rattle.cfn_model.specs.Network.{Network}
 use Rattle.cfn_model.specs.Tree.{Tree, count}
 use Rattle.cfn_machine.specs.Pool.{Task, Piece, Pool}

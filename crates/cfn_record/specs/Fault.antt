@@ -14,8 +14,9 @@ use Rattle.cfn_record.specs.Entries.{Entry, Took, Follows, Runs}
 use Rattle.cfn_record.specs.Lines.{RecordLine, Heading, Budget, Take, Give, Back, Recall, Sweep, Says, bytes_of, text_of, IsSpelledLine, lines_of_tree, lines_of_entries, lines_of_best, State, AtHeading, AtOver, LineFollows}
 use Rattle.cfn_record.specs.Replaying.{opening, certificate_of}
 
--- What lines say that are the first three, those of some entries, and others behind them: the entries make this pool of the opening.
-pub record Comes (P : Network) (front others : List RecordLine) (pool : Pool) : Type 0 where
+-- Some lines come to a pool: they are the first three, those of some entries, and others behind them, and the entries make that pool of
+-- the opening.
+pub record ComesTo (P : Network) (front others : List RecordLine) (pool : Pool) : Type 0 where
   pub variables : ℕ
   pub functions : ℕ
   pub upper : ℕ
@@ -24,10 +25,10 @@ pub record Comes (P : Network) (front others : List RecordLine) (pool : Pool) : 
   pub lines_are : front ≡ Heading ∷ Says (lines.Numbers variables functions upper) ∷ Budget budget ∷ (lines_of_entries entries ++ others)
   pub run : Runs P (opening P budget) entries pool
 
--- The pool that lines come to is such a one.
+-- Lines of events come to such a pool.
 pub record PoolIs (P : Network) (front : List RecordLine) (IsSuch : Pool → Type 0) : Type 0 where
   pub pool : Pool
-  pub comes : Comes P front [] pool
+  pub comes : ComesTo P front [] pool
   pub such : IsSuch pool
 
 -- A leaf is out to a worker with a grant.
@@ -41,12 +42,12 @@ pub record StandsFirst (bytes : List ℕ) (tree : Tree) : Type 0 where
   pub text : bytes ≡ text_of (lines_of_tree tree) ++ rest
 
 -- A tree has 1 to grant split and closed nodes.
-abbrev pub IsGranted : ℕ → Tree → Type 0
-IsGranted grant tree = (1 ≤ count tree) × (count tree ≤ grant)
+abbrev pub KeepsGrant : ℕ → Tree → Type 0
+KeepsGrant grant tree = (1 ≤ count tree) × (count tree ≤ grant)
 
--- So has each whole piece that stands in front of the bytes.
-abbrev pub GivesGranted : List ℕ → ℕ → Type 0
-GivesGranted bytes grant = (tree : Tree) → StandsFirst bytes tree → IsGranted grant tree
+-- Where the lines of a whole piece stand in front of the bytes, it has so many.
+abbrev pub PieceKeepsGrant : List ℕ → ℕ → Type 0
+PieceKeepsGrant bytes grant = (tree : Tree) → StandsFirst bytes tree → KeepsGrant grant tree
 
 -- What is seen at a give is at most the piece's threshold and what was seen before.
 abbrev pub IsSeen : Pool → ℕ → ℕ → Type 0
@@ -56,16 +57,16 @@ IsSeen pool threshold seen = (seen ≤ threshold) × (seen ≤ pool.view.seen)
 -- stand behind, and what it saw it could see.
 pub record GivePasses (P : Network) (front : List RecordLine) (more : List ℕ) (worker leaf grant threshold seen : ℕ) : Type 0 where
   pub pool : Pool
-  pub comes : Comes P front [] pool
+  pub comes : ComesTo P front [] pool
   pub out : IsOutTo pool worker leaf grant
-  pub granted : GivesGranted more grant
+  pub granted : PieceKeepsGrant more grant
   pub sees : IsSeen pool threshold seen
 
 -- The certificate that the lines come to is good.
 pub record ComesToGood (P : Network) (front : List RecordLine) : Type 0 where
   pub best : Option Solution
   pub pool : Pool
-  pub comes : Comes P front (lines_of_best best) pool
+  pub comes : ComesTo P front (lines_of_best best) pool
   pub good : Good P (certificate_of P best (tree_of pool.tree))
 
 -- The three numbers of a line are those of the network.
@@ -94,15 +95,15 @@ LinePasses P front more (Says l) = SaidPasses P front l
 -- A give is wrong behind these lines. Its leaf is not out to the worker with the grant; or all lines of its piece stand behind, and it has
 -- another number of split and closed nodes; or neither, and it saw what it could not see.
 pub data GiveFails (P : Network) (front : List RecordLine) (more : List ℕ) (worker leaf grant threshold seen : ℕ) (kind : RecordFault) : Type 0 where
-  NotOut : (pool : Pool) → Comes P front [] pool → kind ≡ kinds.Give → (IsOutTo pool worker leaf grant → ⊥) → GiveFails P front more worker leaf grant threshold seen kind
-  NotGranted : (pool : Pool) → Comes P front [] pool → kind ≡ kinds.Give → (tree : Tree) → StandsFirst more tree → (IsGranted grant tree → ⊥) → GiveFails P front more worker leaf grant threshold seen kind
-  SeenAbove : (pool : Pool) → Comes P front [] pool → kind ≡ kinds.Seen → IsOutTo pool worker leaf grant → GivesGranted more grant → (IsSeen pool threshold seen → ⊥) → GiveFails P front more worker leaf grant threshold seen kind
+  NotOut : (pool : Pool) → ComesTo P front [] pool → kind ≡ kinds.Give → (IsOutTo pool worker leaf grant → ⊥) → GiveFails P front more worker leaf grant threshold seen kind
+  BreaksGrant : (pool : Pool) → ComesTo P front [] pool → kind ≡ kinds.Give → (tree : Tree) → StandsFirst more tree → (KeepsGrant grant tree → ⊥) → GiveFails P front more worker leaf grant threshold seen kind
+  SeenAbove : (pool : Pool) → ComesTo P front [] pool → kind ≡ kinds.Seen → IsOutTo pool worker leaf grant → PieceKeepsGrant more grant → (IsSeen pool threshold seen → ⊥) → GiveFails P front more worker leaf grant threshold seen kind
 
 -- The certificate that the lines come to is not good.
 pub record ComesToBad (P : Network) (front : List RecordLine) : Type 0 where
   pub best : Option Solution
   pub pool : Pool
-  pub comes : Comes P front (lines_of_best best) pool
+  pub comes : ComesTo P front (lines_of_best best) pool
   pub bad : Good P (certificate_of P best (tree_of pool.tree)) → ⊥
 
 -- A line that certificates have too is wrong behind these lines, with a kind.

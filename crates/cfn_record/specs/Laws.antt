@@ -14,7 +14,7 @@ use Rattle.cfn_record.specs.Entries.{Entry, Follows, Runs, entry_of, entries_of,
 use Rattle.cfn_record.specs.declared.kind.RecordFault.{RecordFault}
 use Rattle.cfn_record.specs.Lines.{Record, RecordLine, Spells, State, AtEvents, AtOver, bytes_of, text_of, said, lines_of_entry, IsSpelledLine}
 use Rattle.cfn_record.specs.Replaying.{GoodRecord, record_of, sweep_at}
-use Rattle.cfn_record.specs.Fault.{Comes, StandsFirst, Passes, HasPassed, NoneComes, Fault}
+use Rattle.cfn_record.specs.Fault.{ComesTo, StandsFirst, Passes, HasPassed, NoneComes, Fault}
 
 -- What is recorded of a legal step can be done to every pool that is alike, and the pools are alike behind it. Where nothing is recorded,
 -- they stay alike.
@@ -65,8 +65,8 @@ OneMorePasses = (P : Network) (bytes rest more : List ℕ) (front : List RecordL
 
 -- An entry that can be done leaves all right behind its lines, and the lines come to the pool that it leaves.
 abbrev pub EntryPasses : Type 0
-EntryPasses = (P : Network) (bytes more : List ℕ) (front : List RecordLine) (pool new : Pool) (entry : Entry) → HasPassed P bytes (text_of (lines_of_entry entry) ++ more) front (AtEvents []) → Comes P front [] pool → Follows P pool entry new
-    → AllByRecursion IsSpelledLine (lines_of_entry entry) → HasPassed P bytes more (front ++ lines_of_entry entry) (AtEvents []) × Comes P (front ++ lines_of_entry entry) [] new
+EntryPasses = (P : Network) (bytes more : List ℕ) (front : List RecordLine) (pool new : Pool) (entry : Entry) → HasPassed P bytes (text_of (lines_of_entry entry) ++ more) front (AtEvents []) → ComesTo P front [] pool → Follows P pool entry new
+    → AllByRecursion IsSpelledLine (lines_of_entry entry) → HasPassed P bytes more (front ++ lines_of_entry entry) (AtEvents []) × ComesTo P (front ++ lines_of_entry entry) [] new
 
 -- Where a piece's lines stop before its last one, and no line stands behind them that may come, no whole piece stands there.
 abbrev pub NoWholePiece : Type 0
@@ -75,4 +75,4 @@ NoWholePiece = (ls : List Line) (path : List Event) (paths : List (List Event)) 
 
 -- Lines that come to one pool come to no other, as far as tree, numbers, budget, nodes and the threshold seen go.
 abbrev pub ComesOnce : Type 0
-ComesOnce = (P : Network) (front : List RecordLine) (pool other : Pool) → Comes P front [] pool → Comes P front [] other → IsSame pool other
+ComesOnce = (P : Network) (front : List RecordLine) (pool other : Pool) → ComesTo P front [] pool → ComesTo P front [] other → IsSame pool other

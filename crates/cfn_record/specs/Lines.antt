@@ -33,7 +33,7 @@ pub data RecordLine : Type 0 where
   Sweep : (seen : ℕ) → RecordLine
   Says : (l : Line) → RecordLine
 
--- The words of a line, and its bytes.
+-- The words of a line.
 abbrev pub words_of : RecordLine → List (List ℕ)
 words_of Heading = codes "wcsprecord" ∷ codes "1" ∷ []
 words_of (Budget budget) = codes "budget" ∷ decimal budget ∷ []
@@ -44,6 +44,7 @@ words_of Recall = codes "recall" ∷ []
 words_of (Sweep seen) = codes "sweep" ∷ decimal seen ∷ []
 words_of (Says l) = lines.words_of l
 
+-- The bytes of a line.
 abbrev pub bytes_of : RecordLine → List ℕ
 bytes_of l = line (words_of l)
 
@@ -66,13 +67,15 @@ IsSpelledLine Recall = Unit {0}
 IsSpelledLine (Sweep seen) = AreSpelled (seen ∷ [])
 IsSpelledLine (Says l) = lines.IsSpelledLine l
 
--- The lines of a record, in the order of the text. Behind a give stands the piece's tree, as in a certificate.
+-- Lines of a certificate, as lines of a record.
 abbrev pub said : List Line → List RecordLine
 said ls = map (λ l. Says l) ls
 
+-- The lines of a piece's tree are those of a certificate's.
 abbrev pub lines_of_tree : Tree → List RecordLine
 lines_of_tree tree = said (lines.lines_of_tree tree)
 
+-- The lines of an entry: one, and behind a give those of its piece.
 abbrev pub lines_of_entry : Entry → List RecordLine
 lines_of_entry (Took worker want leaf grant) = Take worker want leaf grant ∷ []
 lines_of_entry (Gave worker leaf grant threshold seen tree) = Give worker leaf grant threshold seen ∷ lines_of_tree tree
@@ -80,12 +83,15 @@ lines_of_entry (Freed worker leaf grant) = Back worker leaf grant ∷ []
 lines_of_entry CalledBack = Recall ∷ []
 lines_of_entry (Swept seen) = Sweep seen ∷ []
 
+-- The lines of entries, in their order.
 abbrev pub lines_of_entries : List Entry → List RecordLine
 lines_of_entries entries = flat_map lines_of_entry entries
 
+-- The lines of the best assignment are those of a certificate.
 abbrev pub lines_of_best : Option Solution → List RecordLine
 lines_of_best best = said (lines.lines_of_best best)
 
+-- The lines of a record, in the order of the text.
 abbrev pub lines_of : Record → List RecordLine
 lines_of r =
     Heading
