@@ -5,5 +5,6 @@ pub mod Parting
 pub mod Passing
 pub mod Reading
 pub mod Searching
+pub mod Judging
 pub mod Rows
 pub mod CallerLemmas

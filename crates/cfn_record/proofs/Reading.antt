@@ -32,15 +32,15 @@ use Rattle.cfn_record.proofs.Passing.{come_once, no_fault_behind}
 abbrev pub AllSpelled : List RecordLine → Type 0
 AllSpelled ls = AllByRecursion IsSpelledLine ls
 
-spelled_front : (a b : List RecordLine) → AllSpelled (a ++ b) → AllSpelled a
+pub spelled_front : (a b : List RecordLine) → AllSpelled (a ++ b) → AllSpelled a
 spelled_front [] b all = tt
 spelled_front (l ∷ a) b all = (all.0, spelled_front a b all.1)
 
-spelled_back : (a b : List RecordLine) → AllSpelled (a ++ b) → AllSpelled b
+pub spelled_back : (a b : List RecordLine) → AllSpelled (a ++ b) → AllSpelled b
 spelled_back [] b all = all
 spelled_back (l ∷ a) b all = spelled_back a b all.1
 
-text_append : (a b : List RecordLine) (rest : List ℕ) → text_of (a ++ b) ++ rest ≡ text_of a ++ (text_of b ++ rest)
+pub text_append : (a b : List RecordLine) (rest : List ℕ) → text_of (a ++ b) ++ rest ≡ text_of a ++ (text_of b ++ rest)
 text_append [] b rest = refl
 text_append (l ∷ a) b rest = append_assoc (bytes_of l) (text_of (a ++ b)) rest ∙ ap (λ x. bytes_of l ++ x) (text_append a b rest) ∙ sym (append_assoc (bytes_of l) (text_of a) (text_of b ++ rest))
 
@@ -68,7 +68,7 @@ module _ (P : Network) where
         second = subst (λ f. AllPass P f more.between b rest t) (append_assoc front (l ∷ []) a) more.second;
       }
 
-  all_spelled : (front : List RecordLine) (s t : State) (ls : List RecordLine) (rest : List ℕ) → AllPass P front s ls rest t → AllSpelled ls
+  pub all_spelled : (front : List RecordLine) (s t : State) (ls : List RecordLine) (rest : List ℕ) → AllPass P front s ls rest t → AllSpelled ls
   all_spelled front s t [] rest run = tt
   all_spelled front s t (l ∷ ls) rest run = (run.1.spelled, all_spelled (front ++ l ∷ []) run.0 t ls rest run.2)
 
@@ -368,4 +368,5 @@ whole_texts P bytes (l ∷ ls) passed =
       r,
       record { spelled = all_spelled P [] AtHeading AtOver (lines_of r) [] run; exact = passed.text ∙ append-nil (text_of (l ∷ ls)) ∙ ap text_of its },
       record { variables = numbers.0; functions = numbers.1; upper = numbers.2; pool = end.right.pool; run = comes.run; seen = seen; good = end.right.good },
+      sym its,
     )

@@ -1,5 +1,5 @@
 -- What a record of the pool's steps comes to.
-use Rattle.std.specs.Prelude.{◌≡◌, ℕ, List, [], ◌∷◌, ◌++◌, MatchOption, Option}
+use Rattle.std.specs.Prelude.{◌≡◌, ℕ, ◌⊎◌, List, [], ◌∷◌, ◌++◌, MatchOption, Option}
 use Rattle.std.specs.List.{AllByRecursion}
 use Rattle.cfn_model.specs.declared.step.Event.{Event}
 use Rattle.cfn_model.specs.declared.version.Version.TheVariants.{Second}
@@ -12,7 +12,7 @@ use Rattle.cfn_machine.specs.Pool.{Pool, AreNumbered, opening_pool}
 use Rattle.cfn_machine.specs.Steps.{PoolStep, PoolSteps, IsLegal, Move, PoolRuns}
 use Rattle.cfn_record.specs.Entries.{Entry, Follows, Runs, entry_of, entries_of, IsAlike, IsSame}
 use Rattle.cfn_record.specs.declared.kind.RecordFault.{RecordFault}
-use Rattle.cfn_record.specs.Lines.{Record, RecordLine, Spells, State, AtEvents, AtOver, bytes_of, text_of, said, lines_of_entry, IsSpelledLine}
+use Rattle.cfn_record.specs.Lines.{Record, RecordLine, Spells, State, AtEvents, AtOver, bytes_of, text_of, said, lines_of_entry, lines_of, IsSpelledLine}
 use Rattle.cfn_record.specs.Replaying.{GoodRecord, record_of, sweep_at}
 use Rattle.cfn_record.specs.Fault.{ComesTo, StandsFirst, Passes, HasPassed, NoneComes, Fault}
 
@@ -55,9 +55,13 @@ FaultsAreOne = (P : Network) (bytes : List ℕ) (l m : ℕ) (kind other : Record
 abbrev pub NoFaultWhereGood : Type 0
 NoFaultWhereGood = (P : Network) (bytes : List ℕ) (r : Record) (l : ℕ) (kind : RecordFault) → Spells r bytes → GoodRecord P r → Fault P bytes l kind → ⊥
 
--- Where all lines of a text are right, it spells a good record.
+-- Every text spells a good record, or has a fault.
+abbrev pub GoodOrFault : Type 0
+GoodOrFault = (P : Network) (bytes : List ℕ) → ((r : Record) × Spells r bytes × GoodRecord P r) ⊎ ((l : ℕ) × (kind : RecordFault) × Fault P bytes l kind)
+
+-- Where all lines of a text are right, they are those of a good record that it spells.
 abbrev pub WholeTexts : Type 0
-WholeTexts = (P : Network) (bytes : List ℕ) (ls : List RecordLine) → HasPassed P bytes [] ls AtOver → (r : Record) × Spells r bytes × GoodRecord P r
+WholeTexts = (P : Network) (bytes : List ℕ) (ls : List RecordLine) → HasPassed P bytes [] ls AtOver → (r : Record) × Spells r bytes × GoodRecord P r × (lines_of r ≡ ls)
 
 -- One right line more leaves all right.
 abbrev pub OneMorePasses : Type 0

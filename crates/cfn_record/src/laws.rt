@@ -1,6 +1,6 @@
 //! The laws that the definitions have, each the contract of a function with nothing to do.
 
-ghost use Rattle.cfn_record.specs.Laws.{ComesOnce, EntryPasses, FaultsAreOne, FollowsNumbered, MovesFollow, NoFaultWhereGood, NoWholePiece, OneEnd, OneMorePasses, OneRecord, OneRun, SearchIsRecorded, StepFollows, WholeTexts};
+ghost use Rattle.cfn_record.specs.Laws.{ComesOnce, EntryPasses, FaultsAreOne, FollowsNumbered, GoodOrFault, MovesFollow, NoFaultWhereGood, NoWholePiece, OneEnd, OneMorePasses, OneRecord, OneRun, SearchIsRecorded, StepFollows, WholeTexts};
 
 /// What is recorded of a legal step, and of a list of them, can be done to every pool that is alike, and leaves alike ones. So the record of a
 /// search whose last step is a sweep at the cost of its best assignment is good, and comes to the search's own tree.
@@ -18,10 +18,11 @@ pub fn one_run()
     ensures end { OneEnd }
 {}
 
-/// For every network and all bytes: they spell one record at most; where that is good, no line fails; and one line fails first at most, in
-/// one way.
+/// For every network and all bytes exactly one holds: the bytes spell a good record, or they have a fault, at one line and of one kind. They
+/// spell one record at most.
 pub fn texts()
     ensures one { OneRecord }
+    ensures some { GoodOrFault }
     ensures not_both { NoFaultWhereGood }
     ensures one_fault { FaultsAreOne }
 {}

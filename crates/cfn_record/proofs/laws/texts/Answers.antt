@@ -1,3 +1,4 @@
+use Rattle.cfn_record.proofs.Judging.{good_or_fault_record}
 use Rattle.cfn_record.proofs.Parting.{one_record}
 use Rattle.cfn_record.proofs.Passing.{faults_are_one}
 use Rattle.cfn_record.proofs.Reading.{no_fault_where_good}
@@ -11,3 +12,6 @@ returns-clause-not_both c = no_fault_where_good
 
 pub returns-clause-one_fault : goal.returns-clause-one_fault
 returns-clause-one_fault c = faults_are_one
+
+pub returns-clause-some : goal.returns-clause-some
+returns-clause-some c = good_or_fault_record
