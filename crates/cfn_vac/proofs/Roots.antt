@@ -6,7 +6,7 @@ use Rattle.std.specs.Prelude.{Result, Ok, Err, IfOk}
 use Rattle.cfn_model.specs.declared.step.Step.TheVariants.{CutValue}
 use Rattle.cfn_model.specs.Network.{Network}
 use Rattle.cfn_consistency.specs.declared.deletion.Deletion.{Deletion}
-use Rattle.cfn_consistency.specs.Virtual.{Bans, without, IsDerivation, IsEmptied, IsClosedFamily}
+use Rattle.cfn_consistency.specs.Virtual.{Bans, without, IsDerivation, IsClosedFamily}
 use Rattle.cfn_store.specs.Standing.{Standing, history}
 use Rattle.cfn_gain.specs.declared.limits.Limits.{Limits}
 use Rattle.cfn_derivation.specs.Derived.{IsDerived, EmptiesLast, cuts_of}
@@ -45,21 +45,31 @@ closed_at P before after q bans deletions d same closed =
     subst (λ h. IsClosedFamily P h q bans) d.along (subst (λ N. IsClosedFamily N (history after) q bans) (d.network ∙ same) closed)
 
 pub emptied_at : (P : Network) (before after : Standing) (q : ℕ) (bans : Bans) (deletions : List Deletion) (x : ℕ) → IsDerived before after q bans deletions → before.network ≡ P → EmptiesLast after.network (history after) x
-    → IsEmptied P (without deletions (history before)) x
+    → EmptiesLast P (without deletions (history before)) x
 emptied_at P before after q bans deletions x d same last =
-    subst (λ h. IsEmptied P h x) d.along (subst (λ N. IsEmptied N (history after) x) (d.network ∙ same) last.emptied)
+    subst (λ h. EmptiesLast P h x) d.along (subst (λ N. EmptiesLast N (history after) x) (d.network ∙ same) last)
 
-ends_with : (P : Network) (q : ℕ) (bans : Bans) (limits : Limits) (before after : Standing) (deletions : List Deletion) (x : ℕ) (lifting : Lifting) → IsDerivation P (history before) q bans deletions → IsEmptied P (without deletions (history before)) x
+ends_with : (P : Network) (q : ℕ) (bans : Bans) (limits : Limits) (before after : Standing) (deletions : List Deletion) (x : ℕ) (lifting : Lifting) → IsDerivation P (history before) q bans deletions → EmptiesLast P (without deletions (history before)) x
     → LiftsBy P limits before after q deletions x lifting → EndsWith P q bans limits before after deletions lifting
 ends_with P q bans limits before after deletions x Lifted is empty by = record { variable = x; plan = by.0; is = record { derivation = is; emptied = empty; plan_is = by.1 }; tells = by.2 }
 ends_with P q bans limits before after deletions x Closed is empty by = absurd by.2
 ends_with P q bans limits before after deletions x (Blocked step demand capacity) is empty by = record { variable = x; plan = by.0; is = record { derivation = is; emptied = empty; plan_is = by.1 }; tells = by.2 }
 ends_with P q bans limits before after deletions x Spent is empty by = record { variable = x; plan = by.0; is = record { derivation = is; emptied = empty; plan_is = by.1 }; tells = by.2 }
 
-pub all_end : {E : Type 0} (P : Network) (q : ℕ) (bans : Bans) (limits : Limits) (before after : Standing) (deletions : List Deletion) (x : ℕ) (result : Result Lifting E) → IsDerivation P (history before) q bans deletions → IsEmptied P (without deletions (history before)) x
+pub all_end : {E : Type 0} (P : Network) (q : ℕ) (bans : Bans) (limits : Limits) (before after : Standing) (deletions : List Deletion) (x : ℕ) (result : Result Lifting E) → IsDerivation P (history before) q bans deletions → EmptiesLast P (without deletions (history before)) x
     → IfOk result (LiftsBy P limits before after q deletions x) → IfOk result (EndsWith P q bans limits before after deletions)
 all_end P q bans limits before after deletions x (Ok lifting) is empty by = ends_with P q bans limits before after deletions x lifting is empty by
 all_end P q bans limits before after deletions x (Err e) is empty by = tt
+
+-- the same, said of what the parts know
+pub ends_of : {E : Type 0} (P N M : Network) (s t now : Standing) (q : ℕ) (bans inner : Bans) (limits : Limits) (deletions listed : List Deletion) (x : ℕ) (result : Result Lifting E) → N ≡ P → M ≡ P → inner ≡ bans → t ≡ s → listed ≡ deletions
+    → IsDerivation N (history s) q inner deletions → EmptiesLast N (without deletions (history s)) x → IfOk result (LiftsBy M limits t now q listed x) → IfOk result (EndsWith P q bans limits s now deletions)
+ends_of P N M s t now q bans inner limits deletions listed x result n m b same list is empty by =
+    all_end P q bans limits s now deletions x result
+    (subst (λ (Q : Network). IsDerivation Q (history s) q bans deletions) n (subst (λ c. IsDerivation N (history s) q c deletions) b is))
+    (subst (λ (Q : Network). EmptiesLast Q (without deletions (history s)) x) n empty)
+    (subst (λ (Q : Network). IfOk result (LiftsBy Q limits s now q deletions x)) m
+    (subst (λ u. IfOk result (LiftsBy M limits u now q deletions x)) same (subst (λ l. IfOk result (LiftsBy M limits t now q l x)) list by)))
 
 -- a store that steps were added to, which take no value, is ready
 pub ready_then : (P : Network) (s now : Standing) (limits : Limits) → IsReady P s limits → Adds s now limits → ((y a : ℕ) → is_live (history now) y a ≡ is_live (history s) y a) → IsReady P now limits

@@ -5,7 +5,8 @@ use Rattle.cfn_model.specs.Network.{Network}
 use Rattle.cfn_model.specs.declared.step.Event.TheVariants.{Did}
 use Rattle.cfn_model.specs.Sums.{floor, lifted}
 use Rattle.cfn_consistency.specs.declared.deletion.Deletion.{Deletion}
-use Rattle.cfn_consistency.specs.Virtual.{Bans, scaled, without, IsDerivation, IsEmptied, IsPlan}
+use Rattle.cfn_consistency.specs.Virtual.{Bans, scaled, without, IsDerivation, IsPlan}
+use Rattle.cfn_derivation.specs.Derived.{EmptiesLast}
 use Rattle.cfn_store.specs.Standing.{Standing, history}
 use Rattle.cfn_gain.specs.declared.limits.Limits.{Limits}
 use Rattle.cfn_vac.specs.declared.lifter.Lifting.{Lifting}
@@ -28,10 +29,10 @@ Tells limits before after plan (Blocked step demand capacity) =
     IsRefusal before 1 plan (record { step = step; capacity = capacity }) × (demand ≡ amount_of step) × (after ≡ before)
 Tells limits before after plan Spent = (limits.steps < length before.block + length plan) × (after ≡ before)
 
--- A derivation empties x, and has a plan.
+-- A derivation ends with the deletion that empties x, before which no variable was empty, and has a plan.
 pub record IsPlanOf (P : Network) (s : Standing) (q : ℕ) (bans : Bans) (deletions : List Deletion) (x : ℕ) (plan : List Step) : Type 0 where
   pub derivation : IsDerivation P (history s) q bans deletions
-  pub emptied : IsEmptied P (without deletions (history s)) x
+  pub emptied : EmptiesLast P (without deletions (history s)) x
   pub plan_is : IsPlan P (history s) q deletions x plan
 
 -- Its steps, made with a factor, lift by that factor.

@@ -28,7 +28,7 @@ pub record IsReady (P : Network) (s : Standing) (limits : Limits) : Type 0 where
   pub within : length s.block ≤ limits.steps
   pub room : limits.steps + value_count P ≤ length s.block + s.spare
 
--- A derivation empties a variable, and lifting by its plan tells this.
+-- A derivation empties a variable by its last deletion, and lifting by its plan tells this.
 pub record HasPlan (P : Network) (q : ℕ) (bans : Bans) (limits : Limits) (before after : Standing) (deletions : List Deletion) (lifting : Lifting) : Type 0 where
   pub variable : ℕ
   pub plan : List Step

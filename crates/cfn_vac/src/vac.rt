@@ -8,12 +8,12 @@
 
 ghost use Rattle.std.specs.Prelude.{◌≡◌, ℕ, ◌+◌, ◌<◌, ◌≤◌, ◌⊎◌, true, false, length, IfOk, OnErr};
 ghost use Rattle.cfn_model.specs.Sums.{floor, is_live};
-ghost use Rattle.cfn_consistency.specs.Virtual.{IsDerivation, IsClosedFamily, IsEmptied, without};
+ghost use Rattle.cfn_consistency.specs.Virtual.{IsDerivation, IsClosedFamily, without};
 ghost use Rattle.cfn_consistency.specs.Consistency.{AreArcConsistent};
 ghost use Rattle.cfn_store.specs.Standing.{history};
 ghost use Rattle.cfn_gain.specs.Calls.{Adds};
 ghost use Rattle.cfn_derivation.specs.declared.deriver.Derived.TheVariants.{Closed, Emptied};
-ghost use Rattle.cfn_derivation.specs.Derived.{value_count, AllAlive};
+ghost use Rattle.cfn_derivation.specs.Derived.{value_count, AllAlive, EmptiesLast};
 ghost use Rattle.cfn_derivation.specs.Banned.{bans_of, NoneBanned};
 ghost use Rattle.cfn_derivation.specs.Watched.{IsWatched};
 ghost use Rattle.cfn_vac.specs.declared.vac.Attempt.TheVariants.{Rose, Banned};
@@ -322,7 +322,7 @@ fn derive(
     ensures derivation { IsDerivation deriver.old.network (history store.old) q (bans_of bans.now) deriver.new.deletions }
     ensures few { length deriver.new.deletions ≤ store.old.spare }
     ensures closed { result ≡ Closed → IsClosedFamily deriver.old.network (without deriver.new.deletions (history store.old)) q (bans_of bans.now) }
-    ensures emptied { (x : ℕ) → result ≡ Emptied x → IsEmptied deriver.old.network (without deriver.new.deletions (history store.old)) x }
+    ensures emptied { (x : ℕ) → result ≡ Emptied x → EmptiesLast deriver.old.network (without deriver.new.deletions (history store.old)) x }
     ensures deriver { deriver.new ≡ record deriver.old { deletions = deriver.new.deletions } }
     ensures same { store.new ≡ store.old }
 {
