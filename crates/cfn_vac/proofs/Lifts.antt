@@ -1,6 +1,8 @@
 -- Steps that can be made run, and a plan lifts once.
-use Rattle.std.proofs.Common.{◌≡◌, ℕ, ◌+◌, ◌*◌, ◌-◌, ◌<◌, ◌≤◌, inl, inr, List, [], ◌∷◌, ◌++◌, length, length-append, map, reverse, refl, sym, ap, ◌∙◌, subst, arith}
-use Rattle.std.proofs.lemmas.List.{map-append, length-map, length-reverse}
+use Rattle.std.proofs.Common.{◌≡◌, ◌⊎◌, ℕ, zero, suc, ◌+◌, ◌*◌, ◌-◌, ◌<◌, ◌≤◌, inl, inr, List, [], ◌∷◌, ◌++◌, length, length-append, map, reverse, refl, sym, ap, ◌∙◌, subst, arith}
+use Rattle.std.specs.Prelude.{slice_index_or, max, ◌/◌}
+use Rattle.std.proofs.lemmas.List.{map-append, length-map, length-reverse, get_or-reverse, reverse-reverse}
+use Rattle.std.proofs.Math.Nat.{le-div_iff_mul-le, mul-le-mul_left, le_trans}
 use Rattle.std.proofs.lemmas.Bool.{cases_eq}
 use Rattle.cfn_model.specs.declared.step.Step.{Step}
 use Rattle.cfn_model.specs.declared.step.Step.TheVariants.{Project, Extend, Lift, CutValue, CutTuple}
@@ -18,12 +20,12 @@ use Rattle.cfn_consistency.specs.declared.deletion.Source.{Source}
 use Rattle.cfn_consistency.specs.Virtual.{asked, scaled, gathering, Puts, ArePut, IsPlan}
 use Rattle.cfn_gain.specs.declared.limits.Limits.{Limits}
 use Rattle.cfn_gain.specs.Calls.{Adds}
-use Rattle.cfn_vac.specs.Running.{CanMake, CanMakeAll, with_steps, amount_of, IsRefusal}
+use Rattle.cfn_vac.specs.Running.{CanMake, CanMakeAll, with_steps, amount_of, AreWithin, IsFactor, IsRefusal}
 use Rattle.cfn_vac.specs.declared.run.Refusal.{Refusal}
 use Rattle.cfn_vac.specs.declared.lifter.Lifting.{Lifting}
-use Rattle.cfn_vac.specs.declared.lifter.Lifting.TheVariants.{Blocked}
+use Rattle.cfn_vac.specs.declared.lifter.Lifting.TheVariants.{Lifted, Closed, Blocked, Spent}
 use Rattle.cfn_gain.proofs.CallerLemmas.{adds_none}
-use Rattle.cfn_vac.specs.Lifts.{IsLifted, lifts, RisesBy, Tells}
+use Rattle.cfn_vac.specs.Lifts.{IsTried, IsLifted, lifts, RisesBy, TellsOf, Tells}
 use Rattle.cfn_vac.proofs.Running.{history_grown}
 
 allowed : (s : Standing) (k : ℕ) (step : Step) → CanMake s step → Allowed s.network (history s) k step
@@ -58,10 +60,11 @@ pub floor_after : (P : Network) (steps : List Step) (history : List Event) → f
 floor_after P [] history = omega arith
 floor_after P (step ∷ steps) history = let r = floor_after P steps (Did step ∷ history) in omega (arith, r)
 
-pub lifted_all : (s now : Standing) (factor : ℕ) (plan : List Step) → 0 < factor → RisesBy plan → now ≡ with_steps s (map (scaled factor) plan) → IsLifted s now plan
-lifted_all s now factor plan some rises is = record {
+pub lifted_all : (Fact : ℕ → Type 0) (s now : Standing) (factor : ℕ) (plan : List Step) → Fact factor → 0 < factor → RisesBy plan → now ≡ with_steps s (map (scaled factor) plan) → IsLifted Fact s now plan
+lifted_all Fact s now factor plan fact some rises is = record {
   factor = factor;
   some = some;
+  is = fact;
   made = is;
   rise = ap (λ (t : Standing). floor t.network (history t)) is ∙ ap (floor s.network) (history_grown s (map (scaled factor) plan)) ∙ floor_after s.network (map (scaled factor) plan) (history s) ∙ ap (λ n. n + floor s.network (history s)) (rises factor);
 }
@@ -117,5 +120,85 @@ made_adds s now limits factor steps all is room short =
 pub same_adds : (s now : Standing) (limits : Limits) → now ≡ s → Adds s now limits
 same_adds s now limits is = subst (λ t. Adds s t limits) (sym is) (adds_none s limits)
 
-pub blocked_tells : (s now : Standing) (limits : Limits) (factor : ℕ) (plan : List Step) (refusal : Refusal) (result : Lifting) → factor ≡ 1 → IsRefusal s factor plan refusal → now ≡ s → result ≡ Blocked refusal.step (amount_of refusal.step) refusal.capacity → Tells limits s now plan result
-blocked_tells s now limits factor plan refusal result one is same result_is = subst (Tells limits s now plan) (sym result_is) (subst (λ k. IsRefusal s k plan refusal) one is, refl, same)
+pub blocked_tells : (Fact : ℕ → Type 0) (s now : Standing) (limits : Limits) (factor : ℕ) (plan : List Step) (refusal : Refusal) (result : Lifting) → factor ≡ 1 → IsRefusal s factor plan refusal → now ≡ s → result ≡ Blocked refusal.number refusal.step (amount_of refusal.step) refusal.capacity → TellsOf Fact limits s now plan result
+blocked_tells Fact s now limits factor plan refusal result one is same result_is = subst (TellsOf Fact limits s now plan) (sym result_is) (subst (λ k. IsRefusal s k plan refusal) one is, refl, same)
+
+-- a step that is there is read with any default
+same_read : (steps : List Step) (k : ℕ) (d e : Step) → k < length steps → slice_index_or steps k d ≡ slice_index_or steps k e
+same_read [] k d e h = absurd (omega (arith, h))
+same_read (step ∷ steps) zero d e h = refl
+same_read (step ∷ steps) (suc k) d e h = same_read steps k d e (omega (arith, h))
+
+pub same_amount : (steps : List Step) (k amount : ℕ) (d e : Step) → k < length steps → amount ≡ amount_of (slice_index_or steps k d) → amount ≡ amount_of (slice_index_or steps k e)
+same_amount steps k amount d e h is = is ∙ ap amount_of (same_read steps k d e h)
+
+-- the greatest amount so far
+pub record IsGreatestYet (steps : List Step) (n greatest : ℕ) : Type 0 where
+  pub some : 0 < greatest
+  pub within : (k : ℕ) (d : Step) → k < n → amount_of (slice_index_or steps k d) ≤ greatest
+  pub reached : (greatest ≡ 1) ⊎ ((k : ℕ) × (k < n) × ((d : Step) → amount_of (slice_index_or steps k d) ≡ greatest))
+
+pub greatest_start : (steps : List Step) → IsGreatestYet steps 0 1
+greatest_start steps = record { some = omega arith; within = λ k d h. absurd (omega (arith, h)); reached = inl refl }
+
+pub greatest_more : (steps : List Step) (n greatest amount new : ℕ) → IsGreatestYet steps n greatest → ((d : Step) → amount ≡ amount_of (slice_index_or steps n d)) → new ≡ max amount greatest → IsGreatestYet steps (n + 1) new
+greatest_more steps n greatest amount new old is m = record {
+  some = (let some = old.some in omega (arith, m, some));
+  within = λ k d h. elim (cases_eq k n) [
+    | inl e ↦ (let a = is d in let b = ap (λ j. amount_of (slice_index_or steps j d)) e in omega (arith, m, a, b))
+    | inr e ↦ (let b = old.within k d (omega (arith, h, e)) in omega (arith, m, b))
+  ];
+  reached = elim (cases_eq new greatest) [
+    | inl e ↦ before e old.reached
+    | inr e ↦ inr (n, omega arith, λ d. (let a = is d in omega (arith, m, a, e)))
+  ];
+}
+  where
+    before : new ≡ greatest → (greatest ≡ 1) ⊎ ((k : ℕ) × (k < n) × ((d : Step) → amount_of (slice_index_or steps k d) ≡ greatest)) → (new ≡ 1) ⊎ ((k : ℕ) × (k < n + 1) × ((d : Step) → amount_of (slice_index_or steps k d) ≡ new))
+    before e (inl one) = inl (e ∙ one)
+    before e (inr at) = inr (at.0, (let h = at.1 in omega (arith, h)), λ d. at.2 d ∙ sym e)
+
+-- and how many times it goes into q
+times_within : (q greatest factor amount : ℕ) → 0 < greatest → factor ≤ q / greatest → amount ≤ greatest → factor * amount ≤ q
+times_within q greatest factor amount some le less = le_trans (mul-le-mul_left factor less) ((le-div_iff_mul-le some).0 le)
+
+pub factor_of : (steps : List Step) (n q greatest factor : ℕ) → length steps ≤ n → n ≤ length steps → IsGreatestYet steps n greatest → factor ≡ max (q / greatest) 1 → IsFactor q steps factor
+factor_of steps n q greatest factor all least g is = record {
+  some = omega (arith, is);
+  within = λ more k d h. times_within q greatest factor (amount_of (slice_index_or steps k d)) g.some (omega (arith, is, more)) (g.within k d (omega (arith, h, all)));
+  most = λ more le fits. (let low = (le-div_iff_mul-le g.some).1 (reach more le fits g.reached) in omega (arith, is, low));
+}
+  where
+    reach : (more : ℕ) → more ≤ q → AreWithin q steps more → (greatest ≡ 1) ⊎ ((k : ℕ) × (k < n) × ((d : Step) → amount_of (slice_index_or steps k d) ≡ greatest)) → more * greatest ≤ q
+    reach more le fits (inl one) = subst (λ m. more * m ≤ q) (sym one) (omega (arith, le))
+    reach more le fits (inr at) = subst (λ m. more * m ≤ q) (at.2 (Lift 0 0)) (fits at.0 (Lift 0 0) (let h = at.1 in omega (arith, h, least)))
+
+-- in whichever order the steps stand
+within_reverse : (q factor : ℕ) (steps : List Step) → AreWithin q steps factor → AreWithin q (reverse steps) factor
+within_reverse q factor steps all k d h =
+    let long = length-reverse steps in
+    subst (λ step. factor * amount_of step ≤ q) (sym (get_or-reverse steps k d (omega (arith, h, long)))) (all (length steps - 1 - k) d (omega (arith, h, long)))
+
+pub factor_reverse : (q factor : ℕ) (steps : List Step) → IsFactor q steps factor → IsFactor q (reverse steps) factor
+factor_reverse q factor steps is = record {
+  some = is.some;
+  within = λ more. within_reverse q factor steps (is.within more);
+  most = λ more le fits. is.most more le (subst (λ l. AreWithin q l more) (reverse-reverse steps) (within_reverse q more (reverse steps) fits));
+}
+
+-- the factor that was tried first
+pub tried_first : (s : Standing) (q factor : ℕ) (steps : List Step) → IsFactor q steps factor → IsTried s q (reverse steps) factor
+tried_first s q factor steps is = record { greatest = factor; is = factor_reverse q factor steps is; tried = inl refl }
+
+-- and 1 where it is too great
+tells_of : (One Other : ℕ → Type 0) (limits : Limits) (s now : Standing) (plan : List Step) (lifting : Lifting) → ((factor : ℕ) → One factor → Other factor) → TellsOf One limits s now plan lifting → TellsOf Other limits s now plan lifting
+tells_of One Other limits s now plan Lifted on tells = record { factor = tells.factor; some = tells.some; is = on tells.factor tells.is; made = tells.made; rise = tells.rise }
+tells_of One Other limits s now plan Closed on tells = tells
+tells_of One Other limits s now plan (Blocked number step demand capacity) on tells = tells
+tells_of One Other limits s now plan Spent on tells = tells
+
+pub tells_once : (s mid now : Standing) (limits : Limits) (q factor : ℕ) (steps : List Step) (refusal : Refusal) (lifting : Lifting) → IsFactor q steps factor → IsRefusal s factor (reverse steps) refusal → mid ≡ s → TellsOf (λ n. n ≡ 1) limits mid now (reverse steps) lifting → Tells q limits s now (reverse steps) lifting
+tells_once s mid now limits q factor steps refusal lifting is refused same tells =
+    tells_of (λ n. n ≡ 1) (IsTried s q (reverse steps)) limits s now (reverse steps) lifting
+    (λ n one. record { greatest = factor; is = factor_reverse q factor steps is; tried = inr (one, (refusal, refused)) })
+    (subst (λ t. TellsOf (λ n. n ≡ 1) limits t now (reverse steps) lifting) same tells)

@@ -53,7 +53,7 @@ ends_with : (P : Network) (q : ℕ) (bans : Bans) (limits : Limits) (before afte
     → LiftsBy P limits before after q deletions x lifting → EndsWith P q bans limits before after deletions lifting
 ends_with P q bans limits before after deletions x Lifted is empty by = record { variable = x; plan = by.0; is = record { derivation = is; emptied = empty; plan_is = by.1 }; tells = by.2 }
 ends_with P q bans limits before after deletions x Closed is empty by = absurd by.2
-ends_with P q bans limits before after deletions x (Blocked step demand capacity) is empty by = record { variable = x; plan = by.0; is = record { derivation = is; emptied = empty; plan_is = by.1 }; tells = by.2 }
+ends_with P q bans limits before after deletions x (Blocked number step demand capacity) is empty by = record { variable = x; plan = by.0; is = record { derivation = is; emptied = empty; plan_is = by.1 }; tells = by.2 }
 ends_with P q bans limits before after deletions x Spent is empty by = record { variable = x; plan = by.0; is = record { derivation = is; emptied = empty; plan_is = by.1 }; tells = by.2 }
 
 pub all_end : {E : Type 0} (P : Network) (q : ℕ) (bans : Bans) (limits : Limits) (before after : Standing) (deletions : List Deletion) (x : ℕ) (result : Result Lifting E) → IsDerivation P (history before) q bans deletions → EmptiesLast P (without deletions (history before)) x

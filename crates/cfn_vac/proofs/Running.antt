@@ -1,7 +1,7 @@
 -- Steps of a plan are made one after another.
 use Rattle.std.proofs.Common.{◌≡◌, ℕ, ◌*◌, ◌-◌, ◌<◌, ◌≤◌, List, [], ◌∷◌, ◌++◌, length, length-append, append_assoc, map, reverse, refl, sym, ap, ◌∙◌, subst, arith}
 use Rattle.std.proofs.lemmas.Int.{ints}
-use Rattle.std.proofs.lemmas.List.{reverse-append, map-append, append-nil}
+use Rattle.std.proofs.lemmas.List.{reverse-append, map-append, append-nil, length-reverse}
 use Rattle.std.proofs.Math.Nat.{mul-lt-mul_of_pos_left, mul-zero}
 use Rattle.std.specs.Prelude.{Result, Ok, Err, IsErrAnd, IfErr}
 use Rattle.cfn_model.specs.declared.step.Step.{Step}
@@ -158,14 +158,15 @@ all_made before now factor steps left m none =
     let e = m.plan_is ∙ ap (λ l. m.done ++ reverse l) none ∙ append-nil m.done in
     (subst (λ l. CanMakeAll before (map (scaled factor) l)) (sym e) m.made, m.now_is ∙ ap (λ l. with_steps before (map (scaled factor) l)) (sym e))
 
-pub refused_at : (before now : Standing) (factor : ℕ) (steps left rest : List Step) (step : Step) (refusal : Refusal) (result : Result (Unit {0}) Refusal) → IsMaking before now factor steps left → left ≡ rest ++ step ∷ [] → refusal.step ≡ step → IsRoom now step refusal.capacity → refusal.capacity < factor * amount_of step → IsErrAnd result (λ r. r ≡ refusal) → IfErr result (IsRefusal before factor (reverse steps))
-refused_at before now factor steps left rest step refusal (Ok done) m is same room short err = tt
-refused_at before now factor steps left rest step refusal (Err other) m is same room short err =
+pub refused_at : (before now : Standing) (factor : ℕ) (steps left rest : List Step) (step : Step) (refusal : Refusal) (result : Result (Unit {0}) Refusal) → IsMaking before now factor steps left → left ≡ rest ++ step ∷ [] → refusal.number ≡ length steps - length left → refusal.step ≡ step → IsRoom now step refusal.capacity → refusal.capacity < factor * amount_of step → IsErrAnd result (λ r. r ≡ refusal) → IfErr result (IsRefusal before factor (reverse steps))
+refused_at before now factor steps left rest step refusal (Ok done) m is at same room short err = tt
+refused_at before now factor steps left rest step refusal (Err other) m is at same room short err =
     subst (IsRefusal before factor (reverse steps)) (sym err)
     (record {
       before = m.done;
       later = reverse rest;
       plan_is = m.plan_is ∙ ap (λ l. m.done ++ l) (ap reverse is ∙ reverse-append rest (step ∷ []) ∙ ap (λ t. t ∷ reverse rest) (sym same));
+      number = (let whole = ap length m.plan_is ∙ length-append m.done (reverse left) in let one = length-reverse steps in let two = length-reverse left in omega (arith, at, whole, one, two));
       shift = subst (IsShift before.network) (sym same) (shifts_last before.network rest step (subst (AreShifts before.network) is m.shifts));
       made = m.made;
       room = subst (λ t. IsRoom t refusal.step refusal.capacity) m.now_is (subst (λ t. IsRoom now t refusal.capacity) (sym same) room);

@@ -33,14 +33,14 @@ pub record HasPlan (P : Network) (q : ℕ) (bans : Bans) (limits : Limits) (befo
   pub variable : ℕ
   pub plan : List Step
   pub is : IsPlanOf P before q bans deletions variable plan
-  pub tells : Tells limits before after plan lifting
+  pub tells : Tells q limits before after plan lifting
 
 -- How an attempt to lift ends: with a closed family, that a derivation left; or with what lifting by a plan tells.
 abbrev pub EndsWith : Network → ℕ → Bans → Limits → Standing → Standing → List Deletion → Lifting → Type 0
 EndsWith P q bans limits before after deletions Closed =
     IsDerivation P (history before) q bans deletions × IsClosedFamily P (without deletions (history before)) q bans × (after ≡ before)
 EndsWith P q bans limits before after deletions Lifted = HasPlan P q bans limits before after deletions Lifted
-EndsWith P q bans limits before after deletions (Blocked step demand capacity) = HasPlan P q bans limits before after deletions (Blocked step demand capacity)
+EndsWith P q bans limits before after deletions (Blocked number step demand capacity) = HasPlan P q bans limits before after deletions (Blocked number step demand capacity)
 EndsWith P q bans limits before after deletions Spent = HasPlan P q bans limits before after deletions Spent
 
 -- What a blocked step stands for is banned, which was not: the unary cost of the value that an extend takes from, or the function

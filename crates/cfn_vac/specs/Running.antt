@@ -1,6 +1,6 @@
 -- Making the steps of a plan, each amount times a factor.
 use Rattle.std.specs.Prelude.{◌≡◌, ℕ, ◌*◌, ◌-◌, ◌<◌, ◌≤◌, List, [], ◌∷◌, ◌++◌, length, map}
-use Rattle.std.specs.List.{AllByRecursion}
+use Rattle.std.specs.List.{All, AllByRecursion}
 use Rattle.cfn_model.specs.declared.limits.TheConstants.{GREATEST}
 use Rattle.cfn_model.specs.declared.step.Step.{Step}
 use Rattle.cfn_model.specs.declared.step.Step.TheVariants.{Project, Extend, Lift, CutValue, CutTuple}
@@ -59,11 +59,22 @@ abbrev pub CanMakeAll : Standing → List Step → Type 0
 CanMakeAll s [] = Unit {0}
 CanMakeAll s (step ∷ steps) = CanMake s step × CanMakeAll (with_step s step) steps
 
--- The first step of a plan that cannot be made with its amount times a factor, and the room for it behind those before it.
+-- No step of a plan shifts more than q with its amount times a factor.
+abbrev pub AreWithin : ℕ → List Step → ℕ → Type 0
+AreWithin q plan factor = All (λ step. factor * amount_of step ≤ q) plan
+
+-- The greatest factor up to q with which no step of a plan shifts more than q; 1 where with each one does.
+pub record IsFactor (q : ℕ) (plan : List Step) (factor : ℕ) : Type 0 where
+  pub some : 0 < factor
+  pub within : 1 < factor → AreWithin q plan factor
+  pub most : (more : ℕ) → more ≤ q → AreWithin q plan more → more ≤ factor
+
+-- The first step of a plan that cannot be made with its amount times a factor, its number, and the room for it behind those before it.
 pub record IsRefusal (s : Standing) (factor : ℕ) (plan : List Step) (refusal : Refusal) : Type 0 where
   pub before : List Step
   pub later : List Step
   pub plan_is : plan ≡ before ++ refusal.step ∷ later
+  pub number : length before ≡ refusal.number
   pub shift : IsShift s.network refusal.step
   pub made : CanMakeAll s (map (scaled factor) before)
   pub room : IsRoom (with_steps s (map (scaled factor) before)) refusal.step refusal.capacity

@@ -6,8 +6,8 @@ ghost use Rattle.cfn_consistency.specs.Virtual.{Bans, IsDerivation, IsPlan};
 ghost use Rattle.cfn_store.specs.Standing.{history};
 ghost use Rattle.cfn_gain.specs.Calls.{Adds};
 ghost use Rattle.cfn_vac.specs.declared.lifter.Lifting.TheVariants.{Blocked};
-ghost use Rattle.cfn_vac.specs.Running.{AreShifts, amount_of};
-ghost use Rattle.cfn_vac.specs.Lifts.{Tells, LiftsBy, RisesBy};
+ghost use Rattle.cfn_vac.specs.Running.{AreShifts, amount_of, IsFactor};
+ghost use Rattle.cfn_vac.specs.Lifts.{Tells, TellsOf, LiftsBy, RisesBy};
 
 use crate::numbering::{NONE, number, take_back};
 use crate::plan::Plan;
@@ -22,13 +22,14 @@ use cfn_store::Store;
 use std::alloc::{AllocError, Global};
 use std::marker::Model;
 
-/// What trying to lift came to. Lifted: the floor rose. Closed: nothing can be gathered at the amount. Blocked: a step of the plan
-/// asks for more than its place has. Spent: the block has no room for the plan.
+/// What trying to lift came to. Lifted: the floor rose. Closed: nothing can be gathered at the amount. Blocked: a step of the plan,
+/// with its number from 0 on, asks for more than its place has. Spent: the block has no room for the plan.
 #[derive(Clone, Copy, PartialEq, Eq)]
 pub enum Lifting {
     Lifted,
     Closed,
     Blocked {
+        number: usize,
         step: Step,
         demand: u64,
         capacity: u64,
@@ -106,7 +107,7 @@ fn make(store: &mut Store<'_>, limits: Limits, q: u64, steps: &[Step]) -> Liftin
     requires room { limits.steps ≤ length store.old.block + store.old.spare }
     ensures adds { Adds store.old store.new limits }
     ensures live { (y a : ℕ) → is_live (history store.new) y a ≡ is_live (history store.old) y a }
-    ensures tells { Tells limits store.old store.new (reverse steps.now) result }
+    ensures tells { Tells q limits store.old store.new (reverse steps.now) result }
 {
     if limits.steps.saturating_sub(store.block_len()) < steps.len() {
         return Lifting::Spent;
@@ -127,7 +128,7 @@ fn make_once(store: &mut Store<'_>, limits: Limits, steps: &[Step]) -> Lifting
     requires short { length steps.now ≤ limits.steps - length store.old.block }
     ensures adds { Adds store.old store.new limits }
     ensures live { (y a : ℕ) → is_live (history store.new) y a ≡ is_live (history store.old) y a }
-    ensures tells { Tells limits store.old store.new (reverse steps.now) result }
+    ensures tells { TellsOf (λ factor. factor ≡ 1) limits store.old store.new (reverse steps.now) result }
 {
     match run(store, steps, 1) {
         Ok(()) => Lifting::Lifted,
@@ -137,9 +138,10 @@ fn make_once(store: &mut Store<'_>, limits: Limits, steps: &[Step]) -> Lifting
 
 /// What a step that cannot be made tells.
 fn blocked(refusal: Refusal) -> Lifting
-    ensures { result ≡ Blocked refusal.step (amount_of refusal.step) refusal.capacity }
+    ensures { result ≡ Blocked refusal.number refusal.step (amount_of refusal.step) refusal.capacity }
 {
     Lifting::Blocked {
+        number: refusal.number,
         step: refusal.step,
         demand: amount(refusal.step),
         capacity: refusal.capacity,
@@ -148,7 +150,7 @@ fn blocked(refusal: Refusal) -> Lifting
 
 /// How many times the greatest amount of the steps goes into `q`, at least 1.
 fn factor(steps: &[Step], q: u64) -> u64
-    ensures { 0 < result }
+    ensures { IsFactor q steps.now result }
 {
     let mut greatest = 1;
     for step in steps {

@@ -8,9 +8,10 @@ ghost use Rattle.cfn_vac.specs.Running.{amount_of, IsShift, AreShifts, CanMake, 
 use cfn_model::Step;
 use cfn_store::Store;
 
-/// A step that cannot be made, and the greatest amount with which it could be.
+/// A step that cannot be made, its number in the plan, from 0 on, and the greatest amount with which it could be.
 #[derive(Clone, Copy)]
 pub(crate) struct Refusal {
+    pub number: usize,
     pub step: Step,
     pub capacity: u64,
 }
@@ -46,19 +47,20 @@ fn make_all(store: &mut Store<'_>, steps: &[Step], factor: u64) -> Result<(), Re
 {
     let mut left = steps;
     while let Some((step, rest)) = left.split_last() {
-        make(store, *step, factor)?;
+        make(store, steps.len() - left.len(), *step, factor)?;
         left = rest;
     }
     Ok(())
 }
 
-/// Makes a step, where it can be made.
-fn make(store: &mut Store<'_>, step: Step, factor: u64) -> Result<(), Refusal>
+/// Makes a step, where it can be made; `number` is its number.
+fn make(store: &mut Store<'_>, number: usize, step: Step, factor: u64) -> Result<(), Refusal>
     requires shift { IsShift store.old.network step }
     requires room { 0 < store.old.spare }
     requires some { 0 < factor }
     ensures made { OnOk result (CanMake store.old (scaled factor step)) }
     ensures now { OnOk result (store.new ≡ with_step store.old (scaled factor step)) }
+    ensures number { IfErr result (λ refusal. refusal.number ≡ number) }
     ensures step { IfErr result (λ refusal. refusal.step ≡ step) }
     ensures room { IfErr result (λ refusal. IsRoom store.old step refusal.capacity) }
     ensures short { IfErr result (λ refusal. refusal.capacity < factor * amount_of step) }
@@ -70,7 +72,11 @@ fn make(store: &mut Store<'_>, step: Step, factor: u64) -> Result<(), Refusal>
             shift(store, step, factor, amount);
             Ok(())
         }
-        None => Err(Refusal { step, capacity }),
+        None => Err(Refusal {
+            number,
+            step,
+            capacity,
+        }),
     }
 }
 

@@ -8,4 +8,4 @@ loop-step-preserved c =
 pub returns-in_err-make-clause-refused : goal.returns-in_err-make-clause-refused
 returns-in_err-make-clause-refused c =
     let is = c.in_err-make.ensures in
-    refused_at c.args.store.now c.loop-step.store c.args.factor c.args.steps.now c.loop-step.left.now c.in-Some.rest.now c.in-Some.step.now c.in_err-make.field-0.0 c.from_residual.result c.loop-step.invariant c.in-Some.ensures.cases.0 is.step is.room is.short c.from_residual.ensures.1
+    refused_at c.args.store.now c.loop-step.store c.args.factor c.args.steps.now c.loop-step.left.now c.in-Some.rest.now c.in-Some.step.now c.in_err-make.field-0.0 c.from_residual.result c.loop-step.invariant c.in-Some.ensures.cases.0 is.number is.step is.room is.short c.from_residual.ensures.1
