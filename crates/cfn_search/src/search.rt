@@ -29,7 +29,7 @@ use cfn_outcome::Outcome;
 use cfn_pool::Pool;
 use cfn_proof::Tree;
 use cfn_worker::{
-    Account, Asked, FEWEST_BACKTRACKS, Threshold, hand_in, news, sweep, take, wanted,
+    Account, Asked, FEWEST_BACKTRACKS, Threshold, Unplaced, hand_in, news, sweep, take, wanted,
 };
 use std::alloc::{AllocError, Global};
 use std::marker::Brand;
@@ -264,7 +264,8 @@ fn dive_all<M: Incumbent, E: Explore, G: Gate, H: Halt>(
     }
 }
 
-/// One dive, of at most `limit` backtracks, and how many the next one may make; `None` where the search ends.
+/// One dive, of at most `limit` backtracks, and how many the next one may make: as many where its piece came too late, which no
+/// piece of a single worker does. `None` where the search ends: there is no leaf to take, memory is refused or `halt` is past.
 fn dive<M: Incumbent, E: Explore, G: Gate, H: Halt>(
     alloc: Global,
     network: &Network,
@@ -303,7 +304,8 @@ fn dive<M: Incumbent, E: Explore, G: Gate, H: Halt>(
             tell(network, held, gate, before);
             match handed {
                 Ok(next) => Some(next),
-                Err(_) => None,
+                Err(Unplaced::Late) => Some(limit),
+                Err(Unplaced::Memory) => None,
             }
         }
         Err(task) => {
