@@ -1,6 +1,7 @@
 //! Writing a certificate and saying its report.
 
-ghost use Rattle.std.specs.Prelude.{◌≡◌, length, OnOk, OnErr};
+ghost use Rattle.std.specs.Prelude.{◌≡◌, ◌≤◌, All, length, OnOk, OnErr};
+ghost use Rattle.cfn_model.specs.Certificate.{threshold};
 ghost use Rattle.cfn_model.specs.Text.{report, spelling};
 ghost use Rattle.cfn_desk.specs.Outside.{IsWriting};
 ghost use Rattle.cfn_proof.specs.Certificates.{certificate_of, solution_of};
@@ -16,9 +17,11 @@ use cfn_report::Report;
 use cfn_solve::Teamwork;
 
 /// Writes the certificate that a search found into the file that was opened, and then says its report. It takes no memory.
-/// The status is the result's, or that of a fault. The workers that the report tells are those of whom each told a threshold.
+/// The status is the result's, or that of a fault. The workers that the report tells are those of whom each told a threshold, and
+/// the certificate's threshold is at most each of these.
 pub fn put_out<D: Desk>(found: &Teamwork, workers: u32, desk: &mut D) -> Status
     requires workers { length found.now.thresholds.items ≡ workers }
+    requires least { All (λ k. threshold (certificate_of found.now.outcome.certificate) ≤ k) found.now.thresholds.items }
     requires writing { IsWriting (D.outside desk.old).calls }
     ensures { Outputs (spelling (certificate_of found.now.outcome.certificate))
         (report workers (certificate_of found.now.outcome.certificate) found.now.outcome.rows.items found.now.outcome.nodes

@@ -7,5 +7,6 @@ pub mod Falling
 pub mod Onwards
 pub mod Makings
 pub mod Splitting
+pub mod Naming
 pub mod Crossing
 pub mod CallerLemmas

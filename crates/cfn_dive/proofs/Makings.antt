@@ -95,7 +95,7 @@ closed_made P task granted timed k nodes cut is not_cut kept reached small some 
 
 -- one open leaf
 pub root_grown : (P : Network) (path : List Event) (k granted : ℕ) → TameAlong P path → IsGrown P path k granted (open_node None ∷ []) 0 granted
-root_grown P path k granted tame = record { valid = tt; strict = tt; tame = small_here P path tame; enforced = tt; counted = refl; gone_back = none_more granted }
+root_grown P path k granted tame = record { valid = tt; strict = tt; tame = small_here P path tame; enforced = refl; counted = refl; gone_back = none_more granted }
   where
     none_more : (n : ℕ) → 0 + n ≡ n
     none_more n = omega arith

@@ -83,4 +83,4 @@ pub settled_alive : (P : Network) (path : List Event) (k : ℕ) (found : Settlin
 settled_alive P path k found is finds = (subst (Finds P path k) is finds).1
 
 pub spent_alive : (P : Network) (path : List Event) (k : ℕ) (found : Settling) → found ≡ Spent → Finds P path k found → CanClose P path k → ⊥
-spent_alive P path k found is finds = subst (Finds P path k) is finds
+spent_alive P path k found is finds = (subst (Finds P path k) is finds).0

@@ -1,5 +1,5 @@
 -- What a split or a closing of the current leaf keeps of the tree.
-use Rattle.std.proofs.Common.{◌≡◌, ℕ, ◌+◌, ◌≤◌, List, [], ◌∷◌, ◌++◌, sym, ap, ◌∙◌, subst, arith}
+use Rattle.std.proofs.Common.{◌≡◌, ℕ, ◌+◌, ◌≤◌, List, [], ◌∷◌, ◌++◌, refl, sym, ap, ◌∙◌, subst, arith}
 use Rattle.cfn_model.specs.declared.step.Step.{Step}
 use Rattle.cfn_model.specs.declared.step.Decision.{Decision}
 use Rattle.cfn_model.specs.declared.step.Event.{Event}
@@ -120,7 +120,7 @@ module _ (P : Network) (base : List Event) (k granted : ℕ) (nodes : List Node)
         valid = kept_valid P nodes new current change base waiting stack k (subst (λ t. Valid P current.path t k) (sym tree_is) (runs, decision, tt, tt)) was.valid;
         strict = kept_strict P nodes new current change base waiting stack (subst (λ t. Strict P current.path t) (sym tree_is) (strict, tt, tt)) was.strict;
         tame = kept_tame P nodes new current change base waiting stack (subst (λ t. Tame P current.path t) (sym tree_is) (tame, small_took P (after block current.path) d small, small_refused P (after block current.path) d small)) was.tame;
-        enforced = kept_enforced P nodes new current change base waiting stack (subst (λ t. AreEnforced P current.path t) (sym tree_is) (enforced, tt, tt)) was.enforced;
+        enforced = kept_enforced P nodes new current change base waiting stack (subst (λ t. AreEnforced P current.path t) (sym tree_is) (enforced, refl, refl)) was.enforced;
         counted = let c = was.counted in omega (arith, more, c);
         gone_back = let c = was.gone_back in let s = same.0 in omega (arith, s, c);
       }

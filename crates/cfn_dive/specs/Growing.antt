@@ -1,5 +1,5 @@
 -- What holds of the tree that a dive makes, between two expansions.
-use Rattle.std.specs.Prelude.{◌≡◌, ℕ, ◌+◌, ◌≤◌, ◌⊎◌, List, ◌∷◌, length}
+use Rattle.std.specs.Prelude.{◌≡◌, ℕ, ◌+◌, ◌≤◌, ◌⊎◌, List, [], ◌∷◌, length}
 use Rattle.cfn_model.specs.declared.step.Step.{Step}
 use Rattle.cfn_model.specs.declared.step.Event.{Event}
 use Rattle.cfn_model.specs.declared.step.Event.TheVariants.{Took, Refused}
@@ -17,9 +17,9 @@ use Rattle.cfn_explore.specs.Backtracks.{backtracks}
 abbrev pub IsEnforced : Network → List Event → List Step → Type 0
 IsEnforced P history block = AreFullyConsistent P (after block history) P.upper ⊎ (step_limit P ≤ length block)
 
--- This holds of the block of each split.
+-- This holds of the block of each split, and an open leaf has no step of its own.
 abbrev pub AreEnforced : Network → List Event → Tree → Type 0
-AreEnforced P history (Open block) = Unit {0}
+AreEnforced P history (Open block) = block ≡ []
 AreEnforced P history (Closed block) = Unit {0}
 AreEnforced P history (Split block d first second) =
     IsEnforced P history block × AreEnforced P (Took d ∷ after block history) first × AreEnforced P (Refused d ∷ after block history) second

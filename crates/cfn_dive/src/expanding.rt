@@ -10,7 +10,11 @@ ghost use Rattle.cfn_branch.specs.Choosing.{AllDecided, IsSplit};
 ghost use Rattle.cfn_edac.specs.Settling.{IsBehindSettled};
 ghost use Rattle.cfn_node.specs.Limit.{step_limit};
 ghost use Rattle.cfn_node.specs.Enforcing.{Finds, IsSpent};
+ghost use Rattle.cfn_low.specs.Holding.{price_of};
 ghost use Rattle.cfn_explore.specs.Falling.{HasFallen};
+ghost use Rattle.cfn_proof.specs.Nodes.{node_at, split_end};
+ghost use Rattle.cfn_proof.specs.declared.tree.End.TheVariants.{Shut};
+ghost use Rattle.cfn_dive.specs.Deciding.{IsSplitByRule};
 ghost use Rattle.cfn_dive.specs.Diving.{IsOf, IsWaiting, IsDiving, IsExpanding, IsExpanded, IsClosing, IsSettledOrSpent, IsSameDive, place_of};
 
 use crate::growth::{Growth, Leaf};
@@ -28,7 +32,7 @@ use cfn_trim::block_stays_tame;
 use std::alloc::{AllocError, Global};
 
 impl<'n> Parts<'n> {
-    /// Expands the current leaf: it is closed or split, and counted. At a leaf whose floor is below the threshold it enforces
+    /// Reads the word, and expands the current leaf: it is closed or split, and counted. At a leaf whose floor is below the threshold it enforces
     /// first, at the root only until `halt` is past. An `Err` is want of memory, after which the tree says nothing.
     pub fn expand<M: Incumbent, H: Halt>(
         &mut self,
@@ -48,6 +52,8 @@ impl<'n> Parts<'n> {
         requires left { 1 ≤ growth.old.left }
         requires few { growth.old.nodes + 1 < 2 ^ 64 }
         ensures falls { HasFallen M.network holder.old holder.new }
+        ensures looked { growth.new.threshold ≤ price_of M.network holder.old }
+        ensures named { OnOk result (IsSplitByRule self.old.rule self.old.store.network self.old.weights holder.old.held self.old.store.base (node_at growth.new.tree leaf.id.number)) }
         ensures expanded { OnOk result (IsExpanded self.old.store.network growth.old growth.new self.new) }
         ensures threshold { growth.new.threshold ≡ holder.new.seen }
         ensures dive { IsSameDive growth.old growth.new }
@@ -92,6 +98,8 @@ impl<'n> Parts<'n> {
         ensures spent { IfOk result (IsSpent (step_limit network.now) self.new.store) }
         ensures room { OnOk result (length network.now.sizes + 2 * length network.now.functions + 1 ≤ self.new.store.spare) }
         ensures begins { IsBegin self.old.store self.new.store }
+        ensures rule { self.new.rule ≡ self.old.rule }
+        ensures weights { self.new.weights ≡ self.old.weights }
         ensures of { IsOf self.old.store.network self.new }
     {
         network.limits();
@@ -127,6 +135,7 @@ impl<'n> Parts<'n> {
         requires begins { IsBegin mark.now self.old.store }
         requires expanding { IsExpanding self.old.store.network self.old growth.old leaf }
         requires closes { CanClose self.old.store.network (history self.old.store) growth.old.threshold }
+        ensures shut { OnOk result ((node_at growth.new.tree leaf.number).end ≡ Shut) }
         ensures expanded { OnOk result (IsExpanded self.old.store.network growth.old growth.new self.new) }
         ensures threshold { growth.new.threshold ≡ growth.old.threshold }
         ensures dive { IsSameDive growth.old growth.new }
@@ -157,6 +166,7 @@ impl<'n> Parts<'n> {
         requires settled { IsSettledOrSpent settled self.old.store growth.old.threshold }
         requires threshold { growth.old.threshold ≤ self.old.store.network.upper }
         requires room { 0 < self.old.store.spare }
+        ensures split { OnOk result (node_at growth.new.tree leaf.number ≡ record (node_at growth.old.tree leaf.number) { block = self.old.store.block; end = split_end decision (length growth.old.tree) }) }
         ensures expanded { OnOk result (IsExpanded self.old.store.network growth.old growth.new self.new) }
         ensures threshold { growth.new.threshold ≡ growth.old.threshold }
         ensures dive { IsSameDive growth.old growth.new }
@@ -205,6 +215,7 @@ impl<'n> Parts<'n> {
         requires threshold { growth.old.threshold ≡ holder.old.seen }
         requires room { length network.now.sizes + 2 * length network.now.functions ≤ self.old.store.spare }
         ensures falls { HasFallen M.network holder.old holder.new }
+        ensures shut { OnOk result ((node_at growth.new.tree leaf.number).end ≡ Shut) }
         ensures expanded { OnOk result (IsExpanded self.old.store.network growth.old growth.new self.new) }
         ensures threshold { growth.new.threshold ≡ holder.new.seen }
         ensures dive { IsSameDive growth.old growth.new }
@@ -227,6 +238,7 @@ impl<'n> Parts<'n> {
     ) -> Result<(), AllocError>
         requires expanding { IsExpanding self.old.store.network self.old growth.old leaf }
         requires closes { CanClose self.old.store.network (history self.old.store) growth.old.threshold }
+        ensures shut { OnOk result ((node_at growth.new.tree leaf.number).end ≡ Shut) }
         ensures expanded { OnOk result (IsExpanded self.old.store.network growth.old growth.new self.new) }
         ensures threshold { growth.new.threshold ≡ growth.old.threshold }
         ensures dive { IsSameDive growth.old growth.new }
@@ -242,6 +254,7 @@ impl<'n> Parts<'n> {
     /// backtrack. It takes no memory.
     fn close(&mut self, growth: &mut Growth, leaf: NodeId, block: Block)
         requires closing { IsClosing self.old.store.network self.old growth.old leaf block }
+        ensures shut { (node_at growth.new.tree leaf.number).end ≡ Shut }
         ensures expanded { IsExpanded self.old.store.network growth.old growth.new self.new }
         ensures threshold { growth.new.threshold ≡ growth.old.threshold }
         ensures dive { IsSameDive growth.old growth.new }

@@ -3,6 +3,7 @@
 ghost use Rattle.std.specs.Prelude.{◌≡◌, false, ◌≤◌, [], IfOk};
 ghost use Rattle.cfn_model.specs.Tree.{Closed};
 ghost use Rattle.cfn_proof.specs.Nodes.{tree_of};
+ghost use Rattle.cfn_low.specs.Holding.{price_of};
 ghost use Rattle.cfn_dive.specs.Diving.{IsOf, IsDiving};
 ghost use Rattle.cfn_explore.specs.Falling.{HasFallen};
 ghost use Rattle.cfn_dive.specs.Making.{Begins, IsMade};
@@ -25,7 +26,7 @@ pub struct Grown {
 }
 
 impl<'n> Parts<'n> {
-    /// Makes a tree below the leaf of a task: leaves are expanded until none is open, or as many nodes are made as the task
+    /// Reads the word, and makes a tree below the leaf of a task: leaves are expanded until none is open, or as many nodes are made as the task
     /// grants, or as many backtracks, or `halt` is past, which is asked behind each expansion. Where the task's floor reaches the
     /// threshold, it is one closed leaf. An `Err` is want of memory.
     pub fn grow<M: Incumbent, H: Halt>(
@@ -44,6 +45,7 @@ impl<'n> Parts<'n> {
         requires some { 1 ≤ backtracks }
         requires of { IsOf self.old.store.network self.old }
         ensures falls { HasFallen M.network holder.old holder.new }
+        ensures looked { holder.new.seen ≤ price_of M.network holder.old }
         ensures made { IfOk result (λ made. IsMade self.old.store.network task.now.task backtracks (H.limited halt.now) holder.new.seen made.tree made.cut) }
         ensures of { IsOf self.old.store.network self.new }
     {

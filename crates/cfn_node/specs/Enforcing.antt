@@ -24,11 +24,11 @@ pub record OnlyOf (P : Network) (history : List Event) (values : List ℕ) : Typ
   pub live : (x : ℕ) → x < length P.sizes → IsTrue (is_live history x (slice_index values x))
   pub each : (x a : ℕ) → IsValue P x a → IsTrue (is_live history x a) → a ≡ slice_index values x
 
--- What is found at a leaf: it is dead; or it is fully consistent, and not dead; or it is not dead.
+-- What is found at a leaf: it is dead; or it is fully consistent, and not dead; or it is neither.
 abbrev pub Finds : Network → List Event → ℕ → Settling → Type 0
 Finds P history k Settled = AreFullyConsistent P history k × (CanClose P history k → ⊥)
 Finds P history k Dead = CanClose P history k
-Finds P history k Spent = CanClose P history k → ⊥
+Finds P history k Spent = (CanClose P history k → ⊥) × (AreFullyConsistent P history k → ⊥)
 
 -- Where it is neither, the block has at least so many steps.
 abbrev pub IsSpent : ℕ → Standing → Settling → Type 0

@@ -1,17 +1,19 @@
 -- How the program ends.
-use Rattle.std.specs.Prelude.{◌≡◌, ◌⊎◌, ℕ, List, []}
+use Rattle.std.specs.Prelude.{◌≡◌, ◌⊎◌, ℕ, List, [], None}
 use Rattle.cfn_desk.specs.Outside.{Outside}
 use Rattle.cfn_cli.specs.Request.{request_of}
 use Rattle.cfn_app.specs.declared.status.Status.{Status}
 use Rattle.cfn_app.specs.Endings.{code}
 use Rattle.cfn_app.specs.Runs.{Runs, Statuses}
 
--- A run on some words, over a desk that no call was made of before, ended with this status.
+-- A run on some words, over a desk that no call was made of before and that tells no files, as a desk over real ones, ended with
+-- this status.
 pub record Ran (status : Status) : Type 0 where
   pub words : List (List ℕ)
   pub old : Outside
   pub new : Outside
   pub fresh : old.calls ≡ []
+  pub untold : old.files ≡ None
   pub runs : Runs (request_of words) old new status
   pub statuses : Statuses (request_of words) old new status
 

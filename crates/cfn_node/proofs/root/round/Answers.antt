@@ -2,6 +2,7 @@ use Rattle.std.proofs.Common.{◌≡◌, sym, ap, ◌∙◌, subst, arith}
 use Rattle.cfn_model.specs.Steps.{after}
 use Rattle.cfn_store.specs.Standing.{history}
 use Rattle.cfn_derivation.specs.Derived.{AllAlive, value_count}
+use Rattle.cfn_node.specs.Enforcing.{Finds}
 use Rattle.cfn_node.proofs.Rounds.{goes_still, goes_by, goes_along}
 use Rattle.cfn_node.proofs.root.round.Goals as goal
 
@@ -29,3 +30,8 @@ returns-clause-goes g c =
     let raised = goes_by c.reserve.new.self c.raise.new.store c.limits_from-limits.result c.args.asked.threshold c.limits_from-limits.ensures.threshold c.raise.ensures.adds in
     let settled = goes_by c.raise.new.store c.settle.new.store c.limits_from-limits-2.result c.args.asked.threshold c.limits_from-limits-2.ensures.threshold c.settle.ensures.adds in
     goes_along _ _ _ _ (goes_along _ _ _ _ still raised) settled
+
+pub returns-clause-finds : goal.returns-clause-finds
+returns-clause-finds g c =
+    let new = c.settle.new.store in
+    subst (λ k. Finds new.network (history new) k c.settle.result) c.limits_from-limits-2.ensures.threshold c.settle.ensures.finds

@@ -1,6 +1,9 @@
 use Rattle.std.proofs.Common.{◌≡◌, ◌+◌, ◌-◌, Some, refl, sym, ap, ◌∙◌, subst, arith}
 use Rattle.cfn_model.specs.Sums.{floor}
 use Rattle.cfn_proof.specs.declared.tree.NodeId.{NodeId}
+use Rattle.cfn_proof.specs.declared.tree.Node.{Node}
+use Rattle.cfn_proof.specs.Nodes.{node_at}
+use Rattle.cfn_proof.proofs.CallerLemmas.{close_at-same}
 use Rattle.cfn_dive.specs.declared.parts.Parts.{Parts}
 use Rattle.cfn_dive.specs.Stack.{Stack}
 use Rattle.cfn_dive.specs.Diving.{place_of, places, AreWaiting, IsExpanded}
@@ -70,3 +73,13 @@ returns-in-Some-clause-expanded c =
       };
       nodes = refl;
     })
+
+pub returns-in-None-clause-shut : goal.returns-in-None-clause-shut
+returns-in-None-clause-shut c =
+    let i = c.args.leaf.number in
+    ap (λ l. (node_at l i).end) c.close.ensures ∙ ap (λ (n : Node). n.end) (close_at-same c.args.growth.now.tree i c.args.block (current_open _ _ _ _ _ c.requires.closing.stack).there)
+
+pub returns-in-Some-clause-shut : goal.returns-in-Some-clause-shut
+returns-in-Some-clause-shut c =
+    let i = c.args.leaf.number in
+    ap (λ l. (node_at l i).end) c.close.ensures ∙ ap (λ (n : Node). n.end) (close_at-same c.args.growth.now.tree i c.args.block (current_open _ _ _ _ _ c.requires.closing.stack).there)

@@ -1,10 +1,13 @@
-use Rattle.std.proofs.Common.{◌≡◌, ℕ, ◌+◌, [], ◌∷◌, ◌++◌, refl, sym, ap, ◌∙◌, subst, arith}
+use Rattle.std.proofs.Common.{◌≡◌, ℕ, ◌+◌, [], ◌∷◌, ◌++◌, length, refl, sym, ap, ◌∙◌, subst, arith}
 use Rattle.std.specs.Prelude.{IfSome}
 use Rattle.cfn_model.specs.declared.step.Event.TheVariants.{Took}
 use Rattle.cfn_model.specs.Sums.{floor}
 use Rattle.cfn_store.specs.Standing.{Standing, history}
 use Rattle.cfn_edac.specs.Settling.{IsBehindSettled}
 use Rattle.cfn_node.proofs.CallerLemmas.{since_split, settled_moved}
+use Rattle.cfn_proof.specs.declared.tree.Node.{Node}
+use Rattle.cfn_proof.specs.Nodes.{node_at, split_end}
+use Rattle.cfn_proof.proofs.CallerLemmas.{split_behind_at-same}
 use Rattle.cfn_dive.specs.declared.parts.Waiting.{Waiting}
 use Rattle.cfn_dive.specs.Stack.{Stack}
 use Rattle.cfn_dive.specs.Diving.{places, AreWaiting}
@@ -73,3 +76,11 @@ returns-clause-expanded c =
   where
     taken_floor : (n : ℕ) → n ≡ 0 + n
     taken_floor n = omega arith
+
+pub returns-clause-split : goal.returns-clause-split
+returns-clause-split c =
+    let nodes = c.args.growth.now.tree in
+    let i = c.args.leaf.number in
+    let d = c.args.decision in
+    ap (λ l. node_at l i) c.in_ok-first.ensures.ok ∙ split_behind_at-same nodes i c.in_ok-block.block d (current_open _ _ _ _ _ c.requires.expanding.stack).there
+    ∙ ap (λ b. record (node_at nodes i) { block = b; end = split_end d (length nodes) }) c.in_ok-block.ensures

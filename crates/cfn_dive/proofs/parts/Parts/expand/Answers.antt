@@ -1,8 +1,13 @@
-use Rattle.std.proofs.Common.{sym, ◌∙◌, subst, arith}
+use Rattle.std.proofs.Common.{length, sym, ap, ◌∙◌, subst, arith}
 use Rattle.cfn_model.specs.Tree.{CanClose}
 use Rattle.cfn_store.specs.Standing.{history}
 use Rattle.cfn_dive.specs.declared.parts.Parts.{Parts}
+use Rattle.cfn_net.specs.Scoring.{Scoring}
+use Rattle.cfn_dive.specs.Deciding.{IsByRule}
 use Rattle.cfn_dive.specs.Diving.{IsSettledOrSpent}
+use Rattle.cfn_low.specs.Holding.{Holding}
+use Rattle.cfn_proof.specs.Nodes.{node_at}
+use Rattle.cfn_dive.proofs.Naming.{split_where_ok, named_before}
 use Rattle.cfn_dive.proofs.Onwards.{diving_lower, closes_at_once, from_settled, from_spent, settled_alive, spent_alive}
 use Rattle.cfn_dive.proofs.parts.Parts.expand.Goals as goal
 use Rattle.cfn_dive.proofs.parts.Parts.expand.Goals.{in-Settled, in-Spent}
@@ -47,3 +52,21 @@ conclude-requires-clause-alive g c =
       | in-Settled w ↦ settled_alive s.network (history s) k found w.in-Settled.is c.in_ok-enforce.ensures.finds
       | in-Spent w ↦ spent_alive s.network (history s) k found w.in-Spent.is c.in_ok-enforce.ensures.finds
     ])
+
+pub returns-in-Some-clause-named : goal.returns-in-Some-clause-named
+returns-in-Some-clause-named g c =
+    let old = c.args.self.now in
+    let grown = c.args.growth.now in
+    let found = c.enforce.new.self in
+    let kept = c.decide.new.self in
+    let d = c.in-Some.decision in
+    let store = ap (λ (p : Parts). p.store) c.decide.ensures.same in
+    let begins = c.in_ok-enforce.ensures.begins in
+    split_where_ok c.divide.result old.rule old.store.network old.weights c.args.holder.now.held old.store.base kept.store (node_at grown.tree c.args.leaf.id.number)
+    (node_at c.divide.new.growth.tree c.args.leaf.id.number) d (length grown.tree)
+    (ap (λ (p : Parts). p.store.network) c.decide.ensures.same ∙ c.enforce.ensures.of.network)
+    (ap (λ (p : Parts). p.store.base) c.decide.ensures.same ∙ sym begins.base)
+    (subst (λ s. IsByRule old.rule s old.weights c.args.holder.now.held d) (sym store)
+    (named_before found.rule old.rule found.store found.weights old.weights c.best.result.now.held c.args.holder.now.held d c.enforce.ensures.rule c.enforce.ensures.weights
+    (ap (λ (b : Scoring). b.held) c.best.ensures ∙ ap (λ (h : Holding). h.held) c.look-growth.ensures.seen) c.in-Some.ensures.named))
+    c.divide.ensures.split

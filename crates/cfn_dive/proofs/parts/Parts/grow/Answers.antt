@@ -2,6 +2,7 @@ use Rattle.std.proofs.Common.{List, refl, sym, ap, ◌∙◌, subst, arith}
 use Rattle.std.specs.Prelude.{◌==◌}
 use Rattle.cfn_model.specs.Network.{Network}
 use Rattle.cfn_machine.specs.Pool.{IsTask}
+use Rattle.cfn_low.specs.Holding.{Holding}
 use Rattle.cfn_proof.specs.declared.tree.Node.{Node}
 use Rattle.cfn_dive.specs.Diving.{GoesOn}
 use Rattle.cfn_dive.specs.Making.{IsMade}
@@ -38,6 +39,7 @@ loop-next-init g c =
       base = begins.base;
       granted = begins.granted;
       threshold = begins.threshold ∙ c.seen-2.ensures;
+      looked = (let below = c.look.ensures.below in let seen = ap (λ (h : Holding). h.seen) c.look.ensures.seen in omega (arith, below, seen));
       falls = look_falls c.args.self.now.store.network c.args.holder.now c.look.new.holder c.look.result c.look.ensures.seen c.look.ensures.falls;
       next = goes_first start c.grant-grant.result (g.H.Halt.limited c.args.halt.now) (omega (arith, nodes, some, grants)) (omega (arith, left, back));
       some = λ none. absurd (begins.some none);
