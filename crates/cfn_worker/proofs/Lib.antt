@@ -1,4 +1,5 @@
 pub mod Crossing
 pub mod Noted
 pub mod Keeping
+pub mod Laying
 pub mod CallerLemmas

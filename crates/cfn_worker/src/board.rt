@@ -1,13 +1,12 @@
 //! What lies under the lock: the pool, a count of its changes, and whether the search has to stop.
 
-ghost use Rattle.std.specs.Prelude.{◌≡◌, ◌+◌, ◌≤◌, IfOk, IfSome};
-ghost use Rattle.cfn_machine.specs.Word.{all_shares};
+ghost use Rattle.std.specs.Prelude.{◌≡◌, ◌+◌, ◌≤◌, ◌^◌, ◌%◌, ◌==◌, true, false, None, is_some, length, IfSome, IsTrue, IsFalse};
 ghost use Rattle.cfn_gate.specs.Telling.{AreBounds};
 ghost use Rattle.cfn_pool.specs.Views.{pool};
 ghost use Rattle.cfn_rota.specs.Values.{access};
-ghost use Rattle.cfn_worker.specs.Searching.{IsSearch};
-ghost use Rattle.cfn_worker.specs.Granting.{IsLimit};
-ghost use Rattle.cfn_worker.specs.Boards.{IsBoard, IsOffered};
+ghost use Rattle.cfn_worker.specs.Searching.{IsReturned};
+ghost use Rattle.cfn_worker.specs.Granting.{IsLimit, wanted as wish};
+ghost use Rattle.cfn_worker.specs.Boards.{IsBoard, IsHanded, IsLaid, IsOffered, Lays, Offers};
 
 use crate::account::Account;
 use crate::grants::wanted;
@@ -51,11 +50,11 @@ pub struct Board<M: Incumbent + Crew> {
 }
 
 impl<M: Incumbent + Crew> Model for Board<M> {
-    ghost use Rattle.cfn_worker.specs.Boards.{IsBoard};
+    ghost use Rattle.cfn_worker.specs.Boards.{BoardValue, IsBoard};
 
-    ghost Value = { Unit {0} };
+    ghost Value = { BoardValue };
 
-    ghost view = { λ b. tt };
+    ghost view = { λ b. record { held = b.held; changes = b.changes; stopped = b.stopped } };
 
     ghost invariant = { λ b. IsBoard M.start M.budget M.workers b.held };
 }
@@ -64,10 +63,16 @@ impl<M: Incumbent + Crew> Model for Board<M> {
 pub(crate) enum Offer {
     /// A task, and whether others were laid in the worker's lane.
     Task { task: InHand, more: bool },
-    /// None now: the count of changes is this.
+    /// None now: no leaf is free, or all that the budget has left is granted. The count of changes is this.
     Later { changes: u64 },
-    /// None any more, or no memory for a leaf's path.
-    Over,
+    /// None any more: memory was refused for a piece.
+    Stopped,
+    /// None any more: no leaf is open.
+    Done,
+    /// None any more: the budget is spent.
+    Spent,
+    /// There is no memory for a leaf's path.
+    Memory,
 }
 
 /// What a worker has of a piece that it gave.
@@ -84,6 +89,7 @@ impl<M: Incumbent + Crew> Board<M> {
     /// A pool at the beginning of a search.
     pub fn new(held: Pool<M>) -> Board<M>
         requires { IsBoard M.start M.budget M.workers held }
+        ensures { result ≡ record { held = held; changes = 0; stopped = false } }
     {
         Board {
             held,
@@ -94,23 +100,29 @@ impl<M: Incumbent + Crew> Board<M> {
 
     /// The pool again.
     pub fn into_pool(self) -> Pool<M>
-        ensures { IsBoard M.start M.budget M.workers result }
+        ensures same { result ≡ self.held }
+        ensures board { IsBoard M.start M.budget M.workers result }
     {
         let Board { held, .. } = self;
         held
     }
 
-    /// How often it changed.
-    pub(crate) fn changes(&self) -> u64 {
+    /// How often it changed, modulo 2^64.
+    pub(crate) fn changes(&self) -> u64
+        ensures { result ≡ self.now.changes }
+    {
         self.changes
     }
 
     /// Counts a change.
-    pub(crate) fn tell(&mut self) {
+    pub(crate) fn tell(&mut self)
+        ensures { self.new ≡ record self.old { changes = (self.old.changes + 1) % 2 ^ 64 } }
+    {
         self.changes = self.changes.wrapping_add(1);
     }
 
-    /// Asks for a leaf. Where there is one, up to three more go to the worker's lane, which counts as a change.
+    /// Asks for a leaf. Where there is one, up to three more go to the worker's lane, which counts as a change. Else nothing
+    /// changes.
     pub(crate) fn take(
         &mut self,
         network: &Network,
@@ -121,11 +133,12 @@ impl<M: Incumbent + Crew> Board<M> {
     ) -> Offer
         requires own { network.now ≡ M.network }
         requires limit { IsLimit limit }
-        ensures offer { IsOffered M.network result }
+        ensures task { IsOffered M.network result }
+        ensures offers { Offers M.network worker (wish ((pool self.old.held).nodes == 0) known limit (length M.network.sizes)) self.old lanes.old result self.new lanes.new }
         ensures same { access lanes.new ≡ access lanes.old }
     {
         if self.stopped {
-            return Offer::Over;
+            return Offer::Stopped;
         }
         let want = wanted(self.held.nodes() == 0, known, limit, network.variables());
         match take(network, &mut self.held, worker, want) {
@@ -136,7 +149,9 @@ impl<M: Incumbent + Crew> Board<M> {
             Asked::Later => Offer::Later {
                 changes: self.changes,
             },
-            Asked::Done | Asked::Spent | Asked::Memory => Offer::Over,
+            Asked::Done => Offer::Done,
+            Asked::Spent => Offer::Spent,
+            Asked::Memory => Offer::Memory,
         }
     }
 
@@ -144,16 +159,12 @@ impl<M: Incumbent + Crew> Board<M> {
     fn fill(&mut self, network: &Network, worker: u32, want: u64, lanes: &mut Lanes<M>) -> bool
         requires own { network.now ≡ M.network }
         requires wants { 1 ≤ want }
-        ensures same { access lanes.new ≡ access lanes.old }
+        ensures lays { Lays M.network worker want 3 (pool self.old.held) lanes.old result (pool self.new.held) lanes.new }
+        ensures stopped { self.new.stopped ≡ self.old.stopped }
     {
         let mut more = false;
         for _ in 0..MORE_TASKS {
-            let laid = match take(network, &mut self.held, worker, want) {
-                Asked::Task { task } => task.lay(lanes),
-                Asked::Later | Asked::Done | Asked::Spent | Asked::Memory => break,
-            };
-            if let Err(task) = laid {
-                self.back(task);
+            if !self.lay(network, worker, want, lanes) {
                 break;
             }
             more = true;
@@ -162,6 +173,28 @@ impl<M: Incumbent + Crew> Board<M> {
             self.tell();
         }
         more
+    }
+
+    /// Takes one leaf for a worker's lane; whether there was one, and room for it. If not, the pool and the lane are as before.
+    fn lay(&mut self, network: &Network, worker: u32, want: u64, lanes: &mut Lanes<M>) -> bool
+        requires own { network.now ≡ M.network }
+        requires wants { 1 ≤ want }
+        ensures lays { IsTrue result → IsLaid M.network worker want (pool self.old.held) lanes.old (pool self.new.held) lanes.new }
+        ensures none { IsFalse result → (pool self.new.held ≡ pool self.old.held) × (lanes.new ≡ lanes.old) }
+        ensures stopped { self.new.stopped ≡ self.old.stopped }
+    {
+        self.held.kept();
+        let task = match take(network, &mut self.held, worker, want) {
+            Asked::Task { task } => task,
+            Asked::Later | Asked::Done | Asked::Spent | Asked::Memory => return false,
+        };
+        match task.lay(lanes) {
+            Ok(()) => true,
+            Err(task) => {
+                self.back(task);
+                false
+            }
+        }
     }
 
     /// Puts a piece in its leaf's place. Where there is no memory for it, the search stops; where its leaf is not out any more, it
@@ -180,37 +213,55 @@ impl<M: Incumbent + Crew> Board<M> {
         requires least { account.old.least ≤ made.threshold }
         requires limit { IsLimit limit }
         ensures account { account.new ≡ account.old }
+        ensures handed { IsHanded M.network self.old made account.old.part.seen self.new }
+        ensures stops { IsTrue self.new.stopped → result.next ≡ None }
+        ensures goes { IsFalse self.new.stopped → is_some result.next ≡ true }
         ensures next { IfSome result.next IsLimit }
         ensures news { IfSome result.news (λ news. AreBounds M.network news.bounds) }
     {
         self.tell();
         let before = self.held.seen();
-        let handed = hand_in(network, low, &mut self.held, account, made, limit);
-        let next = next_limit(handed, limit);
-        self.stopped = self.stopped || next.is_none();
+        let next = self.put(network, low, account, made, limit);
         Given {
-            next: if self.stopped { None } else { next },
+            next: if self.stopped { None } else { Some(next) },
             news: news(network, &self.held, gate, before),
         }
     }
 
+    /// Puts a piece in its leaf's place, and stops the search where there is no memory for it. It answers how many backtracks the
+    /// next dive may make: as many as before where the piece is not in its leaf's place.
+    fn put(
+        &mut self,
+        network: &Network,
+        low: &Low<M>,
+        account: &mut Account<M>,
+        made: Made,
+        limit: u64,
+    ) -> u64
+        requires network { network.now ≡ M.network }
+        requires own { made.network ≡ M.network }
+        requires least { account.old.least ≤ made.threshold }
+        requires limit { IsLimit limit }
+        ensures account { account.new ≡ account.old }
+        ensures handed { IsHanded M.network self.old made account.old.part.seen self.new }
+        ensures next { IsLimit result }
+    {
+        match hand_in(network, low, &mut self.held, account, made, limit) {
+            Ok(next) => next,
+            Err(Unplaced::Late) => limit,
+            Err(Unplaced::Memory) => {
+                self.stopped = true;
+                limit
+            }
+        }
+    }
+
     /// Frees the leaf of a task whose worker ends before it has dived there, for another worker.
-    pub(crate) fn back(&mut self, task: InHand) {
+    pub(crate) fn back(&mut self, task: InHand)
+        ensures back { IsReturned self.old.held task.task self.new.held }
+        ensures stopped { self.new.stopped ≡ self.old.stopped }
+    {
         self.tell();
         task.back(&mut self.held);
-    }
-}
-
-/// How many backtracks the next dive may make once a piece was handed in: as many as before where it came too late. `None` where
-/// memory was refused for it.
-fn next_limit(handed: Result<u64, Unplaced>, limit: u64) -> Option<u64>
-    requires handed { IfOk handed IsLimit }
-    requires limit { IsLimit limit }
-    ensures { IfSome result IsLimit }
-{
-    match handed {
-        Ok(next) => Some(next),
-        Err(Unplaced::Late) => Some(limit),
-        Err(Unplaced::Memory) => None,
     }
 }

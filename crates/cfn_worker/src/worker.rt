@@ -230,7 +230,7 @@ impl<M: Incumbent + Crew> Worker<M> {
                     }
                     self.wait(rt, shared, changes);
                 }
-                Offer::Over => return None,
+                Offer::Stopped | Offer::Done | Offer::Spent | Offer::Memory => return None,
             }
         }
         None
