@@ -48,8 +48,8 @@ fn put_head<D: Desk>(certificate: &Certificate, desk: &mut D) -> Result<(), Fail
     put_best(&certificate.best, desk)
 }
 
-/// Puts the line of the network's numbers.
-fn put_network<D: Desk>(certificate: &Certificate, desk: &mut D) -> Result<(), Failed>
+/// Puts the line of the network's numbers. It takes no memory. An `Err` is a put that failed behind some front of it.
+pub fn put_network<D: Desk>(certificate: &Certificate, desk: &mut D) -> Result<(), Failed>
     requires { IsWriting (D.outside desk.old).calls }
     ensures { Appends File (D.outside desk.old)
         (line (codes "network" ∷ decimal certificate.now.variables ∷ decimal certificate.now.functions
@@ -64,8 +64,9 @@ fn put_network<D: Desk>(certificate: &Certificate, desk: &mut D) -> Result<(), F
     write_line(Channel::File, &words, desk)
 }
 
-/// Puts the lines of the best assignment that is known.
-fn put_best<D: Desk>(best: &Option<Scored>, desk: &mut D) -> Result<(), Failed>
+/// Puts the lines of the best assignment that is known. It takes no memory. An `Err` is a put that failed behind some front of
+/// them.
+pub fn put_best<D: Desk>(best: &Option<Scored>, desk: &mut D) -> Result<(), Failed>
     requires { IsWriting (D.outside desk.old).calls }
     ensures { Appends File (D.outside desk.old)
         (text (best_lines (solution_of best.now))) result (D.outside desk.new) }

@@ -5,8 +5,9 @@
 //! those of its steps, and that of its end. `walk` goes over the nodes of a tree in the order of their lines, with no
 //! recursion.
 //!
-//! The walk, and the lines of steps and ends, are there for other texts that have trees. No call takes memory. To `write` each word is one put, together with the space or LF behind it; `upgrade` puts all
-//! that is behind the first line by one.
+//! Other texts have some of the same lines: those of the network, the best assignment and a tree, and of a tree the walk and
+//! the lines of steps and ends. No call takes memory. To `upgrade` all that is behind the first line is one put, and to each
+//! other call each word, together with the space or LF behind it.
 #![tactic(auto)]
 
 mod certificate;
@@ -14,7 +15,7 @@ mod nodes;
 mod second;
 mod walk;
 
-pub use certificate::write;
+pub use certificate::{put_best, put_network, write};
 pub use nodes::{put_end, put_steps};
 pub use second::upgrade;
-pub use walk::next_node;
+pub use walk::{next_node, put_tree};

@@ -12,7 +12,7 @@ use crate::nodes::put_node;
 use cfn_desk::{Desk, Failed};
 use cfn_proof::{End, NodeId, Tree};
 
-/// Puts the lines of a tree.
+/// Puts the lines of a tree. It takes no memory. An `Err` is a put that failed behind some front of them.
 pub fn put_tree<D: Desk>(tree: &Tree, desk: &mut D) -> Result<(), Failed>
     requires { IsWriting (D.outside desk.old).calls }
     ensures { Appends File (D.outside desk.old)
