@@ -235,11 +235,11 @@ may_follow (AtNodes version (history ∷ paths)) _ = inr (λ t follows. elim fol
 may_follow AtOver _ = inr (λ t follows. elim follows [ ])
 
 -- the first LF of the rest
-data Ends (rest : List ℕ) : Type 0 where
+pub data Ends (rest : List ℕ) : Type 0 where
   Never : HasNoEnd rest → Ends rest
   Behind : (front others : List ℕ) → HasNoEnd front → rest ≡ front ++ 10 ∷ others → Ends rest
 
-ends : (rest : List ℕ) → Ends rest
+pub ends : (rest : List ℕ) → Ends rest
 ends [] = Never refl
 ends (b ∷ rest) = elim (cases_Bool (b == 10)) [
   | inl e ↦ Behind [] rest refl (ap (λ x. x ∷ rest) (eqb-true b 10 e))

@@ -72,7 +72,7 @@ runs_block : (version : versions.Version) (history : List Event) (paths : List (
 runs_block version history paths [] = refl
 runs_block version history paths (step ∷ block) = (AtNodes version ((Did step ∷ history) ∷ paths), node_follows tt, runs_block version (Did step ∷ history) paths block)
 
-runs_tree : (version : versions.Version) (history : List Event) (paths : List (List Event)) (tree : Tree) → HasTree version tree → Runs (AtNodes version (history ∷ paths)) (lines_of_tree tree) (AtNodes version paths)
+pub runs_tree : (version : versions.Version) (history : List Event) (paths : List (List Event)) (tree : Tree) → HasTree version tree → Runs (AtNodes version (history ∷ paths)) (lines_of_tree tree) (AtNodes version paths)
 runs_tree version history paths (Open block) has = run_append _ _ _ _ _ (runs_block version history paths block) (AtNodes version paths, node_follows tt, refl)
 runs_tree version history paths (Closed block) has = run_append _ _ _ _ _ (runs_block version history paths block) (AtNodes version paths, node_follows tt, refl)
 runs_tree version history paths (Split block d first second) has =

@@ -4,7 +4,7 @@ use Rattle.std.specs.Prelude.{Option, Some, None, MatchOption}
 use Rattle.cfn_model.specs.Network.{Network}
 use Rattle.cfn_machine.specs.Pool.{Task, Pool, View}
 use Rattle.cfn_machine.specs.Steps.{PoolTakes, PoolGives, PoolReturns, PoolStep, Takes, Gives, Returns, Recalls, Sweeps, Meets, Notes, PoolSteps, IsLegal, pool_recalled, pool_swept}
-use Rattle.cfn_machine.proofs.Numbering.{by_noted}
+use Rattle.cfn_machine.proofs.CallerLemmas.{by_noted}
 use Rattle.cfn_record.specs.Entries.{Entry, Took, Gave, Freed, CalledBack, Swept, Follows, Runs, entry_of, with_entry, entries_of, IsAlike}
 use Rattle.cfn_record.specs.Laws.{StepFollows, MovesFollow}
 

@@ -1,6 +1,6 @@
 -- Every text spells a good record, or has a fault: its lines are judged one by one.
 use Rattle.std.proofs.Common.{◌≡◌, ℕ, zero, suc, ◌+◌, ◌<◌, ◌≤◌, ◌⊎◌, inl, inr, Bool, true, false, List, [], ◌∷◌, ◌++◌, length, map, refl, sym, ap, subst, ◌∙◌, arith, append_assoc, append-nil, length-append, lit≤}
-use Rattle.std.proofs.lemmas.Bool.{cases_lt, cases_eq, cases_Bool, eqb-true, and_from, not_from_false, and_parts}
+use Rattle.std.proofs.lemmas.Bool.{cases_lt, cases_eq, and_parts}
 use Rattle.std.proofs.lemmas.List.{append_cancel_right}
 use Rattle.std.specs.Prelude.{Option, Some, None, not, ◌==◌, if◌then◌else◌, nat_le}
 use Rattle.std.specs.List.{AllByRecursion, list_all}
@@ -16,20 +16,15 @@ use Rattle.cfn_model.specs.Tree.{Tree, Open, Closed, Split, count}
 use Rattle.cfn_model.specs.Certificate.{Solution, Certificate, Good, threshold_of}
 use Rattle.cfn_model.specs.Text.{line, spelling, IsSpelledStep, IsSpelledTree, IsSpelledBest}
 use Rattle.cfn_model.specs.Text as texts
-use Rattle.cfn_model.proofs.CallerLemmas.{bound_low, has_every_tree}
-use Rattle.cfn_model.proofs.Versions.{has_decision}
+use Rattle.cfn_model.proofs.CallerLemmas.{bound_low, has_decision, has_every_tree}
 use Rattle.cfn_fault.specs.Nodes.{Item, Makes, LeavesOpen, Closes, Splits, HasItem, NodeFollows, ItemFollows, paths_after}
 use Rattle.cfn_fault.specs.Lines as lines
 use Rattle.cfn_fault.specs.Lines.{Line}
 use Rattle.cfn_fault.specs.Decoding.{words_in}
-use Rattle.cfn_fault.proofs.Deciding.{Decided, good_or_fault}
-use Rattle.cfn_fault.proofs.CallerLemmas.{HasNoEnd, line_back, one_certificate, run_one_more, spelled_append}
-use Rattle.cfn_fault.proofs.Faults as faults
-use Rattle.cfn_fault.proofs.Running.{run_append, told}
+use Rattle.cfn_fault.proofs.CallerLemmas.{Behind, Decided, Ends, HasNoEnd, Never, ends, good_or_fault, line_back, no_fault_where_good, one_certificate, run_append, run_one_more, spelled_append, told}
 use Rattle.cfn_machine.specs.Pool.{Mark, Free, Out, PoolTree, Leaf, Shut, Fork, tree_of, behind, Replaced, numbered, swept, Task, Piece, Pool, AreNumbered}
 use Rattle.cfn_machine.specs.Steps.{pool_recalled, pool_swept}
-use Rattle.cfn_machine.proofs.CallerLemmas.{gives_or_not, never_both, numbered_is, one_task, opens_numbered, recalled_is, returns_or_not, takes_or_none}
-use Rattle.cfn_machine.proofs.Deciding.{find_some}
+use Rattle.cfn_machine.proofs.CallerLemmas.{find_some, gives_or_not, never_both, numbered_is, one_task, opens_numbered, recalled_is, returns_or_not, takes_or_none}
 use Rattle.cfn_record.specs.declared.kind.RecordFault.{RecordFault}
 use Rattle.cfn_record.specs.declared.kind.RecordFault.TheVariants as kinds
 use Rattle.cfn_record.specs.Entries as entries
@@ -81,22 +76,6 @@ may_follow AtValues _ = inr (λ t follows. elim follows [ ])
 may_follow AtEnd (Says lines.End) = inl (AtOver, EndFollows)
 may_follow AtEnd _ = inr (λ t follows. elim follows [ ])
 may_follow AtOver _ = inr (λ t follows. elim follows [ ])
-
--- the first LF
-data Ends (rest : List ℕ) : Type 0 where
-  Never : HasNoEnd rest → Ends rest
-  Behind : (before others : List ℕ) → HasNoEnd before → rest ≡ before ++ 10 ∷ others → Ends rest
-
-ends : (rest : List ℕ) → Ends rest
-ends [] = Never refl
-ends (b ∷ rest) = elim (cases_Bool (b == 10)) [
-  | inl e ↦ Behind [] rest refl (ap (λ x. x ∷ rest) (eqb-true b 10 e))
-  | inr e ↦ one_more e (ends rest)
-]
-  where
-    one_more : (b == 10) ≡ false → Ends rest → Ends (b ∷ rest)
-    one_more e (Never inside) = Never (and_from (not (b == 10)) (list_all (λ b. not (b == 10)) rest) (not_from_false (b == 10) e) inside)
-    one_more e (Behind before others inside is) = Behind (b ∷ before) others (and_from (not (b == 10)) (list_all (λ b. not (b == 10)) before) (not_from_false (b == 10) e) inside) (ap (λ r. b ∷ r) is)
 
 no_end_in : (before others : List ℕ) → HasNoEnd (before ++ 10 ∷ others) → ⊥
 no_end_in [] others e = absurd (let h = (and_parts (not (10 == 10)) (list_all (λ b. not (b == 10)) others) e).0 in cc)
@@ -560,7 +539,7 @@ least_spelled upper (Some best) low spelled = spelled.0
 certificate_decided : (P : Network) (c : Certificate) → texts.IsSpelled c → Decided (Good P c)
 certificate_decided P c spelled = elim (good_or_fault P (spelling c)) [
   | inl good ↦ inl (subst (Good P) (one_certificate (spelling c) good.0 c good.1 (record { spelled = spelled; exact = refl })) good.2)
-  | inr fault ↦ inr (λ good. faults.no_fault_where_good P (spelling c) c fault.0 fault.1 (record { spelled = spelled; exact = refl }) good fault.2)
+  | inr fault ↦ inr (λ good. no_fault_where_good P (spelling c) c fault.0 fault.1 (record { spelled = spelled; exact = refl }) good fault.2)
 ]
 
 good_decided : (P : Network) (bytes rest : List ℕ) (front : List RecordLine) (s : State) (best : Option Solution) (pool : Pool) → HasPassed P bytes rest front s → ComesTo P front (lines_of_best best) pool → Decided (Good P (certificate_of P best (tree_of pool.tree)))

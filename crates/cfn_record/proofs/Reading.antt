@@ -1,21 +1,18 @@
 -- The lines of a good record are right, and lines that are right up to the end are those of a good record.
 use Rattle.std.proofs.Common.{◌≡◌, ℕ, List, [], ◌∷◌, ◌++◌, refl, sym, ap, ap₂, subst, ◌∙◌, append_assoc, append-nil, inl, inr}
 use Rattle.std.proofs.lemmas.List.{append_cancel_left}
-use Rattle.std.specs.Prelude.{◌⊎◌, Option, Some, None, map}
+use Rattle.std.specs.Prelude.{◌⊎◌, Option, Some, None}
 use Rattle.std.specs.List.{AllByRecursion}
-use Rattle.cfn_model.specs.declared.step.Step.{Step}
 use Rattle.cfn_model.specs.declared.step.Event.{Event}
-use Rattle.cfn_model.specs.declared.step.Event.TheVariants.{Did, Took, Refused}
-use Rattle.cfn_model.specs.Steps.{after}
 use Rattle.cfn_model.specs.declared.version.Version.TheVariants.{Second}
 use Rattle.cfn_model.specs.Network.{Network}
 use Rattle.cfn_model.specs.Tree.{Tree, Open, Closed, Split}
 use Rattle.cfn_model.specs.Certificate.{Solution, threshold_of}
-use Rattle.cfn_model.proofs.Versions.{has_decision}
-use Rattle.cfn_fault.specs.Nodes.{Makes, Splits}
+use Rattle.cfn_model.proofs.CallerLemmas.{has_every_tree}
 use Rattle.cfn_fault.specs.Lines as lines
 use Rattle.cfn_fault.specs.Lines.{Line}
-use Rattle.cfn_fault.proofs.Running.{node_follows, nothing_over, run_append, run_split, same_end}
+use Rattle.cfn_fault.proofs.CallerLemmas as fault
+use Rattle.cfn_fault.proofs.CallerLemmas.{node_follows, nothing_over, run_append, run_split, same_end}
 use Rattle.cfn_machine.specs.Pool.{Free, Out, Leaf, IsLeaf, Pool, Piece}
 use Rattle.cfn_machine.specs.Steps.{PoolGives}
 use Rattle.cfn_machine.proofs.CallerLemmas.{gives_out, replaced_leaf}
@@ -102,19 +99,8 @@ module _ (P : Network) (rest : List ℕ) where
   nodes_pass front paths more (l ∷ ls) run spelled = node_passes front paths more l run.0 ls run.1 run.2 spelled.0 (λ due behind. nodes_pass (front ++ Says l ∷ []) due more ls behind spelled.1)
 
 -- the lines of a tree lead from its path to what is due behind it
-runs_block : (history : List Event) (paths : List (List Event)) (block : List Step) → lines.Runs (lines.AtNodes Second (history ∷ paths)) (map (λ step. lines.Node (Makes step)) block) (lines.AtNodes Second (after block history ∷ paths))
-runs_block history paths [] = refl
-runs_block history paths (step ∷ block) = (lines.AtNodes Second ((Did step ∷ history) ∷ paths), node_follows tt, runs_block (Did step ∷ history) paths block)
-
 pub runs_tree : (history : List Event) (paths : List (List Event)) (tree : Tree) → lines.Runs (lines.AtNodes Second (history ∷ paths)) (lines.lines_of_tree tree) (lines.AtNodes Second paths)
-runs_tree history paths (Open block) = run_append _ _ _ _ _ (runs_block history paths block) (lines.AtNodes Second paths, node_follows tt, refl)
-runs_tree history paths (Closed block) = run_append _ _ _ _ _ (runs_block history paths block) (lines.AtNodes Second paths, node_follows tt, refl)
-runs_tree history paths (Split block d first second) =
-    run_append (lines.AtNodes Second (history ∷ paths)) (lines.AtNodes Second (after block history ∷ paths)) (lines.AtNodes Second paths) _ (lines.Node (Splits d) ∷ (lines.lines_of_tree first ++ lines.lines_of_tree second)) (runs_block history paths block) (
-      lines.AtNodes Second ((Took d ∷ after block history) ∷ (Refused d ∷ after block history) ∷ paths),
-      node_follows (has_decision d),
-      run_append _ _ _ _ _ (runs_tree (Took d ∷ after block history) ((Refused d ∷ after block history) ∷ paths) first) (runs_tree (Refused d ∷ after block history) paths second),
-    )
+runs_tree history paths tree = fault.runs_tree Second history paths tree (has_every_tree tree)
 
 -- bytes begin with the lines of one tree at most
 record Longer (ls ms : List RecordLine) : Type 0 where

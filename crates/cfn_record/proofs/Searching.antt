@@ -6,7 +6,7 @@ use Rattle.cfn_model.specs.Tree.{Valid}
 use Rattle.cfn_model.specs.Certificate.{threshold_of}
 use Rattle.cfn_machine.specs.Pool.{Pool, View, tree_of, opening_pool}
 use Rattle.cfn_machine.specs.Steps.{PoolSteps, Move, PoolRuns}
-use Rattle.cfn_machine.proofs.Keeping.{holds, opens}
+use Rattle.cfn_machine.proofs.CallerLemmas.{holds, opens}
 use Rattle.cfn_record.specs.Entries.{Entry, Swept, Follows, Runs, entry_of, with_entry, entries_of}
 use Rattle.cfn_record.specs.Replaying.{opening, sweep_at}
 use Rattle.cfn_record.specs.Laws.{SearchIsRecorded}
