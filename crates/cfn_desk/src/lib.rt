@@ -6,7 +6,8 @@
 //!
 //! - `interface` has the contract, `Desk`, and how its calls fail.
 //! - `MemoryDesk` is a desk in memory, and `SureDesk` one that keeps no text and on which only a load can fail.
-//! - `trace` is the list of calls, `named` keeps files by their names, and `room` bytes in room that is taken once.
+//! - `trace` is the list of calls, `named` keeps files by their names, `slot` is room for one written file, and `room` for
+//!   bytes, taken once.
 #![tactic(auto)]
 
 mod file_desk;
@@ -18,6 +19,7 @@ mod names;
 mod out_file;
 mod read;
 mod room;
+mod slot;
 mod storage;
 mod sure;
 mod trace;
@@ -25,9 +27,10 @@ mod trace;
 pub use file_desk::FileDesk;
 pub use host::{HostDesk, HostOutput, HostStorage};
 pub use interface::{Desk, Failed, LoadFault};
-pub use memory::{MemoryDesk, NAME_ROOM};
+pub use memory::MemoryDesk;
 pub use names::NameRoom;
 pub use read::FILE_LIMIT;
 pub use room::Full;
+pub use slot::NAME_ROOM;
 pub use storage::{Entry, ReadFault, Storage};
 pub use sure::SureDesk;

@@ -152,3 +152,87 @@ fn sure_desk_counts(rt: HostRuntime) -> Result<(), Fail> {
     assert!(rt; counts(rt.alloc())? == Some((7, 4)));
     Ok(())
 }
+
+/// What a desk answered to three files written one behind the other, each in two pieces.
+#[derive(Clone, Copy, PartialEq, Eq)]
+struct Writings {
+    first: Result<(), Failed>,
+    second: Result<(), Failed>,
+    third: Result<(), Failed>,
+}
+
+/// Writes two files and then a third one, the second of that name.
+fn write_three(desk: &mut MemoryDesk, second: &str) -> Writings
+    requires { desk.old.calls ≡ [] }
+{
+    let first = write_file(desk, "one", b"fi", b"rst");
+    let second = write_file(desk, second, b"sec", b"ond");
+    let third = write_file(desk, "three", b"th", b"ird");
+    Writings {
+        first,
+        second,
+        third,
+    }
+}
+
+/// A desk with room for two written files, where these calls fail.
+fn two_file_desk(rt: &HostRuntime, failing: &[u64]) -> Result<MemoryDesk, AllocError>
+    ensures { IfOk result (λ desk. desk.calls ≡ []) }
+{
+    MemoryDesk::make_two(rt.alloc(), &[("in", b"given")], 5, 6, 0, failing)
+}
+
+/// Whether the three files are answered so where these calls fail, and leave these bytes in each, or none.
+fn leaves_files(
+    rt: &HostRuntime,
+    failing: &[u64],
+    second: &str,
+    answers: Writings,
+    kept: [&[u8]; 3],
+) -> Result<bool, AllocError> {
+    let mut desk = two_file_desk(rt, failing)?;
+    Ok(
+        write_three(&mut desk, second) == answers
+            && tells(&desk, "one", kept[0])
+            && tells(&desk, second, kept[1])
+            && tells(&desk, "three", kept[2]),
+    )
+}
+
+const BOTH_KEPT: Writings = Writings {
+    first: Ok(()),
+    second: Ok(()),
+    third: Err(Failed),
+};
+
+const SECOND_FAILS: Writings = Writings {
+    first: Ok(()),
+    second: Err(Failed),
+    third: Ok(()),
+};
+
+const TWO_FAIL: Writings = Writings {
+    first: Err(Failed),
+    second: Err(Failed),
+    third: Ok(()),
+};
+
+/// The call that fails, or 0, the second file's name, what the three are answered, and the bytes of each. The first file
+/// may have 5 bytes, and the second 6.
+const THREE_FILES: [(u64, &str, Writings, [&[u8]; 3]); 4] = [
+    (0, "two", BOTH_KEPT, [b"first", b"second", b""]),
+    (0, "one", BOTH_KEPT, [b"second", b"second", b""]),
+    (6, "two", SECOND_FAILS, [b"first", b"", b"third"]),
+    (2, "two", TWO_FAIL, [b"", b"", b"third"]),
+];
+
+#[test]
+fn memory_desk_keeps_two_files(rt: HostRuntime) -> Result<(), Fail> {
+    for (ordinal, second, answers, kept) in THREE_FILES {
+        assert!(rt;
+            leaves_files(&rt, &[ordinal], second, answers, kept)?,
+            "call {ordinal}, {second}"
+        );
+    }
+    Ok(())
+}

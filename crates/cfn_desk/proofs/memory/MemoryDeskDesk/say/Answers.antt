@@ -9,4 +9,4 @@ invariant_of-self c =
     let piece = c.args.bytes.now in
     let inside = c.self.inside in
     let added : c.add.new.self.bytes ≡ inside.text.bytes ++ piece = search rules in
-    (c.self.invariant.0, (ap written c.say.ensures ∙ written-says piece inside.trace.calls ∙ c.self.invariant.1.0, ap said c.say.ensures ∙ said-says piece inside.trace.calls ∙ ap (λ told. told ++ piece) c.self.invariant.1.1 ∙ sym added))
+    (c.self.invariant.0, (ap written c.say.ensures ∙ written-says piece inside.trace.calls ∙ c.self.invariant.1.0, (ap said c.say.ensures ∙ said-says piece inside.trace.calls ∙ ap (λ told. told ++ piece) c.self.invariant.1.1.0 ∙ sym added, c.self.invariant.1.1.1)))
