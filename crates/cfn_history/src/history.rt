@@ -1,6 +1,6 @@
 //! All that was done to the pool in a search.
 
-ghost use Rattle.std.specs.Prelude.{◌≡◌, ◌+◌, ◌<◌, ◌≤◌, [], ◌∷◌, ◌++◌, OnOk, OnErr};
+ghost use Rattle.std.specs.Prelude.{◌≡◌, ◌↔◌, ◌+◌, ◌<◌, ◌≤◌, [], ◌∷◌, ◌++◌, OnOk, OnErr, IsTrue};
 ghost use Rattle.std.specs.List.{AllByRecursion};
 ghost use Rattle.cfn_model.specs.declared.limits.TheConstants.{GREATEST};
 ghost use Rattle.cfn_record.specs.Lines.{AreSpelled};
@@ -56,6 +56,11 @@ impl History {
         &self.happened
     }
 
+    /// Where its memory comes from.
+    pub fn allocator(&self) -> Global {
+        *self.happened.allocator()
+    }
+
     /// Nothing: its contract tells a caller that each number of a history has a spelling.
     pub fn spelled(&self)
         ensures budget { self.now.budget ≤ GREATEST }
@@ -64,9 +69,17 @@ impl History {
         let _ = &self.happened;
     }
 
+    /// Whether there is room for an entry. It takes no memory.
+    pub fn has_room(&self) -> bool
+        ensures { IsTrue result ↔ (0 < self.now.room) }
+    {
+        self.happened.len() < self.happened.capacity()
+    }
+
     /// Makes room for `more` entries. An `Err`, want of memory, leaves the history as it was. It never has less room than before.
     pub fn reserve(&mut self, more: usize) -> Result<(), AllocError>
         ensures entries { entries_of self.new ≡ entries_of self.old }
+        ensures happened { self.new.happened ≡ self.old.happened }
         ensures budget { self.new.budget ≡ self.old.budget }
         ensures ok { OnOk result (more ≤ self.new.room) }
         ensures room { self.old.room ≤ self.new.room }

@@ -9,10 +9,9 @@ use Rattle.cfn_model.specs.Sums.{floor}
 use Rattle.cfn_open.specs.declared.list.OpenLeaf.{OpenLeaf}
 use Rattle.cfn_open.specs.Listing.{Listing, IsLeast}
 use Rattle.cfn_proof.specs.Local.{BeforeOnceLaw}
-use Rattle.cfn_machine.specs.Pool.{Free, Out, PoolTree, Leaf, IsLeaf, Replaced, granted, active_leaves, Task, IsTask, View}
-use Rattle.cfn_machine.proofs.CallerLemmas.{hands_out, free_active, granted_active, none_active}
+use Rattle.cfn_machine.specs.Pool.{Free, Out, PoolTree, Leaf, IsLeaf, Replaced, granted, active_leaves, Task, View}
+use Rattle.cfn_machine.proofs.CallerLemmas.{free_active, granted_active, none_active}
 use Rattle.cfn_open.proofs.CallerLemmas.{least_once}
-use Rattle.cfn_leaves.specs.Answers.{IsSoundPool}
 use Rattle.cfn_machine.specs.Steps.{PoolTakes, IsFirst}
 use Rattle.cfn_leaves.specs.declared.entry.Mark.TheVariants as held
 use Rattle.cfn_leaves.specs.declared.entry.Entry.{Entry}
@@ -105,7 +104,3 @@ popped old new None first none same least = absurd (omega (arith, least.there.1,
 popped old new (Some leaf) first own rest least =
     let one = least_once old.leaves leaf first own least in
     (subst (λ l. IsPermutation old.leaves (l ∷ new.leaves)) one rest.0, rest.1)
-
--- the task that is handed out is one
-pub is_task : (h new : Holding) (b : Body) (worker want : ℕ) (task : Task) → IsSoundPool h → Handed h new b worker want task → IsTask h.network task
-is_task h new b worker want task sound handed = (hands_out h.network (pool_of h sound.0) (pool_of new sound.0) worker want task sound.1 (handed.takes sound.0)).0

@@ -20,3 +20,5 @@ pub mod LastRows
 pub mod Opened
 pub mod Halves
 pub mod Climbs
+pub mod Outs
+pub mod Lending

@@ -5,6 +5,8 @@ use Rattle.cfn_machine.specs.Pool.{View, IsSound}
 use Rattle.cfn_machine.specs.Steps.{PoolTakes, HasNone, NoneOpen, AllSpent, AllOut}
 use Rattle.cfn_leaves.specs.declared.taking.Taken.{Taken}
 use Rattle.cfn_leaves.specs.declared.taking.Taken.TheVariants.{Given, Empty, Spent, Again, Memory}
+use Rattle.cfn_leaves.specs.declared.handing.Lack.{Lack}
+use Rattle.cfn_leaves.specs.declared.handing.Lack.TheVariants as lacks
 use Rattle.cfn_leaves.specs.Value.{Holding, pool_of}
 
 -- With some view the pool is sound.
@@ -23,3 +25,9 @@ Takes old worker want Empty new = (new ≡ old) × ((view : View) → HasNone (p
 Takes old worker want Spent new = (new ≡ old) × ((view : View) → HasNone (pool_of old view) AllSpent)
 Takes old worker want Again new = (new ≡ old) × ((view : View) → HasNone (pool_of old view) AllOut)
 Takes old worker want Memory new = new ≡ old
+
+-- The answer where there is none for a reason.
+abbrev pub none_for : Lack → Taken
+none_for lacks.Empty = Empty
+none_for lacks.Spent = Spent
+none_for lacks.Again = Again

@@ -3,6 +3,8 @@ pub mod Listed
 pub mod Value
 pub mod Ways
 pub mod Answers
+pub mod Out
+pub mod Handing
 pub mod Returned
 pub mod Asides
 pub mod Swept

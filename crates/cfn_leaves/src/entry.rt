@@ -6,7 +6,7 @@ use cfn_proof::NodeId;
 #[derive(Clone, Copy)]
 pub(crate) enum Mark {
     Free,
-    Out { worker: u32, grant: u64 },
+    Out { worker: u64, grant: u64 },
 }
 
 /// An open leaf: its node, its mark, and the floor at the end of its path.

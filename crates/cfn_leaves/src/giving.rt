@@ -1,18 +1,16 @@
 //! What a worker has made of a task takes the place of the task's leaf.
 
-ghost use Rattle.std.specs.Prelude.{◌≡◌, ◌<◌, length, IfErr, OnOk, OnErr, MatchOption};
-ghost use Rattle.cfn_proof.specs.Nodes.{graft_at, IsFree, IsLinked};
-ghost use Rattle.cfn_machine.specs.Pool.{View};
-ghost use Rattle.cfn_machine.specs.Steps.{IsOut};
-ghost use Rattle.cfn_leaves.specs.Given.{Gives, IsTaskEntry};
-ghost use Rattle.cfn_leaves.specs.Value.{pool_of};
+ghost use Rattle.std.specs.Prelude.{◌≡◌, ◌↔◌, ◌<◌, ◌≤◌, length, IfErr, IsTrue, OnOk, OnErr};
+ghost use Rattle.cfn_model.specs.Tree.{count};
+ghost use Rattle.cfn_proof.specs.Nodes.{graft_at, tree_of, IsFree, IsLinked};
+ghost use Rattle.cfn_leaves.specs.Given.{Gives};
+ghost use Rattle.cfn_leaves.specs.Out.{IsTaskOut, Puts};
 
 use crate::climb::is_at;
-use crate::entry::Entry;
 use crate::leaves::Leaves;
+use crate::placed::Placed;
 use crate::placing::{place, reserve};
-use crate::returning::is_out_to;
-use crate::taking::{clear, held};
+use crate::taking::clear;
 use crate::walk::open_spots;
 use cfn_proof::laws::same_before;
 use cfn_proof::{NodeId, Tree};
@@ -38,30 +36,62 @@ impl Leaves {
         ensures network { self.new.network ≡ self.old.network }
         ensures gives { Gives self.old piece result self.new }
     {
-        same_before();
         piece.kept();
-        piece.task().kept();
-        piece.tree().linked();
-        let task = piece.task();
-        let number = task.leaf() as usize;
-        let Some(entry) = self.entry_of(task) else {
+        if !self.is_out_as(piece.task()) {
             return Handed::Gone { piece };
+        }
+        let threshold = piece.threshold();
+        let (task, tree) = piece.into_parts();
+        let worker = u64::from(task.worker());
+        match self.put(task.leaf(), worker, task.grant(), tree) {
+            Placed::Done => Handed::Done,
+            Placed::Gone { tree } => Handed::Gone {
+                piece: Piece::of(task, tree, threshold),
+            },
+            Placed::Memory { tree } => Handed::Memory {
+                piece: Piece::of(task, tree, threshold),
+            },
+        }
+    }
+
+    /// Whether a task's leaf is out to the task's worker with the task's grant, and has the task's path. It takes no memory.
+    fn is_out_as(&self, task: &Task) -> bool
+        ensures { IsTrue result ↔ IsTaskOut self.now task.now.task }
+    {
+        same_before();
+        let worker = u64::from(task.worker());
+        match self.out_entry(task.leaf(), worker, task.grant()) {
+            Some(entry) => is_at(&self.tree, entry.node, task.path()),
+            None => false,
+        }
+    }
+
+    /// Puts a tree with at most so many splits and closed leaves in the place of a leaf that is out to a worker with such a
+    /// grant, behind the leaf's own block: its open leaves are free, with the next numbers in the order of the tree's text,
+    /// its nodes are counted, and the grant ends. Where it can't, the tree is given back, and nothing changes.
+    pub fn put(&mut self, leaf: u64, worker: u64, grant: u64, tree: Tree) -> Placed
+        requires few { count (tree_of tree) ≤ grant }
+        ensures network { self.new.network ≡ self.old.network }
+        ensures puts { Puts self.old leaf worker grant tree result self.new }
+    {
+        same_before();
+        tree.linked();
+        let Some(entry) = self.out_entry(leaf, worker, grant) else {
+            return Placed::Gone { tree };
         };
-        let alloc = *self.table.allocator();
-        let Ok(walk) = open_spots(alloc, piece.tree(), task.floor()) else {
-            return Handed::Memory { piece };
+        let Ok(walk) = open_spots(*self.table.allocator(), &tree, entry.floor) else {
+            return Placed::Memory { tree };
         };
         let more = walk.spots.len();
         let opened = self.opened as usize;
         let Ok(()) = reserve(&mut self.table, &mut self.list, opened, more) else {
-            return Handed::Memory { piece };
+            return Placed::Memory { tree };
         };
         let nodes = self.tree.len();
-        let grant = task.grant();
-        if let Err(piece) = graft(&mut self.tree, entry.node, piece) {
-            return Handed::Memory { piece };
+        if let Err(tree) = graft(&mut self.tree, entry.node, tree) {
+            return Placed::Memory { tree };
         }
-        clear(&mut self.table, number);
+        clear(&mut self.table, leaf as usize);
         place(
             &mut self.table,
             &mut self.list,
@@ -72,40 +102,20 @@ impl Leaves {
         self.opened = self.opened + more as u64 - 1;
         self.granted -= grant;
         self.nodes += walk.made;
-        Handed::Done
-    }
-
-    /// What the table has of a task's leaf, where the leaf is out to the task's worker with the task's grant, and has the
-    /// task's path. It takes no memory.
-    fn entry_of(&self, task: &Task) -> Option<Entry>
-        ensures { MatchOption result ((view : View) → IsOut (pool_of self.now view) task.now.task → ⊥) (IsTaskEntry self.now task.now.task) }
-    {
-        same_before();
-        let entry = held(&self.table, task.leaf() as usize)?;
-        if is_out_to(entry.mark, task) && is_at(&self.tree, entry.node, task.path()) {
-            return Some(entry);
-        }
-        None
+        Placed::Done
     }
 }
 
-/// Puts a piece's tree into a leaf. An `Err`, want of memory or of numbers, gives back the piece, and leaves the tree as it
-/// was.
-fn graft(tree: &mut Tree, leaf: NodeId, piece: Piece) -> Result<(), Piece>
+/// Puts a piece into a leaf. An `Err`, want of memory or of numbers, gives back the piece, and leaves the tree as it was.
+fn graft(tree: &mut Tree, leaf: NodeId, piece: Tree) -> Result<(), Tree>
     requires there { leaf.number < length tree.old }
     requires free { IsFree tree.old leaf.number }
-    ensures ok { OnOk result (tree.new ≡ graft_at tree.old leaf.number piece.nodes) }
+    ensures ok { OnOk result (tree.new ≡ graft_at tree.old leaf.number piece) }
     ensures linked { IsLinked tree.new }
     ensures err { OnErr result (tree.new ≡ tree.old) }
     ensures back { IfErr result (λ given. given ≡ piece) }
 {
-    piece.kept();
-    let threshold = piece.threshold();
-    let (task, made) = piece.into_parts();
-    let grafted = tree.graft(leaf, made);
+    let grafted = tree.graft(leaf, piece);
     tree.linked();
-    match grafted {
-        Ok(()) => Ok(()),
-        Err(made) => Err(Piece::of(task, made, threshold)),
-    }
+    grafted
 }

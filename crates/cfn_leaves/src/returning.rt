@@ -1,10 +1,12 @@
 //! Leaves that are out are free again.
 
-ghost use Rattle.std.specs.Prelude.{◌≡◌, ◌↔◌, ◌+◌, ◌<◌, ◌≤◌, ◌^◌, ◌∷◌, length, slice_set, Some, IsPermutation, IsTrue, IsFalse};
+ghost use Rattle.std.specs.Prelude.{◌≡◌, ℕ, ◌↔◌, ◌+◌, ◌<◌, ◌≤◌, ◌^◌, List, ◌∷◌, length, slice_set, Some, MatchOption, IsPermutation, IsTrue, IsFalse};
+ghost use Rattle.cfn_model.specs.declared.step.Event.{Event};
 ghost use Rattle.cfn_machine.specs.Pool.{View};
 ghost use Rattle.cfn_machine.specs.Steps.{IsNotOut, PoolRecalls, PoolReturns};
 ghost use Rattle.cfn_leaves.specs.declared.entry.Mark.TheVariants.{Free, Out};
 ghost use Rattle.cfn_leaves.specs.Listed.{outs};
+ghost use Rattle.cfn_leaves.specs.Out.{IsOutEntry, IsOutTo, task_at};
 ghost use Rattle.cfn_leaves.specs.Returned.{AllFreed};
 ghost use Rattle.cfn_leaves.specs.Value.{pool_of};
 
@@ -24,17 +26,43 @@ impl Leaves {
         ensures none { IsFalse result → (view : View) → IsNotOut (pool_of self.old view) task.now.task }
         ensures same { IsFalse result → self.new ≡ self.old }
     {
+        self.put_back(task.leaf(), u64::from(task.worker()), task.grant())
+    }
+
+    /// Frees a leaf that is out to a worker with a grant, and answers whether it was. If it was not, nothing changes. It
+    /// takes no memory.
+    pub fn put_back(&mut self, leaf: u64, worker: u64, grant: u64) -> bool
+        ensures network { self.new.network ≡ self.old.network }
+        ensures back { IsTrue result → (view : View) (floor : ℕ) (path : List Event) → PoolReturns (pool_of self.old view) (task_at leaf worker grant floor path) (pool_of self.new view) }
+        ensures none { IsFalse result → IsOutTo self.old leaf worker grant → ⊥ }
+        ensures same { IsFalse result → self.new ≡ self.old }
+    {
         same_before();
-        let number = task.leaf() as usize;
-        let Some(entry) = held(&self.table, number) else {
+        let Some(entry) = self.out_entry(leaf, worker, grant) else {
             return false;
         };
-        if !is_out_to(entry.mark, task) {
-            return false;
-        }
-        free(&mut self.table, &mut self.list, number, entry);
-        self.granted -= task.grant();
+        free(&mut self.table, &mut self.list, leaf as usize, entry);
+        self.granted -= grant;
         true
+    }
+
+    /// Whether a leaf is out to a worker with a grant. It takes no memory.
+    pub fn is_out(&self, leaf: u64, worker: u64, grant: u64) -> bool
+        ensures { IsTrue result ↔ IsOutTo self.now leaf worker grant }
+    {
+        self.out_entry(leaf, worker, grant).is_some()
+    }
+
+    /// What the table has of a leaf, where it is out to a worker with a grant. It takes no memory.
+    pub(crate) fn out_entry(&self, leaf: u64, worker: u64, grant: u64) -> Option<Entry>
+        ensures { MatchOption result (IsOutTo self.now leaf worker grant → ⊥) (IsOutEntry self.now leaf worker grant) }
+    {
+        same_before();
+        let entry = held(&self.table, leaf as usize)?;
+        if is_out_to(entry.mark, worker, grant) {
+            return Some(entry);
+        }
+        None
     }
 
     /// Frees every leaf that is out. It takes no memory.
@@ -48,12 +76,12 @@ impl Leaves {
     }
 }
 
-/// Whether a leaf is out to a task's worker with the task's grant.
-pub(crate) fn is_out_to(mark: Mark, task: &Task) -> bool
-    ensures { IsTrue result ↔ (mark ≡ Out task.now.task.worker task.now.task.grant) }
+/// Whether a leaf is out to a worker with a grant.
+fn is_out_to(mark: Mark, to: u64, of: u64) -> bool
+    ensures { IsTrue result ↔ (mark ≡ Out to of) }
 {
     match mark {
-        Mark::Out { worker, grant } => worker == task.worker() && grant == task.grant(),
+        Mark::Out { worker, grant } => worker == to && grant == of,
         Mark::Free => false,
     }
 }

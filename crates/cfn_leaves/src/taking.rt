@@ -1,16 +1,14 @@
 //! A leaf is handed out.
 
-ghost use Rattle.std.specs.Prelude.{◌≡◌, ◌↔◌, ◌≤◌, ◌<◌, length, slice_set, vec_len, vec_capacity, Some, None, IsTrue};
-ghost use Rattle.cfn_machine.specs.Pool.{active_leaves};
-ghost use Rattle.cfn_leaves.specs.Value.{pool_tree};
-ghost use Rattle.cfn_leaves.specs.Answers.{IsSoundPool, Takes};
+ghost use Rattle.std.specs.Prelude.{◌≡◌, ◌≤◌, ◌<◌, length, slice_set, vec_len, vec_capacity, Some, None};
+ghost use Rattle.cfn_leaves.specs.Answers.{IsSoundPool, Takes, none_for};
 ghost use Rattle.cfn_leaves.specs.Standing.{entry_at};
 
 use crate::entry::{Entry, Mark};
+use crate::handing::Lack;
 use crate::leaves::Leaves;
 use crate::way::path_to;
 use cfn_net::Network;
-use cfn_proof::laws::same_before;
 use cfn_task::Task;
 
 /// The answer to a worker that asks for a leaf.
@@ -39,48 +37,30 @@ impl Leaves {
         ensures network { self.new.network ≡ self.old.network }
         ensures takes { Takes self.old worker want result self.new }
     {
-        same_before();
-        if self.has_none_active() {
-            return Taken::Empty;
-        }
-        if self.nodes == self.budget {
-            return Taken::Spent;
-        }
-        let left = self.budget - (self.nodes + self.granted);
-        if left == 0 {
-            return Taken::Again;
-        }
-        let Some(first) = self.list.least() else {
-            return Taken::Again;
+        let due = match self.due() {
+            Ok(due) => due,
+            Err(lack) => return Taken::none(lack),
         };
-        let Some(entry) = held(&self.table, first.leaf as usize) else {
-            return Taken::Again;
-        };
-        let Ok(path) = path_to(*self.table.allocator(), &self.tree, entry.node) else {
+        let Ok(path) = path_to(*self.table.allocator(), &self.tree, due.node) else {
             return Taken::Memory;
         };
-        let grant = want.min(left);
-        let _ = self.list.take_least();
-        mark(
-            &mut self.table,
-            first.leaf as usize,
-            entry,
-            Mark::Out { worker, grant },
-        );
-        self.granted += grant;
-        let leaf = u64::from(first.leaf);
-        let task = Task::of(network, leaf, worker, grant, first.floor, path);
+        let grant = self.lend(due, u64::from(worker), want);
+        let leaf = u64::from(due.leaf.leaf);
+        let task = Task::of(network, leaf, worker, grant, due.leaf.floor, path);
         Taken::Given { task }
     }
 }
 
-impl Leaves {
-    /// Whether no leaf is active: none is free, and below none that is out may a node be made.
-    fn has_none_active(&self) -> bool
-        ensures { IsTrue result ↔ (active_leaves (pool_tree self.now) ≡ 0) }
+impl Taken {
+    /// No task, for a reason.
+    fn none(lack: Lack) -> Taken
+        ensures { result ≡ none_for lack }
     {
-        same_before();
-        self.list.len() == 0 && self.granted == 0
+        match lack {
+            Lack::Empty => Taken::Empty,
+            Lack::Spent => Taken::Spent,
+            Lack::Again => Taken::Again,
+        }
     }
 }
 

@@ -1,18 +1,20 @@
 -- What the leaves and a part of the word keep where they make a step of the pool.
-use Rattle.std.proofs.Common.{◌≡◌, ℕ, ◌+◌, ◌<◌, ◌≤◌, ◌⊎◌, List, [], ◌∷◌, ◌++◌, refl, sym, ap, ◌∙◌, subst, inl, inr, arith, ltb-true, Option, Some, None, nat_lt, IfSome, Bool, true, false, if◌then◌else◌}
-use Rattle.std.specs.List.{AllByRecursion}
+use Rattle.std.proofs.Common.{◌≡◌, ℕ, List, [], ◌∷◌, ◌++◌, refl, sym, subst, inl, inr, arith, ltb-true, Option, Some, None, nat_lt, IfSome, Bool, true, false, if◌then◌else◌}
 use Rattle.cfn_model.specs.declared.report.Row.{Row}
-use Rattle.cfn_model.specs.Network.{Network, cost}
+use Rattle.cfn_model.specs.Network.{Network}
 use Rattle.cfn_model.specs.Certificate.{Solution, threshold_of}
 use Rattle.cfn_net.specs.Scoring.{IsPriced}
-use Rattle.cfn_machine.specs.Pool.{Pool, View, price, cheaper, KeepsFitting, row_of, tree_of}
-use Rattle.cfn_machine.specs.Steps.{PoolStep, PoolSteps, IsLegal, Notes}
-use Rattle.cfn_machine.specs.Laws.{IsPool}
+use Rattle.cfn_machine.specs.Pool.{price, cheaper, KeepsFitting, row_of, tree_of}
+use Rattle.cfn_machine.specs.Steps.{PoolStep, PoolSteps, IsLegal}
 use Rattle.cfn_machine.proofs.CallerLemmas.{keeps, keeps_rows}
 use Rattle.cfn_low.specs.Steps.{IsCost, IsReached}
 use Rattle.cfn_low.specs.Holding.{Holding as Part, kept}
-use Rattle.cfn_leaves.specs.Value.{Holding as Leaves, pool_of}
-use Rattle.cfn_pool.specs.Views.{values_of, view_of, AreReached, Held, pool, IsHeld}
+use Rattle.cfn_leaves.specs.Value.{Holding as Leaves}
+use Rattle.cfn_record.specs.Entries.{entry_of}
+use Rattle.cfn_pool.specs.declared.recording.Recording.{Recording}
+use Rattle.cfn_pool.specs.Recorded.{record_in}
+use Rattle.cfn_pool.specs.Views.{values_of, AreReached, Held, pool, IsHeld}
+use Rattle.cfn_pool.proofs.Recorded.{Tells, recorded_by_step}
 
 -- what is held has the price of its assignment
 pub price_is : (P : Network) (held : Option Solution) → IsPriced P held → price P (values_of held) ≡ threshold_of P.upper held
@@ -47,16 +49,17 @@ upper_reached P seen true below (inl top) = absurd (true_below seen P.upper belo
 upper_reached P seen true below (inr reached) = reached
 upper_reached P seen false below reached = tt
 
-abbrev pub held : Leaves → Part → Held
-held leaves part = record { leaves = leaves; part = part }
+abbrev pub held : Leaves → Part → Recording → Held
+held leaves part recording = record { leaves = leaves; part = part; recorded = record_in recording }
 
--- a step that is legal keeps all
-pub kept_by_step : (P : Network) (old new : Held) (word : ℕ) (step : PoolStep) → IsReached P old.part.seen → new.leaves.network ≡ P → IsHeld P old → IsLegal P (pool old) word step → PoolSteps P (pool old) word step (pool new) → IsHeld P new
-kept_by_step P old new word step reached own is legal steps = record {
+-- a step that is legal keeps all, where its entry is recorded
+pub kept_by_step : (P : Network) (old new : Held) (word : ℕ) (step : PoolStep) → IsReached P old.part.seen → new.leaves.network ≡ P → IsHeld P old → IsLegal P (pool old) word step → PoolSteps P (pool old) word step (pool new) → Tells (entry_of word step) old.recorded new.recorded → IsHeld P new
+kept_by_step P old new word step reached own is legal steps tells = record {
   own = own;
   pool_is = keeps P (pool old) (pool new) word step legal is.pool_is steps;
   rows = elim (keeps_rows P (pool old) (pool new) word step steps) [
     | inl same ↦ subst (AreReached P) (sym same) is.rows
     | inr more ↦ subst (AreReached P) (sym more.2) (rows_more P old.leaves.rows (row_of P (tree_of (pool old).tree) old.part.seen) is.rows (upper_reached P old.part.seen (nat_lt old.part.seen P.upper) refl reached))
   ];
+  recorded = recorded_by_step P (pool old) (pool new) word step old.recorded new.recorded legal steps is.recorded tells;
 }

@@ -1,3 +1,4 @@
 pub mod CallerLemmas
 pub mod Kept
+pub mod Recorded
 pub mod Rows

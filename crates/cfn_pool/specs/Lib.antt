@@ -1,3 +1,4 @@
+pub mod Recorded
 pub mod Views
 pub mod Answers
 pub mod Telling

@@ -9,6 +9,7 @@ use Rattle.cfn_machine.specs.Laws.{IsPool}
 use Rattle.cfn_low.specs.Steps.{IsCost}
 use Rattle.cfn_low.specs.Holding.{Holding as Part}
 use Rattle.cfn_leaves.specs.Value.{Holding as Leaves, pool_of}
+use Rattle.cfn_pool.specs.Recorded.{Recorded, IsRecordOf}
 
 -- The assignment of what is held.
 abbrev pub values_of : Option Solution → Option (List ℕ)
@@ -23,16 +24,18 @@ view_of part = record { best = values_of part.held; seen = part.seen; shares = p
 abbrev pub AreReached : Network → List Row → Type 0
 AreReached P rows = AllByRecursion (λ (row : Row). IfSome row.upper (IsCost P)) rows
 
--- What contracts see: the leaves and the part of the word, which are a pool.
+-- What contracts see: the leaves and the part of the word, which are a pool, and what is recorded, where a record is kept.
 pub record Held : Type 0 where
   pub leaves : Leaves
   pub part : Part
+  pub recorded : Option Recorded
 
 abbrev pub pool : Held → Pool
 pool h = pool_of h.leaves (view_of h.part)
 
--- They are a pool of the network.
+-- They are a pool of the network, and what is recorded makes one that is alike.
 pub record IsHeld (P : Network) (h : Held) : Type 0 where
   pub own : h.leaves.network ≡ P
   pub pool_is : IsPool P (pool h)
   pub rows : AreReached P h.leaves.rows
+  pub recorded : IfSome h.recorded (IsRecordOf P (pool h))

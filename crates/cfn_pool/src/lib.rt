@@ -7,12 +7,14 @@
 //!
 //! - `pool.rt`: the pool, and how it begins and ends;
 //! - `steps.rt`: leaves are handed out, and pieces come back;
+//! - `recording.rt`: what is recorded of them;
 //! - `reading.rt`: what is read of it;
 //! - `telling.rt`: what is told of it while a search runs.
 #![tactic(auto)]
 
 mod pool;
 mod reading;
+mod recording;
 mod steps;
 mod telling;
 

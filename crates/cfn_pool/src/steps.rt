@@ -1,8 +1,9 @@
 //! The pool's steps.
 
-ghost use Rattle.std.specs.Prelude.{◌≡◌, ◌+◌, ◌≤◌, length, IsTrue, IsFalse};
+ghost use Rattle.std.specs.Prelude.{◌≡◌, ◌+◌, ◌≤◌, length, IfSome, IsTrue, IsFalse};
 ghost use Rattle.cfn_machine.specs.Steps.{PoolRecalls, PoolReturns, PoolMeets, PoolNotes, IsNotOut};
 ghost use Rattle.cfn_machine.specs.Word.{all_shares};
+ghost use Rattle.cfn_pool.specs.Recorded.{IsExactRecordOf};
 ghost use Rattle.cfn_pool.specs.Views.{pool, view_of};
 ghost use Rattle.cfn_pool.specs.Answers.{Takes, Gives, Sweeps, NotesOrWaits};
 
@@ -37,7 +38,9 @@ impl<M: Incumbent> Pool<M> {
         ensures takes { Takes M.network self.old worker want result self.new }
     {
         self.holder.kept();
-        self.leaves.take(network, worker, want)
+        let taken = self.leaves.take(network, worker, want);
+        self.recording.took(worker, want, &taken);
+        taken
     }
 
     /// Heeds a note of what a piece's worker has seen, and puts the piece in the place of its task's leaf: its open leaves
@@ -51,13 +54,21 @@ impl<M: Incumbent> Pool<M> {
         piece.kept();
         self.holder.kept();
         self.holder.best().priced();
+        let copy = self.recording.copy(&piece);
         match self.leaves.give(piece) {
             leaves::Handed::Done => {
-                low.heed(&mut self.holder, note);
+                let seen = low.heed(&mut self.holder, note);
+                self.recording.gave(copy, seen);
                 Handed::Done
             }
-            leaves::Handed::Gone { piece } => Handed::Gone { piece, note },
-            leaves::Handed::Memory { piece } => Handed::Memory { piece, note },
+            leaves::Handed::Gone { piece } => {
+                drop(copy);
+                Handed::Gone { piece, note }
+            }
+            leaves::Handed::Memory { piece } => {
+                drop(copy);
+                Handed::Memory { piece, note }
+            }
         }
     }
 
@@ -69,7 +80,12 @@ impl<M: Incumbent> Pool<M> {
         ensures same { IsFalse result → self.new ≡ self.old }
     {
         self.holder.kept();
-        self.leaves.back(task)
+        if self.leaves.back(task) {
+            self.recording.freed(task);
+            true
+        } else {
+            false
+        }
     }
 
     /// Frees every leaf that is out. It takes no memory.
@@ -78,16 +94,20 @@ impl<M: Incumbent> Pool<M> {
     {
         self.holder.kept();
         self.leaves.recall();
+        self.recording.called_back();
     }
 
-    /// Reads the word, and closes each free leaf whose floor is at least that. It takes no memory.
+    /// Reads the word, and closes each free leaf whose floor is at least that. What is recorded makes a pool then that has seen the
+    /// same. It takes no memory.
     pub fn sweep(&mut self, low: &Low<M>)
-        ensures { Sweeps M.network (pool self.old) (pool self.new) }
+        ensures sweeps { Sweeps M.network (pool self.old) (pool self.new) }
+        ensures recorded { IfSome self.new.recorded (IsExactRecordOf M.network (pool self.new)) }
     {
         self.holder.kept();
         self.holder.best().priced();
         let word = low.look(&mut self.holder);
         self.leaves.sweep(word);
+        self.recording.swept(word);
     }
 
     /// Joins a part of the word into the pool's. It takes no memory.

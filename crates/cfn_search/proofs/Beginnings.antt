@@ -13,7 +13,7 @@ use Rattle.cfn_outcome.specs.Outcome.{Start, fresh}
 use Rattle.cfn_model.specs.declared.step.Event.{Event}
 use Rattle.cfn_machine.specs.declared.part.Part.{Part}
 use Rattle.cfn_machine.specs.Parts.{IsPart, has_leaf, others_among, others_of}
-use Rattle.cfn_machine.specs.Pool.{IsKept, PoolTree, dealt, numbered, opening_part, price, row_of}
+use Rattle.cfn_machine.specs.Pool.{IsKept, Pool, PoolTree, dealt, numbered, opening_part, opening_pool, price, row_of}
 use Rattle.cfn_machine.specs.Pool.{tree_of as tree_at}
 use Rattle.cfn_machine.specs.Laws.{CountsOthers, SetsAside}
 use Rattle.cfn_machine.proofs.CallerLemmas.{dealt_is, numbered_is, opening_small}
@@ -21,7 +21,7 @@ use Rattle.cfn_worker.specs.Searching.{IsSearch}
 use Rattle.cfn_low.specs.Holding.{kept}
 use Rattle.cfn_pool.specs.Views.{values_of}
 use Rattle.cfn_search.specs.declared.begin.Begin.{Begin}
-use Rattle.cfn_search.specs.Beginning.{MayBegin, start_of}
+use Rattle.cfn_search.specs.Beginning.{IsFresh, MayBegin, start_of}
 
 -- one open leaf may be gone on from, where nothing is known
 pub fresh_may : (P : Network) (begin : Begin) → IsNetwork P → begin.tree ≡ open_node None ∷ [] → begin.best ≡ record { network = P; held = None } → begin.part ≡ None → MayBegin P begin
@@ -32,6 +32,7 @@ fresh_may P begin network one none whole = record {
       (subst (λ (s : Scoring). IsKept P (Open []) (values_of s.held)) (sym none) (record { valid = tt; strict = tt; tame = opening_small P network; fits = tt }));
   few = let n = ap (λ (ns : List Node). count (tree_of ns)) one in omega (arith, n);
   part = subst (λ (p : Option Part). IfSome p IsPart) (sym whole) tt;
+  fresh = λ recorded. record { tree = ap (λ (ns : List Node). tree_of ns) one; none = ap (λ (s : Scoring). s.held) none; whole = whole };
 }
 
 no_upper : (u : ℕ) (b : Bool) → nat_lt u u ≡ b → (if b then Some u else None) ≡ None
@@ -74,6 +75,16 @@ opening_search P start part shares budget tree best sets begun first aside = rec
   begin = ap (λ (r : Row). r ∷ []) (sym first);
   aside = λ path there. sets (has_leaf part) tree path (subst (λ paths. Contains paths path) aside there);
 }
+
+-- a pool that begins with one open leaf and nothing known is at the usual opening
+pub fresh_opening : (P : Network) (part : Option Part) (shares budget : ℕ) (tree : Tree) (held : Option Solution) (now : Pool) → (tree ≡ Open []) × (held ≡ None) × (part ≡ None) → now ≡ opening_part (has_leaf part) P shares budget tree (values_of held) →
+    (shares : ℕ) × (now ≡ opening_pool P shares now.budget)
+fresh_opening P part shares budget tree held now fresh is =
+    let opened : now ≡ opening_pool P shares budget =
+    is ∙ ap (λ (t : Tree). opening_part (has_leaf part) P shares budget t (values_of held)) fresh.0
+    ∙ ap (λ (h : Option Solution). opening_part (has_leaf part) P shares budget (Open []) (values_of h)) fresh.1
+    ∙ ap (λ (p : Option Part). opening_part (has_leaf p) P shares budget (Open []) None) fresh.2 in
+    (shares, opened ∙ ap (opening_pool P shares) (sym (ap (λ (p : Pool). p.budget) opened)))
 
 -- so many leaves are left to others
 pub opened_others : (part : Option Part) (tree : Tree) (pool : PoolTree) (aside : List (List Event)) (n : ℕ) → CountsOthers → pool ≡ dealt (has_leaf part) (numbered 0 tree) → n ≡ others_among (has_leaf part) 0 (open_leaves (tree_at pool)) →

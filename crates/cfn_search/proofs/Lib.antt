@@ -1,4 +1,5 @@
 pub mod Crossing
 pub mod Beginnings
 pub mod Finished
+pub mod Recorded
 pub mod Telling

@@ -1,17 +1,20 @@
 //! What a search that stopped hands out.
 
-ghost use Rattle.std.specs.Prelude.{◌≡◌, ◌≤◌, ◌+◌, length, min, IsTrue, is_some};
+ghost use Rattle.std.specs.Prelude.{◌≡◌, ◌≤◌, ◌+◌, length, min, IfSome, IsTrue, is_some};
 ghost use Rattle.std.specs.Option.{ForSome};
 ghost use Rattle.cfn_model.specs.Certificate.{IsBest, threshold, threshold_of};
 ghost use Rattle.cfn_net.specs.Scoring.{IsPriced};
 ghost use Rattle.cfn_proof.specs.Certificates.{certificate_of, solution_of};
 ghost use Rattle.cfn_outcome.specs.Outcome.{IsOutcome, timed_nodes};
 ghost use Rattle.cfn_machine.specs.Word.{all_shares};
+ghost use Rattle.cfn_pool.specs.Recorded.{IsExactRecordOf};
 ghost use Rattle.cfn_pool.specs.Views.{pool};
 ghost use Rattle.cfn_worker.specs.Searching.{IsSearch};
+ghost use Rattle.cfn_search.specs.Recording.{IsRecorded};
 ghost use Rattle.cfn_search.specs.Stopping.{IsEnded, IsLast, IsStop};
 
 use cfn_clock::Halt;
+use cfn_history::History;
 use cfn_low::{Holder, Incumbent, Low};
 use cfn_net::{Network, Scored};
 use cfn_outcome::{Outcome, Stop};
@@ -38,26 +41,29 @@ pub(crate) fn wind_up<M: Incumbent>(low: &Low<M>, held: &mut Pool<M>)
     ensures budget { (pool held.new).budget ≡ (pool held.old).budget }
     ensures last { IsLast M.network (pool held.new) }
     ensures falls { (pool held.new).view.seen ≤ (pool held.old).view.seen }
+    ensures recorded { IfSome held.new.recorded (IsExactRecordOf M.network (pool held.new)) }
 {
     held.recall();
     held.sweep(low);
 }
 
 /// The outcome of a search that was wound up, and that left so many leaves to others: the certificate's threshold is what the pool
-/// has seen. It takes no memory.
+/// has seen. Beside it is what was done to the pool, where that is recorded. It takes no memory.
 pub(crate) fn conclude<M: Incumbent, H: Halt>(
     network: &Network,
     low: Low<M>,
     held: Pool<M>,
     others: u64,
     halt: &H,
-) -> Outcome
+) -> (Outcome, Option<History>)
     requires own { network.now ≡ M.network }
     requires ended { IsEnded M.start (pool held) }
     requires others { others ≡ length M.start.aside }
     requires last { IsLast M.network (pool held) }
-    ensures outcome { IsOutcome network.now M.start (timed_nodes (pool held).budget (H.limited halt.now)) result }
-    ensures threshold { threshold (certificate_of result.certificate) ≡ (pool held).view.seen }
+    requires recorded { IfSome held.recorded (IsExactRecordOf M.network (pool held)) }
+    ensures outcome { IsOutcome network.now M.start (timed_nodes (pool held).budget (H.limited halt.now)) result.0 }
+    ensures threshold { threshold (certificate_of result.0.certificate) ≡ (pool held).view.seen }
+    ensures history { IfSome result.1 (IsRecorded network.now (pool held).budget (certificate_of result.0.certificate)) }
 {
     network.limits();
     held.kept();
@@ -67,7 +73,7 @@ pub(crate) fn conclude<M: Incumbent, H: Halt>(
     let finished = held.finish();
     finished.tree.linked();
     let (best, _) = low.end(finished.holder);
-    Outcome {
+    let outcome = Outcome {
         certificate: Certificate {
             variables: network.variables(),
             functions: network.functions(),
@@ -79,7 +85,8 @@ pub(crate) fn conclude<M: Incumbent, H: Halt>(
         rows: finished.rows,
         nodes: finished.nodes,
         stop,
-    }
+    };
+    (outcome, finished.history)
 }
 
 /// Why a search stopped: where leaves are open and nodes are left, they are others', or time is past, or else memory was refused.

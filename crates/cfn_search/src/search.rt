@@ -1,7 +1,7 @@
 //! The search, and one dive of it.
 
-ghost use Rattle.std.specs.Prelude.{◌≡◌, ◌+◌, ◌<◌, ◌≤◌, ◌^◌, length, None, IfOk, IfSome};
-ghost use Rattle.cfn_model.specs.Tree.{count, open_leaves};
+ghost use Rattle.std.specs.Prelude.{◌≡◌, ℕ, ◌+◌, ◌<◌, ◌≤◌, ◌^◌, [], length, None, IfOk, IfSome, IsTrue};
+ghost use Rattle.cfn_model.specs.Tree.{Open, count, open_leaves};
 ghost use Rattle.cfn_model.specs.declared.limits.TheConstants.{GREATEST};
 ghost use Rattle.cfn_model.specs.Certificate.{threshold};
 ghost use Rattle.cfn_proof.specs.Certificates.{certificate_of};
@@ -9,18 +9,20 @@ ghost use Rattle.cfn_proof.specs.Nodes.{tree_of};
 ghost use Rattle.cfn_outcome.specs.Outcome.{IsOutcome, fresh, nodes_alone, timed_nodes};
 ghost use Rattle.cfn_machine.specs.Parts.{IsPart, has_leaf, others_among, others_of};
 ghost use Rattle.cfn_machine.specs.Pool as machine;
-ghost use Rattle.cfn_machine.specs.Pool.{IsKept, price, row_of};
+ghost use Rattle.cfn_machine.specs.Pool.{IsKept, opening_pool, price, row_of};
 ghost use Rattle.cfn_machine.specs.Word.{all_shares};
 ghost use Rattle.cfn_pool.specs.Views.{pool, values_of};
 ghost use Rattle.cfn_worker.specs.Searching.{IsSearch, GoesOn, HasMore};
 ghost use Rattle.cfn_worker.specs.Granting.{IsLimit};
 ghost use Rattle.cfn_search.specs.Beginning.{MayBegin, start_of};
+ghost use Rattle.cfn_search.specs.Recording.{IsRecorded};
 
 use crate::begin::Begin;
 use crate::outcome::{conclude, meet, wind_up};
 use cfn_clock::{Halt, Never};
 use cfn_explore::{Explore, Explorers, Problem};
 use cfn_gate::{Gate, OpenGate};
+use cfn_history::History;
 use cfn_low::{Holder, Incumbent, Low, Unnamed};
 use cfn_machine::Part;
 use cfn_machine::laws::parts;
@@ -50,8 +52,8 @@ pub fn solve<X: Explorers>(
     requires { budget ≤ GREATEST }
     ensures { IfOk result (IsOutcome network.now (fresh network.now) (nodes_alone budget)) }
 {
-    let begin = Begin::fresh(alloc, network.network())?;
-    let (outcome, _) = solve_alone(alloc, network, begin, budget, &OpenGate, &Never)?;
+    let begin = Begin::fresh(alloc, network.network(), false)?;
+    let (outcome, _, _) = solve_alone(alloc, network, begin, budget, &OpenGate, &Never)?;
     Ok(outcome)
 }
 
@@ -64,12 +66,13 @@ pub(crate) fn solve_alone<X: Explorers, G: Gate, H: Halt>(
     budget: u64,
     gate: &G,
     halt: &H,
-) -> Result<(Outcome, Threshold), AllocError>
+) -> Result<(Outcome, Option<History>, Threshold), AllocError>
     requires may { MayBegin network.now begin }
     requires budget { budget ≤ GREATEST }
     ensures outcome { IfOk result (λ found. IsOutcome network.now (start_of network.now begin) (timed_nodes budget (H.limited halt.now)) found.0) }
-    ensures most { IfOk result (λ found. found.1 ≤ network.now.upper) }
-    ensures least { IfOk result (λ found. threshold (certificate_of found.0.certificate) ≤ found.1) }
+    ensures history { IfOk result (λ found. IfSome found.1 (IsRecorded network.now budget (certificate_of found.0.certificate))) }
+    ensures most { IfOk result (λ found. found.2 ≤ network.now.upper) }
+    ensures least { IfOk result (λ found. threshold (certificate_of found.0.certificate) ≤ found.2) }
 {
     let (network, explorers) = (network.network(), network.explorers());
     let unnamed = Unnamed::make(alloc, network)?;
@@ -90,7 +93,7 @@ fn search<M: Incumbent, X: Explorers, G: Gate, H: Halt>(
     budget: u64,
     gate: &G,
     halt: &H,
-) -> Result<(Outcome, Threshold), AllocError>
+) -> Result<(Outcome, Option<History>, Threshold), AllocError>
     requires table { M.table ≡ unnamed.table }
     requires network { M.network ≡ unnamed.network }
     requires may { MayBegin unnamed.network begin }
@@ -98,15 +101,22 @@ fn search<M: Incumbent, X: Explorers, G: Gate, H: Halt>(
     requires own { network.now ≡ unnamed.network }
     requires explorers { X.network explorers.now ≡ unnamed.network }
     requires empty { empty ≡ record { network = unnamed.network; held = None } }
+    requires most { budget ≤ GREATEST }
     ensures outcome { IfOk result (λ found. IsOutcome network.now (start_of network.now begin) (timed_nodes budget (H.limited halt.now)) found.0) }
-    ensures most { IfOk result (λ found. found.1 ≤ network.now.upper) }
-    ensures least { IfOk result (λ found. threshold (certificate_of found.0.certificate) ≤ found.1) }
+    ensures history { IfOk result (λ found. IfSome found.1 (IsRecorded network.now budget (certificate_of found.0.certificate))) }
+    ensures most { IfOk result (λ found. found.2 ≤ network.now.upper) }
+    ensures least { IfOk result (λ found. threshold (certificate_of found.0.certificate) ≤ found.2) }
 {
     let (low, mut holder) = unnamed.named::<M>();
-    let Begin { tree, best, part } = begin;
+    let Begin {
+        tree,
+        best,
+        part,
+        recorded,
+    } = begin;
     know(&low, &mut holder, &best);
     let mut account = Account::open(low.split(&mut holder, empty));
-    let (mut held, others) = open(alloc, network, &low, holder, tree, part, budget)?;
+    let (mut held, others) = open(alloc, network, &low, holder, tree, part, recorded, budget)?;
     work(
         alloc,
         network,
@@ -136,7 +146,8 @@ pub(crate) fn know<M: Incumbent>(low: &Low<M>, holder: &mut Holder<M>, best: &Sc
 }
 
 /// A pool at the beginning of a search, with a tree, of which a part of a search has not all open leaves, and a part of the word that
-/// has seen the price of what it keeps; and how many leaves are left to others. An `Err` is want of memory.
+/// has seen the price of what it keeps; and how many leaves are left to others. What is done to it is recorded where that is asked for
+/// and there is memory for it. An `Err` is want of memory.
 pub(crate) fn open<M: Incumbent>(
     alloc: Global,
     network: &Network,
@@ -144,6 +155,7 @@ pub(crate) fn open<M: Incumbent>(
     holder: Holder<M>,
     tree: Tree,
     part: Option<Part>,
+    recorded: bool,
     budget: u64,
 ) -> Result<(Pool<M>, u64), AllocError>
     requires own { network.now ≡ M.network }
@@ -154,6 +166,8 @@ pub(crate) fn open<M: Incumbent>(
     requires begun { M.start.begun ≡ count (tree_of tree) }
     requires first { M.start.first ≡ row_of M.network (tree_of tree) (price M.network (values_of holder.held)) }
     requires aside { M.start.aside ≡ others_of part (tree_of tree) }
+    requires fresh { IsTrue recorded → (tree_of tree ≡ Open []) × (holder.held ≡ None) × (part ≡ None) }
+    requires most { budget ≤ GREATEST }
     ensures search { IfOk result (λ made. IsSearch M.start (pool made.0)) }
     ensures budget { IfOk result (λ made. (pool made.0).budget ≡ budget) }
     ensures shares { IfOk result (λ made. (pool made.0).view.shares ≡ holder.shares) }
@@ -164,8 +178,20 @@ pub(crate) fn open<M: Incumbent>(
         return Err(AllocError);
     };
     let others = others_among(part, &held);
+    record_if(recorded, alloc, &mut held);
     sweep(low, &mut held);
     Ok((held, others))
+}
+
+/// Begins a record of what is done to a pool from its usual opening on, where that is asked for and there is memory for it.
+fn record_if<M: Incumbent>(recorded: bool, alloc: Global, held: &mut Pool<M>)
+    requires opening { IsTrue recorded → (shares : ℕ) × (pool held.old ≡ opening_pool M.network shares (pool held.old).budget) }
+    requires budget { (pool held.old).budget ≤ GREATEST }
+    ensures { pool held.new ≡ pool held.old }
+{
+    if recorded {
+        let _ = held.begin_record(alloc);
+    }
 }
 
 /// How many of a pool's open leaves, by their numbers, a part leaves to others.
@@ -187,20 +213,22 @@ fn ended<M: Incumbent, H: Halt>(
     others: u64,
     account: Account<M>,
     halt: &H,
-) -> (Outcome, Threshold)
+) -> (Outcome, Option<History>, Threshold)
     requires own { network.now ≡ M.network }
     requires others { others ≡ length M.start.aside }
     requires search { IsSearch M.start (pool held) }
     requires shares { (pool held).view.shares + account.part.shares ≡ all_shares }
     ensures outcome { IsOutcome network.now M.start (timed_nodes (pool held).budget (H.limited halt.now)) result.0 }
-    ensures told { result.1 ≡ account.least }
-    ensures most { result.1 ≤ network.now.upper }
-    ensures least { threshold (certificate_of result.0.certificate) ≤ result.1 }
+    ensures history { IfSome result.1 (IsRecorded network.now (pool held).budget (certificate_of result.0.certificate)) }
+    ensures told { result.2 ≡ account.least }
+    ensures most { result.2 ≤ network.now.upper }
+    ensures least { threshold (certificate_of result.0.certificate) ≤ result.2 }
 {
     let (part, threshold) = account.close();
     meet(&low, &mut held, part);
     wind_up(&low, &mut held);
-    (conclude(network, low, held, others, halt), threshold)
+    let (outcome, history) = conclude(network, low, held, others, halt);
+    (outcome, history, threshold)
 }
 
 /// Makes its explorer, and dives until there is no leaf to take, memory is refused, be it for the explorer, or `halt` is past.

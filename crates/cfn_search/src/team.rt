@@ -1,6 +1,6 @@
 //! Several workers, each in a thread of its own.
 
-ghost use Rattle.std.specs.Prelude.{◌≡◌, ◌+◌, ◌<◌, ◌≤◌, [], ◌∷◌, ◌++◌, All, map, reverse, length, vec_capacity, IfOk, OnOk};
+ghost use Rattle.std.specs.Prelude.{◌≡◌, ◌+◌, ◌<◌, ◌≤◌, [], ◌∷◌, ◌++◌, All, map, reverse, length, vec_capacity, None, IfOk, IfSome, IsFalse, OnOk};
 ghost use Rattle.cfn_model.specs.declared.limits.TheConstants.{GREATEST};
 ghost use Rattle.cfn_model.specs.Certificate.{threshold};
 ghost use Rattle.cfn_proof.specs.Certificates.{certificate_of};
@@ -12,6 +12,7 @@ ghost use Rattle.cfn_worker.specs.Accounts.{least_of, reach};
 ghost use Rattle.cfn_worker.specs.Boards.{IsBoard};
 ghost use Rattle.cfn_worker.specs.Searching.{IsSearch};
 ghost use Rattle.cfn_search.specs.Beginning.{MayBegin, start_of};
+ghost use Rattle.cfn_search.specs.Recording.{IsRecorded};
 
 use crate::begin::Begin;
 use crate::outcome::{conclude, meet, wind_up};
@@ -19,6 +20,7 @@ use crate::search::{know, open, solve_alone};
 use cfn_clock::Halt;
 use cfn_explore::{Explorers, Problem};
 use cfn_gate::Gate;
+use cfn_history::History;
 use cfn_low::{Holder, Incumbent, Low, Unnamed};
 use cfn_net::{Network, Scored};
 use cfn_outcome::Outcome;
@@ -38,6 +40,8 @@ pub struct Teamwork {
     pub outcome: Outcome,
     /// Of each worker the least threshold at which it made a piece; where it made none, what it had seen at first.
     pub thresholds: Vec<Threshold>,
+    /// What was done to the pool, where it was asked for and memory was there for it.
+    pub history: Option<History>,
 }
 
 /// Searches as `solve` does, by 1 to 64 workers, each in a thread of its own; a single one works on the caller's thread.
@@ -66,15 +70,18 @@ pub fn solve_together<
     requires few { workers ≤ 64 }
     requires budget { budget ≤ GREATEST }
     ensures outcome { IfOk result (λ found. IsOutcome network.now (fresh network.now) (timed_nodes budget (H.limited halt.now)) found.outcome) }
+    ensures unasked { IfOk result (λ found. found.history ≡ None) }
     ensures count { IfOk result (λ found. length found.thresholds.items ≡ workers) }
     ensures most { IfOk result (λ found. All (λ k. k ≤ network.now.upper) found.thresholds.items) }
     ensures least { IfOk result (λ found. All (λ k. threshold (certificate_of found.outcome.certificate) ≤ k) found.thresholds.items) }
 {
-    let begin = Begin::fresh(alloc, network.network())?;
+    let begin = Begin::fresh(alloc, network.network(), false)?;
     solve_from(rt, alloc, network, begin, workers, budget, gate, halt)
 }
 
-/// Goes on so from the tree and the assignment of an earlier search. The nodes are those that it makes itself.
+/// Goes on so from the tree and the assignment of an earlier search. The nodes are those that it makes itself. What is done to the pool is
+/// recorded where the beginning asks for it; where memory for the record is refused, or a number in it has no spelling, the record is
+/// lost, and the search goes on.
 pub fn solve_from<X: Explorers + Sync, R: Threads + Wait + Sync, G: Gate + Sync, H: Halt + Sync>(
     rt: &R,
     alloc: Global,
@@ -90,6 +97,37 @@ pub fn solve_from<X: Explorers + Sync, R: Threads + Wait + Sync, G: Gate + Sync,
     requires few { workers ≤ 64 }
     requires budget { budget ≤ GREATEST }
     ensures outcome { IfOk result (λ found. IsOutcome network.now (start_of network.now begin) (timed_nodes budget (H.limited halt.now)) found.outcome) }
+    ensures history { IfOk result (λ found. IfSome found.history (IsRecorded network.now budget (certificate_of found.outcome.certificate))) }
+    ensures unasked { IfOk result (λ found. IsFalse begin.recorded → found.history ≡ None) }
+    ensures count { IfOk result (λ found. length found.thresholds.items ≡ workers) }
+    ensures most { IfOk result (λ found. All (λ k. k ≤ network.now.upper) found.thresholds.items) }
+    ensures least { IfOk result (λ found. All (λ k. threshold (certificate_of found.outcome.certificate) ≤ k) found.thresholds.items) }
+{
+    let recorded = begin.recorded;
+    let mut found = go_on(rt, alloc, network, begin, workers, budget, gate, halt)?;
+    if !recorded {
+        found.history = None;
+    }
+    Ok(found)
+}
+
+/// The same, where it is not told which searches have no record.
+fn go_on<X: Explorers + Sync, R: Threads + Wait + Sync, G: Gate + Sync, H: Halt + Sync>(
+    rt: &R,
+    alloc: Global,
+    network: &Problem<'_, X>,
+    begin: Begin,
+    workers: u32,
+    budget: u64,
+    gate: &G,
+    halt: &H,
+) -> Result<Teamwork, AllocError>
+    requires may { MayBegin network.now begin }
+    requires some { 1 ≤ workers }
+    requires few { workers ≤ 64 }
+    requires budget { budget ≤ GREATEST }
+    ensures outcome { IfOk result (λ found. IsOutcome network.now (start_of network.now begin) (timed_nodes budget (H.limited halt.now)) found.outcome) }
+    ensures history { IfOk result (λ found. IfSome found.history (IsRecorded network.now budget (certificate_of found.outcome.certificate))) }
     ensures count { IfOk result (λ found. length found.thresholds.items ≡ workers) }
     ensures most { IfOk result (λ found. All (λ k. k ≤ network.now.upper) found.thresholds.items) }
     ensures least { IfOk result (λ found. All (λ k. threshold (certificate_of found.outcome.certificate) ≤ k) found.thresholds.items) }
@@ -116,16 +154,18 @@ fn solve_single<X: Explorers, G: Gate, H: Halt>(
     requires may { MayBegin network.now begin }
     requires budget { budget ≤ GREATEST }
     ensures outcome { IfOk result (λ found. IsOutcome network.now (start_of network.now begin) (timed_nodes budget (H.limited halt.now)) found.outcome) }
+    ensures history { IfOk result (λ found. IfSome found.history (IsRecorded network.now budget (certificate_of found.outcome.certificate))) }
     ensures count { IfOk result (λ found. length found.thresholds.items ≡ 1) }
     ensures most { IfOk result (λ found. All (λ k. k ≤ network.now.upper) found.thresholds.items) }
     ensures least { IfOk result (λ found. All (λ k. threshold (certificate_of found.outcome.certificate) ≤ k) found.thresholds.items) }
 {
     let mut thresholds = Vec::with_capacity(alloc, 1)?;
-    let (outcome, own) = solve_alone(alloc, network, begin, budget, gate, halt)?;
+    let (outcome, history, own) = solve_alone(alloc, network, begin, budget, gate, halt)?;
     thresholds.push_reserved(own);
     Ok(Teamwork {
         outcome,
         thresholds,
+        history,
     })
 }
 
@@ -158,18 +198,25 @@ fn search<
     requires crew { M.workers ≡ workers }
     requires some { 1 ≤ workers }
     requires few { workers ≤ 64 }
+    requires most { budget ≤ GREATEST }
     ensures outcome { IfOk result (λ found. IsOutcome network.now (start_of network.now begin) (timed_nodes budget (H.limited halt.now)) found.outcome) }
+    ensures history { IfOk result (λ found. IfSome found.history (IsRecorded network.now budget (certificate_of found.outcome.certificate))) }
     ensures count { IfOk result (λ found. length found.thresholds.items ≡ workers) }
     ensures most { IfOk result (λ found. All (λ k. k ≤ network.now.upper) found.thresholds.items) }
     ensures least { IfOk result (λ found. All (λ k. threshold (certificate_of found.outcome.certificate) ≤ k) found.thresholds.items) }
 {
     let thresholds = Vec::with_capacity(alloc, workers as usize)?;
     let (low, mut holder) = unnamed.named::<M>();
-    let Begin { tree, best, part } = begin;
+    let Begin {
+        tree,
+        best,
+        part,
+        recorded,
+    } = begin;
     know(&low, &mut holder, &best);
     let (parts, ends) = supplies(alloc, network, &low, &mut holder, workers)?;
     let crew: Vec<Worker<M>> = Vec::with_capacity(alloc, workers as usize)?;
-    let Ok((held, others)) = open(alloc, network, &low, holder, tree, part, budget) else {
+    let Ok((held, others)) = open(alloc, network, &low, holder, tree, part, recorded, budget) else {
         crew.destroy_empty();
         return Err(AllocError);
     };
@@ -226,16 +273,18 @@ fn end_all<M: Incumbent, H: Halt>(
     requires none { thresholds.items ≡ [] }
     requires room { length crew.items ≤ vec_capacity thresholds }
     ensures outcome { IsOutcome network.now M.start (timed_nodes (pool held).budget (H.limited halt.now)) result.outcome }
+    ensures history { IfSome result.history (IsRecorded network.now (pool held).budget (certificate_of result.outcome.certificate)) }
     ensures count { length result.thresholds.items ≡ length crew.items }
     ensures most { All (λ k. k ≤ network.now.upper) result.thresholds.items }
     ensures least { All (λ k. threshold (certificate_of result.outcome.certificate) ≤ k) result.thresholds.items }
 {
     let thresholds = end_workers(&low, &mut held, crew, thresholds);
     wind_up(&low, &mut held);
-    let outcome = conclude(network, low, held, others, halt);
+    let (outcome, history) = conclude(network, low, held, others, halt);
     Teamwork {
         outcome,
         thresholds,
+        history,
     }
 }
 

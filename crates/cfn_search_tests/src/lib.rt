@@ -1,4 +1,4 @@
-//! Tests of the search, on one thread and by several workers, also by explorers that want memory, and no code of its own.
+//! Tests of the search, on one thread and by several workers, also by explorers that want memory, and with a record, and no code of its own.
 #![tactic(auto)]
 
 #[cfg(test)]
@@ -7,5 +7,7 @@ mod alone;
 mod failing;
 #[cfg(test)]
 mod networks;
+#[cfg(test)]
+mod recorded;
 #[cfg(test)]
 mod teams;

@@ -1,11 +1,12 @@
 //! The search of a network, by divers whose splits are named by weighted degree.
 
-ghost use Rattle.std.specs.Prelude.{◌≡◌, ◌≤◌, All, length, IfOk};
+ghost use Rattle.std.specs.Prelude.{◌≡◌, ◌≤◌, All, length, None, IfOk, IfSome, IsFalse};
 ghost use Rattle.cfn_model.specs.Certificate.{threshold};
 ghost use Rattle.cfn_model.specs.declared.limits.TheConstants.{GREATEST};
 ghost use Rattle.cfn_proof.specs.Certificates.{certificate_of};
 ghost use Rattle.cfn_outcome.specs.Outcome.{IsOutcome, fresh, nodes_alone, timed_nodes};
 ghost use Rattle.cfn_search.specs.Beginning.{MayBegin, start_of};
+ghost use Rattle.cfn_search.specs.Recording.{IsRecorded};
 
 use cfn_clock::Halt;
 use cfn_dive::Divers;
@@ -51,15 +52,18 @@ pub fn solve_together<R: Threads + Wait + Sync, G: Gate + Sync, H: Halt + Sync>(
     requires few { workers ≤ 64 }
     requires budget { budget ≤ GREATEST }
     ensures outcome { IfOk result (λ found. IsOutcome network.now (fresh network.now) (timed_nodes budget (H.limited halt.now)) found.outcome) }
+    ensures unasked { IfOk result (λ found. found.history ≡ None) }
     ensures count { IfOk result (λ found. length found.thresholds.items ≡ workers) }
     ensures most { IfOk result (λ found. All (λ k. k ≤ network.now.upper) found.thresholds.items) }
     ensures least { IfOk result (λ found. All (λ k. threshold (certificate_of found.outcome.certificate) ≤ k) found.thresholds.items) }
 {
-    let begin = Begin::fresh(alloc, network)?;
+    let begin = Begin::fresh(alloc, network, false)?;
     solve_from(rt, alloc, network, begin, workers, budget, gate, halt)
 }
 
-/// Goes on so from the tree and the assignment of an earlier search. The nodes are those that it makes itself.
+/// Goes on so from the tree and the assignment of an earlier search. The nodes are those that it makes itself. What is done to the pool is
+/// recorded where the beginning asks for it; where memory for the record is refused, or a number in it has no spelling, the record is
+/// lost, and the search goes on.
 pub fn solve_from<R: Threads + Wait + Sync, G: Gate + Sync, H: Halt + Sync>(
     rt: &R,
     alloc: Global,
@@ -75,6 +79,8 @@ pub fn solve_from<R: Threads + Wait + Sync, G: Gate + Sync, H: Halt + Sync>(
     requires few { workers ≤ 64 }
     requires budget { budget ≤ GREATEST }
     ensures outcome { IfOk result (λ found. IsOutcome network.now (start_of network.now begin) (timed_nodes budget (H.limited halt.now)) found.outcome) }
+    ensures history { IfOk result (λ found. IfSome found.history (IsRecorded network.now budget (certificate_of found.outcome.certificate))) }
+    ensures unasked { IfOk result (λ found. IsFalse begin.recorded → found.history ≡ None) }
     ensures count { IfOk result (λ found. length found.thresholds.items ≡ workers) }
     ensures most { IfOk result (λ found. All (λ k. k ≤ network.now.upper) found.thresholds.items) }
     ensures least { IfOk result (λ found. All (λ k. threshold (certificate_of found.outcome.certificate) ≤ k) found.thresholds.items) }

@@ -13,6 +13,7 @@ use Rattle.cfn_low.specs.contracts.low.Low as Low
 use Rattle.cfn_low.proofs.CallerLemmas.{holder_send, low_sync}
 use Rattle.cfn_proof.specs.contracts.block.Block as Block
 use Rattle.cfn_proof.specs.contracts.path.Path as Path
+use Rattle.cfn_history.specs.contracts.history.History as History
 use Rattle.cfn_pool.specs.contracts.pool.Pool as Pool
 use Rattle.cfn_task.specs.contracts.task.Task as Task
 use Rattle.cfn_rota.specs.contracts.ends.Ends as Ends
@@ -32,6 +33,9 @@ network_sync = search (sendable, crosses) depth 40
 block_send : IsSend Block.the_row
 block_send = search (sendable, crosses) depth 40 fits 20000
 
+history_send : IsSend History.the_row
+history_send = search (sendable, crosses, block_send) depth 40 fits 20000
+
 path_send : IsSend Path.the_row
 path_send = search (sendable, crosses, block_send) depth 40
 
@@ -47,7 +51,7 @@ module _ (M : RattleType) (g : word.Ghosts M.Denot) where
   of_low = low_sync M g
 
   pool_send : IsSend (Pool.the_row M g)
-  pool_send = search (sendable, crosses, of_holder, block_send, snapshot_send) depth 40
+  pool_send = search (sendable, crosses, of_holder, block_send, history_send, snapshot_send) depth 40 fits 20000
 
   lanes_send : IsSend (Ends.the_row Task.the_row (LaneTasks.the_row M) (lane_tasks.ghosts M g lane_tasks.no_dict))
   lanes_send = ends_send Task.the_row (LaneTasks.the_row M) (lane_tasks.ghosts M g lane_tasks.no_dict) task_send

@@ -13,10 +13,13 @@ use Rattle.cfn_machine.specs.Pool.{tree_of}
 use Rattle.cfn_pool.specs.Views.{pool}
 use Rattle.cfn_search.specs.Stopping.{IsStop}
 use Rattle.cfn_search.proofs.Finished.{searched, price_held, best_held}
+use Rattle.std.specs.Prelude.{IfSome}
+use Rattle.cfn_search.specs.Recording.{IsRecorded}
+use Rattle.cfn_search.proofs.Recorded.{good_record}
 use Rattle.cfn_search.proofs.outcome.conclude.Goals as goal
 
-pub invariant_of-result : goal.invariant_of-result
-invariant_of-result g c =
+pub invariant_of-outcome : goal.invariant_of-outcome
+invariant_of-outcome g c =
     let P = g.M.Incumbent.network in
     let held = pool c.args.held in
     let upper = c.limits.ensures.upper in
@@ -63,3 +66,19 @@ returns-clause-threshold g c =
     let finished = c.finish-finished.result in
     ap (λ (u : ℕ). threshold_of u (solution_of c.below.result)) (c.ub.ensures ∙ ap (λ (Q : Network). Q.upper) c.requires.own)
     ∙ price_held P c.end-best.result.0 finished.holder (pool c.args.held).view c.below.result c.end-best.ensures.best c.finish-finished.ensures.view c.requires.last.seen c.below.ensures.priced c.below.ensures.price
+
+-- what was recorded is a good record
+pub returns-clause-history : goal.returns-clause-history
+returns-clause-history g c =
+    let P = g.M.Incumbent.network in
+    let held = pool c.args.held in
+    let finished = c.finish-finished.result in
+    let certificate : Certificate = record { version = Second; variables = c.variables.result; functions = c.functions.result; upper = c.ub.result; best = solution_of c.below.result; lower = c.bound-lower.result; tree = nodes.tree_of finished.tree } in
+    subst (λ (Q : Network). IfSome finished.history (IsRecorded Q held.budget certificate)) (sym c.requires.own)
+    (good_record P held c.args.held.recorded finished.history certificate c.finish-finished.ensures.same c.requires.recorded c.kept.ensures.pool
+    (c.variables.ensures ∙ ap (λ (Q : Network). Rattle.std.proofs.Common.length Q.sizes) c.requires.own)
+    (c.functions.ensures ∙ ap (λ (Q : Network). Rattle.std.proofs.Common.length Q.functions) c.requires.own)
+    (c.ub.ensures ∙ ap (λ (Q : Network). Q.upper) c.requires.own)
+    (best_held P c.end-best.result.0 finished.holder c.below.result c.end-best.ensures.best c.below.ensures.best)
+    (price_held P c.end-best.result.0 finished.holder held.view c.below.result c.end-best.ensures.best c.finish-finished.ensures.view c.requires.last.seen c.below.ensures.priced c.below.ensures.price)
+    c.finish-finished.ensures.tree)

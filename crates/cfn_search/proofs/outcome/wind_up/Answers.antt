@@ -10,7 +10,7 @@ returns-clause-last g c =
     let P = g.M.Incumbent.network in
     let between = pool c.recall.new.self in
     let new = pool c.sweep.new.self in
-    let sweeps = c.sweep.ensures in
+    let sweeps = c.sweep.ensures.sweeps in
     let shares : between.view.shares ≡ 128 = ap (λ (p : Pool). p.view.shares) c.recall.ensures ∙ c.requires.shares in
     let best : new.view.best ≡ between.view.best = ap (λ (p : Pool). p.view.best) sweeps.sweeps in
     let seen : new.view.seen ≡ sweeps.word = ap (λ (p : Pool). p.view.seen) sweeps.sweeps in
@@ -24,7 +24,7 @@ returns-clause-last g c =
 pub returns-clause-falls : goal.returns-clause-falls
 returns-clause-falls g c =
     let new = pool c.sweep.new.self in
-    let sweeps = c.sweep.ensures in
+    let sweeps = c.sweep.ensures.sweeps in
     let seen : new.view.seen ≡ sweeps.word = ap (λ (p : Pool). p.view.seen) sweeps.sweeps in
     let before = ap (λ (p : Pool). p.view.seen) c.recall.ensures in
     let falls = sweeps.falls in
@@ -38,7 +38,7 @@ returns-clause-ended g c =
     let between = pool c.recall.new.self in
     let new = pool c.sweep.new.self in
     let search = c.requires.search in
-    let sweeps = c.sweep.ensures in
+    let sweeps = c.sweep.ensures.sweeps in
     let tree_is : new.tree ≡ swept P sweeps.word (recalled old.tree) [] = ap (λ (p : Pool). p.tree) sweeps.sweeps ∙ ap (λ (p : Pool). swept P sweeps.word p.tree []) c.recall.ensures in
     record {
       begun_is = ap (λ (p : Pool). p.begun) sweeps.sweeps ∙ ap (λ (p : Pool). p.begun) c.recall.ensures ∙ search.begun_is;

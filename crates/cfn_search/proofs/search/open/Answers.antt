@@ -1,17 +1,21 @@
-use Rattle.std.proofs.Common.{sym, ap, subst}
+use Rattle.std.proofs.Common.{sym, ap, subst, ◌∙◌}
 use Rattle.cfn_proof.specs.Nodes.{tree_of}
 use Rattle.cfn_machine.specs.Pool.{Pool}
 use Rattle.cfn_pool.specs.Views.{pool, values_of}
 use Rattle.cfn_worker.specs.Searching.{IsSearch}
-use Rattle.cfn_search.proofs.Beginnings.{opened_others, opening_search}
+use Rattle.cfn_search.proofs.Beginnings.{fresh_opening, opened_others, opening_search}
 use Rattle.cfn_search.proofs.search.open.Goals as goal
+
+pub record_if-requires-clause-opening : goal.record_if-requires-clause-opening
+record_if-requires-clause-opening g c = λ asked.
+    fresh_opening g.M.Incumbent.network c.args.part c.args.holder.shares c.args.budget (tree_of c.args.tree) c.args.holder.held (pool c.in-Ok.held) (c.requires.fresh asked) c.in-Ok.ensures.pool
 
 pub sweep-requires : goal.sweep-requires
 sweep-requires g c =
     let start = g.M.Incumbent.start in
     let opening = opening_search g.M.Incumbent.network start c.args.part c.args.holder.shares c.args.budget (tree_of c.args.tree) (values_of c.args.holder.held)
     c.parts.ensures.sets c.requires.begun c.requires.first c.requires.aside in
-    record { search = subst (λ (p : Pool). IsSearch start p) (sym c.in-Ok.ensures.pool) opening }
+    record { search = subst (λ (p : Pool). IsSearch start p) (sym (c.record_if.ensures ∙ c.in-Ok.ensures.pool)) opening }
 
 pub returns-clause-others : goal.returns-clause-others
 returns-clause-others g c =

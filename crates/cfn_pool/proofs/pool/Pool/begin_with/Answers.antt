@@ -9,13 +9,14 @@ use Rattle.cfn_machine.proofs.CallerLemmas.{opens_part}
 use Rattle.cfn_leaves.specs.Value.{Holding as Leaves, pool_of}
 use Rattle.cfn_low.specs.Holding.{Holding as Part}
 use Rattle.cfn_low.specs.Steps.{IsReached}
+use Rattle.cfn_pool.specs.declared.recording.Recording.TheVariants.{Off}
 use Rattle.cfn_pool.specs.Views.{pool, values_of, AreReached}
 use Rattle.cfn_pool.proofs.Kept.{held, upper_reached}
 use Rattle.cfn_pool.proofs.pool.Pool.begin_with.Goals as goal
 
 -- the leaves of a tree, with a part that has seen the price of what it keeps, are the opening's
 opened : (mine : ℕ → Bool) (P : Network) (leaves : Leaves) (part : Part) (nodes : List Node) (budget seen : ℕ) → seen ≡ part.seen →
-    pool_of leaves (record { best = values_of part.held; seen = seen; shares = part.shares }) ≡ opening_part mine P part.shares budget (tree_of nodes) (values_of part.held) → pool (held leaves part) ≡ opening_part mine P part.shares budget (tree_of nodes) (values_of part.held)
+    pool_of leaves (record { best = values_of part.held; seen = seen; shares = part.shares }) ≡ opening_part mine P part.shares budget (tree_of nodes) (values_of part.held) → pool (held leaves part Off) ≡ opening_part mine P part.shares budget (tree_of nodes) (values_of part.held)
 opened mine P leaves part nodes budget seen now is = ap (λ (s : ℕ). pool_of leaves (record { best = values_of part.held; seen = s; shares = part.shares })) (sym now) ∙ is
 
 -- the price of what fits was reached
@@ -38,4 +39,5 @@ invariant_of-result g c =
       own = c.in-Ok.ensures.network ∙ c.requires.own;
       pool_is = subst (IsPool P) (sym (returns-in-Ok-clause-pool g c)) (opens_part (has_leaf c.args.part) P c.args.holder.shares c.args.budget (tree_of c.args.tree) best (subst IsNetwork c.requires.own c.limits.ensures) c.requires.kept);
       rows = subst (AreReached P) (sym (ap (λ (p : Pool). p.rows) (returns-in-Ok-clause-pool g c))) (upper_reached P k (nat_lt k P.upper) refl (reached P best c.requires.kept.fits), tt);
+      recorded = tt;
     }

@@ -1,48 +1,49 @@
-use Rattle.std.proofs.Common.{◌≡◌, ℕ, ◌+◌, ◌≤◌, ◌∙◌, refl, sym, ap, ap₂, subst, arith, IsTrue, IsFalse, true, false, Bool}
+use Rattle.std.proofs.Common.{◌≡◌, ℕ, ◌∙◌, refl, sym, ap, subst, arith}
 use Rattle.cfn_model.specs.Network.{Network}
-use Rattle.cfn_machine.specs.Pool.{Pool, View, cheaper}
+use Rattle.cfn_machine.specs.Pool.{View}
 use Rattle.cfn_machine.specs.Steps as steps
 use Rattle.cfn_machine.specs.Steps.{PoolReturns, PoolRecalls, PoolSweeps, PoolNotes, PoolMeets, PoolGives, IsNotOut, IsOut}
 use Rattle.cfn_leaves.specs.Value.{Holding as Leaves, pool_of}
 use Rattle.cfn_low.specs.Holding.{Holding as Part}
-use Rattle.cfn_low.specs.Steps.{IsReached}
-use Rattle.cfn_pool.specs.Views.{Held, pool, view_of, IsHeld}
+use Rattle.cfn_pool.specs.Recorded.{record_in}
+use Rattle.cfn_pool.specs.Views.{Held, pool, view_of}
 use Rattle.cfn_pool.proofs.Kept.{held, kept_by_step, price_is}
+use Rattle.cfn_pool.proofs.Recorded.{adds_copy}
 use Rattle.cfn_net.specs.Scoring.{Scoring, IsPriced}
 use Rattle.cfn_task.specs.Values.{PieceValue, piece_of}
 use Rattle.cfn_machine.specs.Pool.{IsPiece}
-use Rattle.cfn_leaves.specs.Given.{Gives as LeavesGive}
 use Rattle.cfn_pool.specs.Answers.{IsGiven}
 use Rattle.cfn_pool.proofs.pool.Pool.give.Goals as goal
 
 -- where a note was heeded, the piece is in its leaf's place
 given : (old new : Leaves) (before after : Part) (piece : PieceValue) (word : ℕ) → after ≡ record before { seen = word } →
-    ((view : View) (word : ℕ) → PoolGives (pool_of old view) word (piece_of piece) (pool_of new (record view { seen = word }))) → PoolGives (pool (held old before)) word (piece_of piece) (pool (held new after))
+    ((view : View) (word : ℕ) → PoolGives (pool_of old view) word (piece_of piece) (pool_of new (record view { seen = word }))) → PoolGives (pool_of old (view_of before)) word (piece_of piece) (pool_of new (view_of after))
 given old new before after piece word heeded gives =
-    subst (λ (part : Part). PoolGives (pool (held old before)) word (piece_of piece) (pool (held new part))) (sym heeded) (gives (view_of before) word)
+    subst (λ (part : Part). PoolGives (pool_of old (view_of before)) word (piece_of piece) (pool_of new (view_of part))) (sym heeded) (gives (view_of before) word)
 
 pub invariant_of-self : goal.invariant_of-self
 invariant_of-self g c =
     let part = c.self.inside.holder in
-    let now = c.heed.new.holder in
-    let below = c.heed.ensures.below in
-    kept_by_step g.M.Incumbent.network (held c.self.inside.leaves part) (held c.give.new.self now) c.heed.result (steps.Gives (piece_of c.args.piece)) c.kept-2.ensures.reached (c.in-Done.ensures.network ∙ c.self.invariant.own) c.self.invariant
-    (subst (λ (Q : Network). IsPiece Q (piece_of c.args.piece)) c.requires.own c.kept.ensures.piece, omega (arith, below, c.requires.seen), c.heed.ensures.falls)
-    (given c.self.inside.leaves c.give.new.self part now c.args.piece c.heed.result c.heed.ensures.seen c.in-Done.ensures.gives)
+    let now = c.heed-seen.new.holder in
+    let below = c.heed-seen.ensures.below in
+    kept_by_step g.M.Incumbent.network (held c.self.inside.leaves part c.self.inside.recording) (held c.give.new.self now c.gave.new.self) c.heed-seen.result (steps.Gives (piece_of c.args.piece)) c.kept-2.ensures.reached (c.in-Done.ensures.network ∙ c.self.invariant.own) c.self.invariant
+    (subst (λ (Q : Network). IsPiece Q (piece_of c.args.piece)) c.requires.own c.kept.ensures.piece, omega (arith, below, c.requires.seen), c.heed-seen.ensures.falls)
+    (given c.self.inside.leaves c.give.new.self part now c.args.piece c.heed-seen.result c.heed-seen.ensures.seen c.in-Done.ensures.gives)
+    (adds_copy (record_in c.self.inside.recording) (record_in c.gave.new.self) c.copy-copy.result c.args.piece c.heed-seen.result c.copy-copy.ensures c.gave.ensures)
 
 pub returns-in-Done : goal.returns-in-Done
 returns-in-Done g c =
     let part = c.self.inside.holder in
-    let now = c.heed.new.holder in
+    let now = c.heed-seen.new.holder in
     let price = price_is g.M.Incumbent.network part.held (subst (λ (s : Scoring). IsPriced s.network s.held) c.best.ensures c.priced.ensures) in
     record {
-      gives = subst (λ (old : Held). IsGiven g.M.Incumbent.network (pool old) c.args.piece c.args.note (pool (held c.give.new.self now))) c.self.view_is (record {
-        word = c.heed.result;
-        falls = c.heed.ensures.falls;
-        noted = c.heed.ensures.below;
-        below = let b = c.heed.ensures.price in omega (arith, b, price);
-        whole = λ all. c.heed.ensures.whole all ∙ sym price;
-        gives = given c.self.inside.leaves c.give.new.self part now c.args.piece c.heed.result c.heed.ensures.seen c.in-Done.ensures.gives;
+      gives = subst (λ (old : Held). IsGiven g.M.Incumbent.network (pool old) c.args.piece c.args.note (pool (held c.give.new.self now c.gave.new.self))) c.self.view_is (record {
+        word = c.heed-seen.result;
+        falls = c.heed-seen.ensures.falls;
+        noted = c.heed-seen.ensures.below;
+        below = let b = c.heed-seen.ensures.price in omega (arith, b, price);
+        whole = λ all. c.heed-seen.ensures.whole all ∙ sym price;
+        gives = given c.self.inside.leaves c.give.new.self part now c.args.piece c.heed-seen.result c.heed-seen.ensures.seen c.in-Done.ensures.gives;
       });
     }
 
@@ -53,7 +54,7 @@ returns-in-Gone g c =
       gives = (
         c.in-Gone.ensures.gives.0,
         refl,
-        ap (λ (l : Leaves). held l part) c.in-Gone.ensures.gives.1 ∙ c.self.view_is,
+        ap (λ (l : Leaves). held l part c.self.inside.recording) c.in-Gone.ensures.gives.1 ∙ c.self.view_is,
         subst (λ (old : Held). IsOut (pool old) c.args.piece.task → ⊥) c.self.view_is (c.in-Gone.ensures.gives.2 (view_of part)),
       );
     }

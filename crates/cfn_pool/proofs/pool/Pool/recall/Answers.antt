@@ -1,19 +1,14 @@
-use Rattle.std.proofs.Common.{◌≡◌, ℕ, ◌+◌, ◌≤◌, ◌∙◌, refl, sym, ap, ap₂, subst, arith, IsTrue, IsFalse, true, false, Bool}
-use Rattle.cfn_model.specs.Network.{Network}
-use Rattle.cfn_machine.specs.Pool.{Pool, View, cheaper}
+use Rattle.std.proofs.Common.{◌∙◌, subst}
 use Rattle.cfn_machine.specs.Steps as steps
 use Rattle.cfn_machine.specs.Steps.{PoolReturns, PoolRecalls, PoolSweeps, PoolNotes, PoolMeets, PoolGives, IsNotOut, IsOut}
-use Rattle.cfn_leaves.specs.Value.{Holding as Leaves, pool_of}
-use Rattle.cfn_low.specs.Holding.{Holding as Part}
-use Rattle.cfn_low.specs.Steps.{IsReached}
-use Rattle.cfn_pool.specs.Views.{Held, pool, view_of, IsHeld}
-use Rattle.cfn_pool.proofs.Kept.{held, kept_by_step, cheaper_is, fits_is}
+use Rattle.cfn_pool.specs.Views.{Held, pool, view_of}
+use Rattle.cfn_pool.proofs.Kept.{held, kept_by_step}
 use Rattle.cfn_pool.proofs.pool.Pool.recall.Goals as goal
 
 pub invariant_of-self : goal.invariant_of-self
 invariant_of-self g c =
     let part = c.self.inside.holder in
-    kept_by_step g.M.Incumbent.network (held c.self.inside.leaves part) (held c.recall.new.self part) 0 steps.Recalls c.kept.ensures.reached (c.recall.ensures.network ∙ c.self.invariant.own) c.self.invariant tt (c.recall.ensures.recalls (view_of part))
+    kept_by_step g.M.Incumbent.network (held c.self.inside.leaves part c.self.inside.recording) (held c.recall.new.self part c.called_back.new.self) 0 steps.Recalls c.kept.ensures.reached (c.recall.ensures.network ∙ c.self.invariant.own) c.self.invariant tt (c.recall.ensures.recalls (view_of part)) c.called_back.ensures
 
 pub returns : goal.returns
-returns g c = subst (λ (old : Held). PoolRecalls (pool old) (pool (held c.recall.new.self c.self.inside.holder))) c.self.view_is (c.recall.ensures.recalls (view_of c.self.inside.holder))
+returns g c = subst (λ (old : Held). PoolRecalls (pool old) (pool (held c.recall.new.self c.self.inside.holder c.called_back.new.self))) c.self.view_is (c.recall.ensures.recalls (view_of c.self.inside.holder))

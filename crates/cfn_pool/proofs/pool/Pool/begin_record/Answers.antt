@@ -1,0 +1,22 @@
+use Rattle.std.proofs.Common.{sym, ap, ◌∙◌}
+use Rattle.cfn_machine.specs.Pool.{opening_pool}
+use Rattle.cfn_history.specs.Histories.{HistoryValue}
+use Rattle.cfn_pool.specs.Views.{Held, pool}
+use Rattle.cfn_pool.proofs.Kept.{held}
+use Rattle.cfn_pool.proofs.Recorded.{first_told}
+use Rattle.cfn_pool.proofs.pool.Pool.begin_record.Goals as goal
+
+-- the history has the pool's budget, and nothing is done yet
+pub invariant_of-self : goal.invariant_of-self
+invariant_of-self g c =
+    let P = g.M.Incumbent.network in
+    let now = held c.self.inside.leaves c.self.inside.holder c.self.inside.recording in
+    let history = c.reserve.new.self in
+    let budget = sym (ap (λ (h : Held). (pool h).budget) c.self.view_is) ∙ sym c.budget.ensures ∙ sym (ap (λ (h : HistoryValue). h.budget) c.new-history.ensures) ∙ sym c.reserve.ensures.budget in
+    record {
+      own = c.self.invariant.own;
+      pool_is = c.self.invariant.pool_is;
+      rows = c.self.invariant.rows;
+      recorded = first_told P c.requires.opening.0 history (pool now) (ap pool c.self.view_is ∙ c.requires.opening.1 ∙ ap (opening_pool P c.requires.opening.0) budget)
+          (c.reserve.ensures.happened ∙ ap (λ (h : HistoryValue). h.happened) c.new-history.ensures);
+    }
