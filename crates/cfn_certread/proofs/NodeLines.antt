@@ -101,7 +101,7 @@ node_read old new m m' ls version event tree some tells goes =
       reads = g.reads tree.nodes tree.reads;
     }
 
-step_back : (step : Step) → step_of (text_of_step step) ≡ step
+pub step_back : (step : Step) → step_of (text_of_step step) ≡ step
 step_back (steps.Project f i a m) = refl
 step_back (steps.Extend f i a m) = refl
 step_back (steps.Lift x m) = refl
@@ -111,7 +111,7 @@ step_back (steps.CutTuple f c) = refl
 same_text : {a b : StepText} → items.Step a ≡ items.Step b → a ≡ b
 same_text e = cc
 
-decision_back : (d : Decision) → decision_of (text_of_decision d) ≡ d
+pub decision_back : (d : Decision) → decision_of (text_of_decision d) ≡ d
 decision_back (decisions.Is x a) = refl
 decision_back (decisions.Most x v) = refl
 
@@ -119,7 +119,7 @@ same_split : {a b : DecisionText} → items.Split a ≡ items.Split b → a ≡ 
 same_split e = cc
 
 -- two items that are told alike are one
-same_item : (a b : Item) → item_of (Node a) ≡ item_of (Node b) → a ≡ b
+pub same_item : (a b : Item) → item_of (Node a) ≡ item_of (Node b) → a ≡ b
 same_item (Makes step) (Makes other) e = ap Makes (sym (step_back step) ∙ ap step_of (same_text e) ∙ step_back other)
 same_item (Makes step) LeavesOpen e = absurd (cc)
 same_item (Makes step) Closes e = absurd (cc)

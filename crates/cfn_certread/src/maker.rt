@@ -25,7 +25,7 @@ pub(crate) enum Due {
 
 /// A tree in the making, with a stack of the trees of the text that are due.
 #[derive(Drop)]
-pub(crate) struct Maker {
+pub struct Maker {
     alloc: Global,
     tree: Tree,
     /// The steps so far of the block of the node that is due.
@@ -49,7 +49,7 @@ impl Model for Maker {
 
 impl Maker {
     /// An open root, into which the whole tree is read. An `Err` is want of memory.
-    pub(crate) fn new(alloc: Global) -> Result<Maker, AllocError>
+    pub fn new(alloc: Global) -> Result<Maker, AllocError>
         ensures { IfOk result (λ maker. maker ≡ record {
           nodes = open_node None ∷ [];
           block = [];
@@ -66,7 +66,7 @@ impl Maker {
     }
 
     /// Whether no tree is due.
-    pub(crate) fn is_over(&self) -> bool
+    pub fn is_over(&self) -> bool
         ensures { IsTrue result ↔ (self.now.due ≡ []) }
     {
         self.here.is_none()
@@ -74,7 +74,7 @@ impl Maker {
 
     /// Reads a step of the block of the node that is due. At one that has a number of 2^32 or more the node is left open,
     /// and the rest of its tree is skipped. An `Err` is want of memory.
-    pub(crate) fn step(&mut self, step: StepText) -> Result<(), AllocError>
+    pub fn step(&mut self, step: StepText) -> Result<(), AllocError>
         requires some { 0 < length self.old.due }
         requires spelled { IsSpelledStep (step_of step) }
         ensures { OnOk result (Goes self.old self.new (Makes (step_of step))) }
@@ -100,7 +100,7 @@ impl Maker {
     }
 
     /// The node that is due is an open leaf. It takes no memory.
-    pub(crate) fn open(&mut self)
+    pub fn open(&mut self)
         requires { 0 < length self.old.due }
         ensures { Goes self.old self.new LeavesOpen }
     {
@@ -113,7 +113,7 @@ impl Maker {
     }
 
     /// The node that is due is a closed leaf. It takes no memory.
-    pub(crate) fn close(&mut self)
+    pub fn close(&mut self)
         requires { 0 < length self.old.due }
         ensures { Goes self.old self.new Closes }
     {
@@ -127,7 +127,7 @@ impl Maker {
 
     /// The node that is due is a split, whose sides are due next. Where its decision has a number of 2^32 or more, the node
     /// is left open, and both sides are skipped. An `Err` is want of memory.
-    pub(crate) fn split(&mut self, decision: DecisionText) -> Result<(), AllocError>
+    pub fn split(&mut self, decision: DecisionText) -> Result<(), AllocError>
         requires { 0 < length self.old.due }
         ensures { OnOk result (Goes self.old self.new (Splits (decision_of decision))) }
     {
@@ -143,7 +143,7 @@ impl Maker {
     }
 
     /// The tree that was made.
-    pub(crate) fn into_tree(self) -> Tree
+    pub fn into_tree(self) -> Tree
         ensures tree { result ≡ self.nodes }
         ensures linked { IsTree result }
     {

@@ -49,7 +49,7 @@ fn nodes(reader: &mut Reader<'_>, maker: &mut Maker) -> Result<(), Stop>
 }
 
 /// Reads a line of the node that is due. An `Err` is want of memory.
-fn node(maker: &mut Maker, item: Item) -> Result<(), AllocError>
+pub fn node(maker: &mut Maker, item: Item) -> Result<(), AllocError>
     requires some { 0 < length maker.old.due }
     requires spelled { (it : NodeItem) → item ≡ item_of (lines.Node it) → IsSpelledItem it }
     ensures { OnOk result ((it : NodeItem) → item ≡ item_of (lines.Node it) → Goes maker.old maker.new it) }

@@ -1,6 +1,6 @@
 -- What is kept of a certificate is a search's beginning.
-use Rattle.std.proofs.Common.{◌≡◌, ℕ, ◌<◌, ◌≤◌, ◌^◌, inl, inr, List, [], length, sym, ap, ◌∙◌, subst, arith, Option, Some, None, Vec, slice_index}
-use Rattle.std.specs.Prelude.{IfSome}
+use Rattle.std.proofs.Common.{◌≡◌, ℕ, ◌<◌, ◌≤◌, ◌^◌, inl, inr, List, [], length, sym, ap, ◌∙◌, subst, arith, Option, Some, None, Vec, slice_index, Bool, false}
+use Rattle.std.specs.Prelude.{IfSome, IsTrue}
 use Rattle.std.specs.Global.{Global}
 use Rattle.cfn_model.specs.Network.{Network, IsNetwork}
 use Rattle.cfn_model.specs.Certificate.{Certificate, IsBest, Solution, threshold, threshold_of}
@@ -56,9 +56,13 @@ same_best P None kept is right = is
 same_best P (Some best) kept (inl is) right = is.1 ∙ ap (λ n. Some (record { cost = n; values = best.values })) right.cost
 same_best P (Some best) kept (inr is) right = absurd (let below = right.below in let same = right.cost in is.0 (right.fits, omega (arith, below, same)))
 
+-- what is false is not true
+never : (b : Bool) → b ≡ false → IsTrue b → ⊥
+never b is asked = absurd (cc)
+
 pub begins : (P : Network) (text : List ℕ) (old : ReadCertificate) (begin : Begin) (k : ℕ) → IsNetwork P → KeptIsWell → KeepsAll → length text < 2 ^ 64 → begin.best.network ≡ P → IsPriced P begin.best.held → IsKeptBest P (solution_of old.best) begin.best.held → k ≡ threshold_of P.upper begin.best.held → Kept P [] k (tree_of old.tree) (tree_of begin.tree) →
-    IfSome begin.part IsPart → (c : Certificate) → Spells c text → IsRead c old → MayBegin P begin × Resumes P begin.part text (start_of P begin)
-begins P text old begin k network well all short own priced keeps_best at keeps part c spells read =
+    IfSome begin.part IsPart → begin.recorded ≡ false → (c : Certificate) → Spells c text → IsRead c old → MayBegin P begin × Resumes P begin.part text (start_of P begin)
+begins P text old begin k network well all short own priced keeps_best at keeps part unasked c spells read =
     let held = begin.best.held in
     let kept : Kept P [] k c.tree (tree_of begin.tree) = kept_of_narrowed P network [] k c.tree (tree_of begin.tree) (subst (λ t. Kept P [] k t (tree_of begin.tree)) read.tree keeps) in
     let is_well = well P [] k c.tree (tree_of begin.tree) kept in
@@ -76,6 +80,7 @@ begins P text old begin k network well all short own priced keeps_best at keeps 
         };
         few = omega (arith, few, short);
         part = part;
+        fresh = λ asked. absurd (never begin.recorded unasked asked);
       },
       record {
         certificate = c;

@@ -58,7 +58,12 @@ fn begin(
     best.priced();
     let tables = Tables::expand(alloc, network)?;
     let tree = keep(alloc, network, &tables, &old.tree, best.price())?;
-    Ok(Begin { tree, best, part })
+    Ok(Begin {
+        tree,
+        best,
+        part,
+        recorded: false,
+    })
 }
 
 /// How many bytes a text has.
