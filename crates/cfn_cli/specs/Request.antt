@@ -3,11 +3,12 @@ use Rattle.std.specs.Prelude.{◌≡◌, Bool, true, false, List, [], ◌∷◌,
 use Rattle.std.specs.Prelude.{option_map, option_and_then, if◌then◌else◌, codes}
 use Rattle.std.specs.Str.{bytes_eq}
 use Rattle.clap.specs.declared.builder.Command.{Command as Line}
-use Rattle.clap.specs.Words.{App, Kinds, Row, Text, app_of, fault_of, is_simple, is_simple_and_free, new_app, subcommand_of, with_subcommand}
+use Rattle.clap.specs.Words.{App, Kinds, Row, Text, app_of, fault_of, first_of, is_simple, is_simple_and_free, new_app, subcommand_of, with_subcommand}
 use Rattle.clap.specs.Simple.{on_top}
 use Rattle.cfn_cli.specs.declared.commands.Command.{Command}
-use Rattle.cfn_cli.specs.declared.commands.Command.TheVariants.{Solve, Check, Cost, Normal, Trial, Migrate, Rebase, Merge, KBest, CheckBest}
+use Rattle.cfn_cli.specs.declared.commands.Command.TheVariants.{Solve, Recorded, Check, Cost, Normal, Trial, Migrate, Rebase, Merge, Replay, KBest, CheckBest}
 use Rattle.cfn_cli.specs.Request.Solving.{SolveRequest, IsSolveWithin, solve_app, solve_of, spoken_solve}
+use Rattle.cfn_cli.specs.Request.Recording.{RecordedRequest, recorded_apart, spoken_recorded}
 use Rattle.cfn_cli.specs.Request.Checking.{CheckRequest, check_app, check_of, spoken_check}
 use Rattle.cfn_cli.specs.Request.Costing.{CostRequest, IsCostWithin, cost_app, cost_of, spoken_cost}
 use Rattle.cfn_cli.specs.Request.Normalizing.{NormalRequest, normal_app, normal_of, spoken_normal}
@@ -15,6 +16,7 @@ use Rattle.cfn_cli.specs.Request.Trying.{TrialRequest, IsTrialWithin, trial_app,
 use Rattle.cfn_cli.specs.Request.Migrating.{MigrateRequest, migrate_app, migrate_of, spoken_migrate}
 use Rattle.cfn_cli.specs.Request.Rebasing.{RebaseRequest, IsRebaseWithin, rebase_app, rebase_of, spoken_rebase}
 use Rattle.cfn_cli.specs.Request.Merging.{MergeRequest, IsMergeWithin, merge_app, merge_of, spoken_merge}
+use Rattle.cfn_cli.specs.Request.Replaying.{ReplayRequest, replay_app, replay_of, spoken_replay}
 use Rattle.cfn_cli.specs.Request.Listing.{KBestRequest, IsKBestWithin, k_best_app, k_best_of, spoken_k_best}
 use Rattle.cfn_cli.specs.Request.CheckingBest.{CheckBestRequest, check_best_app, check_best_of, spoken_check_best}
 pub mod Checking
@@ -25,6 +27,8 @@ pub mod Merging
 pub mod Migrating
 pub mod Normalizing
 pub mod Rebasing
+pub mod Recording
+pub mod Replaying
 pub mod Solving
 pub mod Trying
 
@@ -32,6 +36,7 @@ pub mod Trying
 
 pub data Request : Type 0 where
   solve : SolveRequest → Request
+  recorded : RecordedRequest → Request
   check : CheckRequest → Request
   cost : CostRequest → Request
   normal : NormalRequest → Request
@@ -39,12 +44,14 @@ pub data Request : Type 0 where
   migrate : MigrateRequest → Request
   rebase : RebaseRequest → Request
   merge : MergeRequest → Request
+  replay : ReplayRequest → Request
   k_best : KBestRequest → Request
   check_best : CheckBestRequest → Request
 
 -- The request that a command holds.
 abbrev pub request : Command → Request
 request (Solve a) = solve (spoken_solve a)
+request (Recorded a) = recorded (spoken_recorded a)
 request (Check a) = check (spoken_check a)
 request (Cost a) = cost (spoken_cost a)
 request (Normal a) = normal (spoken_normal a)
@@ -52,12 +59,14 @@ request (Trial a) = trial (spoken_trial a)
 request (Migrate a) = migrate (spoken_migrate a)
 request (Rebase a) = rebase (spoken_rebase a)
 request (Merge a) = merge (spoken_merge a)
+request (Replay a) = replay (spoken_replay a)
 request (KBest a) = k_best (spoken_k_best a)
 request (CheckBest a) = check_best (spoken_check_best a)
 
 -- The numbers of a command lie within their limits.
 abbrev pub IsWithin : Command → Type 0
 IsWithin (Solve a) = IsSolveWithin a
+IsWithin (Recorded a) = IsSolveWithin a.solve
 IsWithin (Check a) = Unit {0}
 IsWithin (Cost a) = IsCostWithin a
 IsWithin (Normal a) = Unit {0}
@@ -65,14 +74,15 @@ IsWithin (Trial a) = IsTrialWithin a
 IsWithin (Migrate a) = Unit {0}
 IsWithin (Rebase a) = IsRebaseWithin a
 IsWithin (Merge a) = IsMergeWithin a
+IsWithin (Replay a) = Unit {0}
 IsWithin (KBest a) = IsKBestWithin a
 IsWithin (CheckBest a) = Unit {0}
 
 -- The program, which wants one of its commands.
 unfoldable pub command_line : App
-command_line = with_subcommand (with_subcommand (with_subcommand (with_subcommand (with_subcommand (with_subcommand (with_subcommand (with_subcommand (with_subcommand (with_subcommand
+command_line = with_subcommand (with_subcommand (with_subcommand (with_subcommand (with_subcommand (with_subcommand (with_subcommand (with_subcommand (with_subcommand (with_subcommand (with_subcommand
     (on_top (λ s. record s { subcommand_required = true }) (new_app (codes "wcspsolve")))
-    solve_app.top) check_app.top) cost_app.top) normal_app.top) trial_app.top) migrate_app.top) rebase_app.top) merge_app.top) k_best_app.top) check_best_app.top
+    solve_app.top) check_app.top) cost_app.top) normal_app.top) trial_app.top) migrate_app.top) rebase_app.top) merge_app.top) replay_app.top) k_best_app.top) check_best_app.top
 
 -- What a parse reads of a command is the program's command line, of the kind of which clap tells what the words give.
 pub record IsLine (line : Line) : Type 0 where
@@ -80,10 +90,18 @@ pub record IsLine (line : Line) : Type 0 where
   pub simple : is_simple (app_of line) ≡ true
   pub free : is_simple_and_free (app_of line) ≡ true
 
+-- The request of `solve`: with a record where the words give one's name.
+abbrev pub solve_under : Option Text → SolveRequest → Option Request
+solve_under None ask = Some (solve ask)
+solve_under (Some name) ask = option_map recorded (recorded_apart (record { recording = name; solve = ask }))
+
+abbrev pub solving_of : List Row → Option Request
+solving_of rows = option_and_then (solve_under (first_of (codes "record") rows)) (solve_of rows)
+
 -- The request of the command of a name, with these rows.
 abbrev pub request_named : Text → List Row → Option Request
 request_named name rows =
-    if bytes_eq name (codes "solve") then option_map solve (solve_of rows)
+    if bytes_eq name (codes "solve") then solving_of rows
     else (if bytes_eq name (codes "check") then option_map check (check_of rows)
     else (if bytes_eq name (codes "cost") then option_map cost (cost_of rows)
     else (if bytes_eq name (codes "normal") then option_map normal (normal_of rows)
@@ -91,8 +109,9 @@ request_named name rows =
     else (if bytes_eq name (codes "migrate") then option_map migrate (migrate_of rows)
     else (if bytes_eq name (codes "rebase") then option_map rebase (rebase_of rows)
     else (if bytes_eq name (codes "merge") then option_map merge (merge_of rows)
+    else (if bytes_eq name (codes "replay") then option_map replay (replay_of rows)
     else (if bytes_eq name (codes "kbest") then option_map k_best (k_best_of rows)
-    else (if bytes_eq name (codes "checkbest") then option_map check_best (check_best_of rows) else None)))))))))
+    else (if bytes_eq name (codes "checkbest") then option_map check_best (check_best_of rows) else None))))))))))
 
 abbrev pub request_from : Option (Text × List Row) → Option Request
 request_from = option_and_then (λ met. request_named met.0 met.1)

@@ -2,7 +2,7 @@
 
 ghost use Rattle.std.specs.Prelude.{◌≡◌, Some, None, IfErr, IfOk, IsOkAnd};
 ghost use Rattle.clap.specs.Words.{AddsSubcommand, found_of, rows_of, subcommand_rows_of};
-ghost use Rattle.cfn_cli.specs.Request.{IsLine, IsWithin, request, request_from, request_named};
+ghost use Rattle.cfn_cli.specs.Request.{IsLine, IsWithin, request, request_from, request_named, solving_of};
 
 mod check;
 mod checkbest;
@@ -12,6 +12,8 @@ mod merge;
 mod migrate;
 mod normal;
 mod rebase;
+mod recorded;
+mod replay;
 mod solve;
 mod trial;
 
@@ -25,6 +27,8 @@ pub use merge::MergeArguments;
 pub use migrate::MigrateArguments;
 pub use normal::NormalArguments;
 pub use rebase::RebaseArguments;
+pub use recorded::RecordedArguments;
+pub use replay::ReplayArguments;
 pub use solve::SolveArguments;
 use std::alloc::{AllocError, Global};
 pub use trial::TrialArguments;
@@ -34,6 +38,8 @@ pub use trial::TrialArguments;
 pub enum Command {
     /// `solve FILE CERT [--workers W] [--budget B] [--seconds S] [--wcnf] [--progress]`
     Solve(SolveArguments),
+    /// `solve FILE CERT [..] --record REC`
+    Recorded(RecordedArguments),
     /// `check FILE CERT [--wcnf]`
     Check(CheckArguments),
     /// `cost FILE VALUES.. [--wcnf]`
@@ -48,6 +54,8 @@ pub enum Command {
     Rebase(RebaseArguments),
     /// `merge FILE OUT CERT.. [--wcnf]`
     Merge(MergeArguments),
+    /// `replay FILE REC CERT [--wcnf]`
+    Replay(ReplayArguments),
     /// `kbest FILE K CERT [--budget B] [--seconds S] [--wcnf]`
     KBest(KBestArguments),
     /// `checkbest FILE CERT [--wcnf]`
@@ -67,6 +75,7 @@ pub(crate) fn command_line<'a>(alloc: Global) -> Result<Line<'a>, AllocError>
     let line = under(line, migrate::line(alloc))?;
     let line = under(line, rebase::line(alloc))?;
     let line = under(line, merge::line(alloc))?;
+    let line = under(line, replay::line(alloc))?;
     let line = under(line, kbest::line(alloc))?;
     under(line, checkbest::line(alloc))
 }
@@ -99,7 +108,7 @@ fn named(alloc: Global, name: &str, found: &ArgMatches<'_>) -> Result<Command, C
     ensures within { IfOk result IsWithin }
 {
     if name == "solve" {
-        Ok(Command::Solve(solve::read(alloc, found)?))
+        solving(alloc, found)
     } else if name == "check" {
         Ok(Command::Check(check::read(alloc, found)?))
     } else if name == "cost" {
@@ -114,11 +123,27 @@ fn named(alloc: Global, name: &str, found: &ArgMatches<'_>) -> Result<Command, C
         Ok(Command::Rebase(rebase::read(alloc, found)?))
     } else if name == "merge" {
         Ok(Command::Merge(merge::read(alloc, found)?))
+    } else if name == "replay" {
+        Ok(Command::Replay(replay::read(alloc, found)?))
     } else if name == "kbest" {
         Ok(Command::KBest(kbest::read(alloc, found)?))
     } else if name == "checkbest" {
         Ok(Command::CheckBest(checkbest::read(alloc, found)?))
     } else {
         Err(CliFault::Usage)
+    }
+}
+
+/// The command `solve`, with a record where the words give one's name.
+fn solving(alloc: Global, found: &ArgMatches<'_>) -> Result<Command, CliFault>
+    ensures command { IfOk result (λ c. solving_of (rows_of (found_of found.now)) ≡ Some (request c)) }
+    ensures usage { IfErr result (λ fault. fault ≡ CliFault.Usage
+        → solving_of (rows_of (found_of found.now)) ≡ None) }
+    ensures within { IfOk result IsWithin }
+{
+    let solve = solve::read(alloc, found)?;
+    match found.get_str("record") {
+        Some(name) => Ok(Command::Recorded(recorded::recorded(alloc, name, solve)?)),
+        None => Ok(Command::Solve(solve)),
     }
 }

@@ -1,6 +1,6 @@
 //! The command line of the program `wcspsolve`: which command its words spell.
 //!
-//!     wcspsolve solve FILE CERT [--workers W] [--budget B] [--seconds S] [--wcnf] [--progress]
+//!     wcspsolve solve FILE CERT [--workers W] [--budget B] [--seconds S] [--wcnf] [--progress] [--record REC]
 //!     wcspsolve check FILE CERT [--wcnf]
 //!     wcspsolve cost FILE VALUES.. [--wcnf]
 //!     wcspsolve normal FILE [--wcnf]
@@ -8,6 +8,7 @@
 //!     wcspsolve migrate FILE CERT OUT
 //!     wcspsolve rebase FILE OLD CERT [--workers W] [--budget B] [--seconds S] [--wcnf] [--progress] [--part I] [--parts N]
 //!     wcspsolve merge FILE OUT CERT.. [--wcnf]
+//!     wcspsolve replay FILE REC CERT [--wcnf]
 //!     wcspsolve kbest FILE K CERT [--budget B] [--seconds S] [--wcnf]
 //!     wcspsolve checkbest FILE CERT [--wcnf]
 //!

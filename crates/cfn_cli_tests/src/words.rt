@@ -95,6 +95,34 @@ fn merges(alloc: Global, words: &[&str], others: usize) -> bool {
     }
 }
 
+/// Whether the words solve `a` into `b` with a record under that name.
+fn records(alloc: Global, words: &[&str], recording: &str) -> bool {
+    match parse(alloc, words) {
+        Ok(Command::Recorded(asked)) => {
+            asked.recording.as_str() == recording
+                && asked.solve.file.as_str() == "a"
+                && asked.solve.certificate.as_str() == "b"
+        }
+        _ => false,
+    }
+}
+
+/// The format of the file, where the words replay `r` for `a` into `b`.
+fn replays(alloc: Global, words: &[&str]) -> Option<Format> {
+    match parse(alloc, words) {
+        Ok(Command::Replay(asked)) => {
+            if asked.file.as_str() != "a"
+                || asked.recording.as_str() != "r"
+                || asked.certificate.as_str() != "b"
+            {
+                return None;
+            }
+            Some(asked.format)
+        }
+        _ => None,
+    }
+}
+
 fn says_normal(alloc: Global, words: &[&str]) -> bool {
     match parse(alloc, words) {
         Ok(Command::Normal(asked)) => asked.file.as_str() == "f",
@@ -292,6 +320,40 @@ fn reads_merge(rt: HostRuntime) {
 }
 
 #[test]
+fn record_is_asked_for(rt: HostRuntime) {
+    let alloc = rt.alloc();
+    for words in [
+        ["w", "solve", "a", "b", "--record", "r"].as_slice(),
+        &["w", "solve", "--record=r", "a", "b"],
+        &[
+            "w",
+            "solve",
+            "a",
+            "--record",
+            "r",
+            "b",
+            "--workers",
+            "4",
+            "--wcnf",
+            "--progress",
+        ],
+    ] {
+        assert!(rt; records(alloc, words, "r"), "{words:?}");
+    }
+    assert!(rt; records(alloc, &["w", "solve", "a", "b", "--record", "c"], "c"));
+    assert!(rt; !records(alloc, &["w", "solve", "a", "b"], "r"));
+}
+
+#[test]
+fn replay_is_read(rt: HostRuntime) {
+    let alloc = rt.alloc();
+    assert!(rt; replays(alloc, &["w", "replay", "a", "r", "b"]) == Some(Format::Wcsp));
+    assert!(rt; replays(alloc, &["w", "replay", "a", "r", "b", "--wcnf"]) == Some(Format::Wcnf));
+    assert!(rt; replays(alloc, &["w", "replay", "--wcnf", "a", "r", "b"]) == Some(Format::Wcnf));
+    assert!(rt; replays(alloc, &["w", "replay", "a", "b", "r"]).is_none());
+}
+
+#[test]
 fn other_words_are_usage(rt: HostRuntime) {
     let alloc = rt.alloc();
     for words in [
@@ -353,6 +415,25 @@ fn other_words_are_usage(rt: HostRuntime) {
         &["w", "solve", "a", "b", "--seconds", "1.5"],
         &["w", "solve", "a", "b", "--seconds"],
         &["w", "check", "a", "b", "--seconds", "1"],
+        &["w", "solve", "a", "b", "--record"],
+        &["w", "solve", "a", "b", "--record", "b"],
+        &["w", "solve", "a", "b", "--record", "a"],
+        &["w", "solve", "a", "a", "--record", "r"],
+        &["w", "solve", "a", "b", "--record", "r", "--record", "r"],
+        &["w", "solve", "a", "b", "--record=r", "--record=s"],
+        &["w", "rebase", "a", "b", "c", "--record", "r"],
+        &["w", "check", "a", "b", "--record", "r"],
+        &["w", "kbest", "a", "1", "b", "--record", "r"],
+        &["w", "replay"],
+        &["w", "replay", "a", "r"],
+        &["w", "replay", "a", "r", "b", "c"],
+        &["w", "replay", "a", "a", "b"],
+        &["w", "replay", "a", "r", "a"],
+        &["w", "replay", "a", "r", "r"],
+        &["w", "replay", "a", "a", "a"],
+        &["w", "replay", "a", "r", "r", "--wcnf"],
+        &["w", "replay", "a", "r", "b", "--workers", "1"],
+        &["w", "replay", "a", "r", "b", "--wcnf=true"],
         &["w", "normal"],
         &["w", "normal", "a", "--wcnf=true"],
         &["w", "normal", "a", "--wcnf", "--wcnf"],

@@ -1,2 +1,2 @@
 mod Lines
-mod Spelled
+mod Spellings

@@ -40,8 +40,8 @@ pub fn write<D: Desk>(
     write_line(Channel::File, &[Word::Name("end")], desk)
 }
 
-/// Nothing: its contract says that each number of the record has a spelling, so that its text is its one spelling.
-fn spelled(history: &History, certificate: &Certificate)
+/// Nothing: its contract says that each number of such a record has a spelling, so that its text is its one spelling.
+pub fn spelled(history: &History, certificate: &Certificate)
     requires { IsSpelledBest (solution_of certificate.now.best) }
     ensures { Spells (recorded history.now certificate.now) (spelling (recorded history.now certificate.now)) }
 {

@@ -2,4 +2,6 @@
 #![tactic(auto)]
 
 #[cfg(test)]
+mod saying;
+#[cfg(test)]
 mod writing;

@@ -10,7 +10,7 @@ use Rattle.cfn_fault.specs.declared.kind.FaultKind.TheVariants as kinds
 abbrev pub usage_text : List ℕ
 usage_text =
     text ((codes "error" ∷ codes "usage" ∷ [])
-    ∷ (codes "wcspsolve" ∷ codes "solve" ∷ codes "FILE" ∷ codes "CERT" ∷ codes "[--workers" ∷ codes "W]" ∷ codes "[--budget" ∷ codes "B]" ∷ codes "[--seconds" ∷ codes "S]" ∷ codes "[--wcnf]" ∷ codes "[--progress]" ∷ [])
+    ∷ (codes "wcspsolve" ∷ codes "solve" ∷ codes "FILE" ∷ codes "CERT" ∷ codes "[--workers" ∷ codes "W]" ∷ codes "[--budget" ∷ codes "B]" ∷ codes "[--seconds" ∷ codes "S]" ∷ codes "[--wcnf]" ∷ codes "[--progress]" ∷ codes "[--record" ∷ codes "REC]" ∷ [])
     ∷ (codes "wcspsolve" ∷ codes "check" ∷ codes "FILE" ∷ codes "CERT" ∷ codes "[--wcnf]" ∷ [])
     ∷ (codes "wcspsolve" ∷ codes "cost" ∷ codes "FILE" ∷ codes "VALUES.." ∷ codes "[--wcnf]" ∷ [])
     ∷ (codes "wcspsolve" ∷ codes "normal" ∷ codes "FILE" ∷ codes "[--wcnf]" ∷ [])
@@ -18,6 +18,7 @@ usage_text =
     ∷ (codes "wcspsolve" ∷ codes "migrate" ∷ codes "FILE" ∷ codes "CERT" ∷ codes "OUT" ∷ [])
     ∷ (codes "wcspsolve" ∷ codes "rebase" ∷ codes "FILE" ∷ codes "OLD" ∷ codes "CERT" ∷ codes "[--workers" ∷ codes "W]" ∷ codes "[--budget" ∷ codes "B]" ∷ codes "[--seconds" ∷ codes "S]" ∷ codes "[--wcnf]" ∷ codes "[--progress]" ∷ codes "[--part" ∷ codes "I]" ∷ codes "[--parts" ∷ codes "N]" ∷ [])
     ∷ (codes "wcspsolve" ∷ codes "merge" ∷ codes "FILE" ∷ codes "OUT" ∷ codes "CERT.." ∷ codes "[--wcnf]" ∷ [])
+    ∷ (codes "wcspsolve" ∷ codes "replay" ∷ codes "FILE" ∷ codes "REC" ∷ codes "CERT" ∷ codes "[--wcnf]" ∷ [])
     ∷ (codes "wcspsolve" ∷ codes "kbest" ∷ codes "FILE" ∷ codes "K" ∷ codes "CERT" ∷ codes "[--budget" ∷ codes "B]" ∷ codes "[--seconds" ∷ codes "S]" ∷ codes "[--wcnf]" ∷ [])
     ∷ (codes "wcspsolve" ∷ codes "checkbest" ∷ codes "FILE" ∷ codes "CERT" ∷ codes "[--wcnf]" ∷ [])
     ∷ [])

@@ -158,10 +158,10 @@ fn says_each(rt: &HostRuntime, bytes: &[u8]) -> Result<bool, AllocError> {
 fn says_each_message(rt: HostRuntime) -> Result<(), Fail> {
     let text =
         b"error table-too-wide at 17\nerror header at 2\nerror read\nerror write\nerror memory\nerror usage\n\
-        wcspsolve solve FILE CERT [--workers W] [--budget B] [--seconds S] [--wcnf] [--progress]\nwcspsolve check FILE CERT [--wcnf]\n\
+        wcspsolve solve FILE CERT [--workers W] [--budget B] [--seconds S] [--wcnf] [--progress] [--record REC]\nwcspsolve check FILE CERT [--wcnf]\n\
         wcspsolve cost FILE VALUES.. [--wcnf]\nwcspsolve normal FILE [--wcnf]\nwcspsolve trial SEED SIZE [--workers W]\n\
         wcspsolve migrate FILE CERT OUT\nwcspsolve rebase FILE OLD CERT [--workers W] [--budget B] [--seconds S] [--wcnf] [--progress] [--part I] [--parts N]\n\
-        wcspsolve merge FILE OUT CERT.. [--wcnf]\nwcspsolve kbest FILE K CERT [--budget B] [--seconds S] [--wcnf]\nwcspsolve checkbest FILE CERT [--wcnf]\ncost 9 allowed\ncost 10 forbidden\n\
+        wcspsolve merge FILE OUT CERT.. [--wcnf]\nwcspsolve replay FILE REC CERT [--wcnf]\nwcspsolve kbest FILE K CERT [--budget B] [--seconds S] [--wcnf]\nwcspsolve checkbest FILE CERT [--wcnf]\ncost 9 allowed\ncost 10 forbidden\n\
         error values expected 3 got 4\nerror value at 2\nverified lower 1 best 1\nverified lower 5 best none\nmigrated\nvariables 20\nfunctions 57\nleast 71\nrefused lift at 9\n";
     assert!(rt; says_each(&rt, text)?);
     Ok(())

@@ -2,15 +2,19 @@
 use Rattle.std.specs.Prelude.{ℕ, ◌≤◌, Bool, List, Option, Some, None, IfSome}
 use Rattle.std.specs.Prelude.{option_map, option_and_then, if◌then◌else◌, codes, string_bytes}
 use Rattle.std.specs.Str.{bytes_eq}
-use Rattle.clap.specs.Words.{App, Row, Text, first_of, new_app, with_rule}
+use Rattle.clap.specs.Words.{App, Row, Rule, Text, first_of, new_app, new_rule, with_rule}
 use Rattle.cfn_cli.specs.Arguments.{budget_rule, certificate_rule, file_rule, flag_of, format_of, number_of, optional_of, progress_rule, seconds_rule, wcnf_rule, workers_rule}
 use Rattle.cfn_cli.specs.declared.format.Format.{Format}
 use Rattle.cfn_cli.specs.declared.commands.solve.SolveArguments.{SolveArguments}
 
--- solve FILE CERT [--workers W] [--budget B] [--seconds S] [--wcnf] [--progress]
+-- [--record REC]
+unfoldable pub record_rule : Rule
+record_rule = record (new_rule (codes "record")) { long = Some (codes "record") }
+
+-- solve FILE CERT [--workers W] [--budget B] [--seconds S] [--wcnf] [--progress] [--record REC]
 unfoldable pub solve_app : App
-solve_app = with_rule (with_rule (with_rule (with_rule (with_rule (with_rule (with_rule (new_app (codes "solve")) file_rule)
-    certificate_rule) workers_rule) budget_rule) seconds_rule) wcnf_rule) progress_rule
+solve_app = with_rule (with_rule (with_rule (with_rule (with_rule (with_rule (with_rule (with_rule (new_app (codes "solve")) file_rule)
+    certificate_rule) workers_rule) budget_rule) seconds_rule) wcnf_rule) progress_rule) record_rule
 
 pub record SolveRequest : Type 0 where
   pub file : Text

@@ -5,6 +5,7 @@ ghost use Rattle.clap.specs.Words.{found_of, rows_of};
 ghost use Rattle.cfn_cli.specs.Building.{Builds};
 ghost use Rattle.cfn_cli.specs.Request.Solving.{IsSolveWithin, solve_app, solve_in, solve_of, spoken_solve};
 
+use super::recorded::record_option;
 use crate::arguments::{budget, certificate, file, progress, seconds, wcnf, workers};
 use crate::fault::CliFault;
 use crate::format::Format;
@@ -48,7 +49,8 @@ pub(crate) fn line<'a>(alloc: Global) -> Result<Command<'a>, AllocError>
         .arg(budget(alloc))?
         .arg(seconds(alloc))?
         .arg(wcnf(alloc))?
-        .arg(progress(alloc))
+        .arg(progress(alloc))?
+        .arg(record_option(alloc))
 }
 
 /// What is asked of `solve`, whose certificate has another name than its file.

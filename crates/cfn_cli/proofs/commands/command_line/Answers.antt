@@ -13,17 +13,18 @@ use Rattle.cfn_cli.specs.Request.Merging.{certificates_rule, merge_app}
 use Rattle.cfn_cli.specs.Request.Migrating.{migrate_app}
 use Rattle.cfn_cli.specs.Request.Normalizing.{normal_app}
 use Rattle.cfn_cli.specs.Request.Rebasing.{old_rule, part_rule, parts_rule, rebase_app}
-use Rattle.cfn_cli.specs.Request.Solving.{solve_app}
+use Rattle.cfn_cli.specs.Request.Replaying.{recording_rule, replay_app}
+use Rattle.cfn_cli.specs.Request.Solving.{record_rule, solve_app}
 use Rattle.cfn_cli.specs.Request.Trying.{seed_rule, size_rule, trial_app}
 use Rattle.cfn_cli.proofs.Building.{begun, command_required, under_added}
 use Rattle.cfn_cli.proofs.commands.command_line.Goals as goal
 
 line_is_simple : is_simple command_line ≡ true
-unfolding command_line solve_app check_app cost_app normal_app trial_app migrate_app rebase_app merge_app k_best_app check_best_app count_rule file_rule certificate_rule certificates_rule out_rule old_rule part_rule parts_rule seed_rule size_rule workers_rule budget_rule seconds_rule values_rule wcnf_rule progress_rule
+unfolding command_line solve_app check_app cost_app normal_app trial_app migrate_app rebase_app merge_app replay_app k_best_app check_best_app record_rule recording_rule count_rule file_rule certificate_rule certificates_rule out_rule old_rule part_rule parts_rule seed_rule size_rule workers_rule budget_rule seconds_rule values_rule wcnf_rule progress_rule
 line_is_simple = refl
 
 line_is_free : is_simple_and_free command_line ≡ true
-unfolding command_line solve_app check_app cost_app normal_app trial_app migrate_app rebase_app merge_app k_best_app check_best_app count_rule file_rule certificate_rule certificates_rule out_rule old_rule part_rule parts_rule seed_rule size_rule workers_rule budget_rule seconds_rule values_rule wcnf_rule progress_rule
+unfolding command_line solve_app check_app cost_app normal_app trial_app migrate_app rebase_app merge_app replay_app k_best_app check_best_app record_rule recording_rule count_rule file_rule certificate_rule certificates_rule out_rule old_rule part_rule parts_rule seed_rule size_rule workers_rule budget_rule seconds_rule values_rule wcnf_rule progress_rule
 line_is_free = refl
 
 is_line : (c : Command) → Builds command_line c → IsLine c
@@ -46,5 +47,6 @@ returns c =
     let with_migrate = under_added _ _ _ _ _ c.in_ok-line-6.ensures with_trial c.line-6.ensures in
     let with_rebase = under_added _ _ _ _ _ c.in_ok-line-7.ensures with_migrate c.line-7.ensures in
     let with_merge = under_added _ _ _ _ _ c.in_ok-line-8.ensures with_rebase c.line-8.ensures in
-    let with_k_best = under_added _ _ _ _ _ c.in_ok-line-9.ensures with_merge c.line-9.ensures in
-    IfOk-weaker c.under-10.result _ _ (λ new adds. is_line new (under_added _ new _ _ _ adds with_k_best c.line-10.ensures)) c.under-10.ensures
+    let with_replay = under_added _ _ _ _ _ c.in_ok-line-9.ensures with_merge c.line-9.ensures in
+    let with_k_best = under_added _ _ _ _ _ c.in_ok-line-10.ensures with_replay c.line-10.ensures in
+    IfOk-weaker c.under-11.result _ _ (λ new adds. is_line new (under_added _ new _ _ _ adds with_k_best c.line-11.ensures)) c.under-11.ensures

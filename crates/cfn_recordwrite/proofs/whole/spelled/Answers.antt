@@ -1,5 +1,5 @@
 use Rattle.std.proofs.Common.{arith}
-use Rattle.cfn_recordwrite.proofs.Spelled.{record_spelled}
+use Rattle.cfn_recordwrite.proofs.Spellings.{record_spelled}
 use Rattle.cfn_recordwrite.proofs.whole.spelled.Goals as goal
 
 pub returns : goal.returns

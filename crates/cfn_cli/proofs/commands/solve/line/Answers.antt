@@ -13,4 +13,5 @@ returns c =
     let with_budget = argument_added _ _ _ _ _ c.in_ok-arg-4.ensures with_workers c.budget.ensures.rule c.budget.ensures.local in
     let with_seconds = argument_added _ _ _ _ _ c.in_ok-arg-5.ensures with_budget c.seconds.ensures.rule c.seconds.ensures.local in
     let with_wcnf = argument_added _ _ _ _ _ c.in_ok-arg-6.ensures with_seconds c.wcnf.ensures.rule c.wcnf.ensures.local in
-    IfOk-weaker c.arg-7.result _ _ (λ new adds. argument_added _ new _ _ _ adds with_wcnf c.progress.ensures.rule c.progress.ensures.local) c.arg-7.ensures
+    let with_progress = argument_added _ _ _ _ _ c.in_ok-arg-7.ensures with_wcnf c.progress.ensures.rule c.progress.ensures.local in
+    IfOk-weaker c.arg-8.result _ _ (λ new adds. argument_added _ new _ _ _ adds with_progress c.record_option.ensures.rule c.record_option.ensures.local) c.arg-8.ensures
