@@ -1,0 +1,14 @@
+pub mod Reading
+pub mod Words
+pub mod Capping
+pub mod Running
+pub mod Holding
+pub mod Items
+pub mod Happening
+pub mod Verdicts
+pub mod Pieces
+pub mod Beginning
+pub mod Small
+pub mod Starting
+pub mod Judged
+pub mod Ending

@@ -1,0 +1,11 @@
+pub mod Words
+pub mod Said
+pub mod Position
+pub mod Capping
+pub mod Kinds
+pub mod Doing
+pub mod Standing
+pub mod Piece
+pub mod Judging
+pub mod Replayed
+pub mod Answers
