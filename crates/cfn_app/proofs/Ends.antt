@@ -94,6 +94,11 @@ outputs_written text said_text due old middle new (Ok x) spoken status fine wrot
     endings.wrote middle wrote one.files (ends_saying middle.calls middle new said_text spoken due status refl one is)
 outputs_written text said_text due old middle new (Err e) spoken status fine wrote one is = absurd (let no : true ≡ false = fine in cc)
 
+-- so where how the run ended behind it is known
+pub outputs_ended : {T E : Type 0} (text said_text : List ℕ) (due : Status) (old middle new : Outside) (result : Result T E) (status : Status) → is_err result ≡ false → OnOk result (Wrote text old middle) → new.files ≡ middle.files → Ends (record { calls = middle.calls; text = said_text; status = due }) new.calls status → Outputs text said_text due old new status
+outputs_ended text said_text due old middle new (Ok x) status fine wrote same ends = endings.wrote middle wrote same ends
+outputs_ended text said_text due old middle new (Err e) status fine wrote same ends = absurd (let no : true ≡ false = fine in cc)
+
 -- a search behind a file that was opened
 pub searched_behind : {T E : Type 0} (P : Network) (start : Start) (ask : SolveRequest) (old middle new : Outside) (opened : Result T E) (status : Status) (nodes : ℕ) (c : Certificate) (rows : List Row) (word : ResultWord) → is_err opened ≡ false → middle ≡ after (Open ask.certificate (is_ok opened)) old →
     Promise P start (limits_of ask) nodes c rows word → Outputs (spelling c) (report ask.workers c rows nodes word) (status_of word) middle new status → Searches P start ask old new status

@@ -6,5 +6,7 @@ mod LeastCost
 mod Lists
 mod Merges
 mod Pairing
+mod Recordings
+mod Returning
 mod Stating
 mod Writing

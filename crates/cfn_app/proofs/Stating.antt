@@ -2,11 +2,11 @@
 use Rattle.std.proofs.Common.{◌≡◌, refl, subst}
 use Rattle.std.specs.Prelude.{Option, Some, None}
 use Rattle.cfn_desk.specs.Outside.{Outside, IsIdle}
-use Rattle.cfn_cli.specs.Request.{Request, solve, check, cost, normal, trial, migrate, rebase, merge, k_best, check_best}
+use Rattle.cfn_cli.specs.Request.{Request, solve, check, cost, normal, trial, migrate, rebase, merge, k_best, check_best, recorded, replay}
 use Rattle.cfn_app.specs.declared.status.Status.{Status}
 use Rattle.cfn_app.specs.Endings.{Ends}
 use Rattle.cfn_app.specs.Saying.{Counts}
-use Rattle.cfn_app.specs.Runs.{Runs, RunsOf, StatusOf, Statuses, UsageSays}
+use Rattle.cfn_app.specs.Runs.{Returns, Runs, RunsOf, StatusOf, Statuses, UsageSays}
 use Rattle.cfn_app.specs.Runs as runs
 use Rattle.cfn_app.proofs.Counting.{by, counted, ends_idle, unheard}
 use Rattle.cfn_app.proofs.Stating.Checking.{check_unheard, check_status, check_counts, check_idle}
@@ -17,6 +17,9 @@ use Rattle.cfn_app.proofs.Stating.Merging.{merge_unheard, merge_status, merge_co
 use Rattle.cfn_app.proofs.Stating.Migrating.{migrate_unheard, migrate_status, migrate_counts, migrate_idle}
 use Rattle.cfn_app.proofs.Stating.Normalizing.{normal_unheard, normal_status, normal_counts, normal_idle}
 use Rattle.cfn_app.proofs.Stating.Rebasing.{rebase_unheard, rebase_status, rebase_counts, rebase_idle}
+use Rattle.cfn_app.proofs.Returning.{comes_back}
+use Rattle.cfn_app.proofs.Stating.Recording.{recorded_unheard, recorded_status, recorded_counts, recorded_idle}
+use Rattle.cfn_app.proofs.Stating.Replaying.{replay_unheard, replay_status, replay_counts, replay_idle}
 use Rattle.cfn_app.proofs.Stating.Solving.{solve_unheard, solve_status, solve_counts, solve_idle}
 use Rattle.cfn_app.proofs.Stating.Trying.{trial_unheard, trial_status, trial_counts, trial_idle}
 mod Checking
@@ -27,6 +30,8 @@ mod Merging
 mod Migrating
 mod Normalizing
 mod Rebasing
+mod Recording
+mod Replaying
 mod Solving
 mod Trying
 
@@ -45,6 +50,8 @@ module _ (old new : Outside) (status : Status) where
   unheard_status (merge ask) same ends = merge_unheard ask old new status same ends
   unheard_status (k_best ask) same ends = k_best_unheard ask old new status same ends
   unheard_status (check_best ask) same ends = check_best_unheard ask old new status same ends
+  unheard_status (recorded ask) same ends = recorded_unheard ask old new status same ends
+  unheard_status (replay ask) same ends = replay_unheard ask old new status same ends
 
   status_of : (ask : Request) → RunsOf ask old new status → StatusOf ask old new status
   status_of (solve ask) run = solve_status ask old new status run
@@ -57,6 +64,8 @@ module _ (old new : Outside) (status : Status) where
   status_of (merge ask) run = merge_status ask old new status run
   status_of (k_best ask) run = k_best_status ask old new status run
   status_of (check_best ask) run = check_best_status ask old new status run.0 run.1
+  status_of (recorded ask) run = recorded_status ask old new status run
+  status_of (replay ask) run = replay_status ask old new status run
 
   counts_of : (ask : Request) → RunsOf ask old new status → Counts old.calls new.calls status
   counts_of (solve ask) run = solve_counts ask old new status run
@@ -69,6 +78,8 @@ module _ (old new : Outside) (status : Status) where
   counts_of (merge ask) run = merge_counts ask old new status run
   counts_of (k_best ask) run = k_best_counts ask old new status run
   counts_of (check_best ask) run = check_best_counts ask old new status run.0 run.1
+  counts_of (recorded ask) run = recorded_counts ask old new status run
+  counts_of (replay ask) run = replay_counts ask old new status run
 
   idle_of : (ask : Request) → RunsOf ask old new status → IsIdle old.calls → IsIdle new.calls
   idle_of (solve ask) run before = solve_idle ask old new status run before
@@ -81,6 +92,8 @@ module _ (old new : Outside) (status : Status) where
   idle_of (merge ask) run before = merge_idle ask old new status run before
   idle_of (k_best ask) run before = k_best_idle ask old new status run before
   idle_of (check_best ask) run before = check_best_idle ask old new status run.0 run.1 before
+  idle_of (recorded ask) run before = recorded_idle ask old new status run before
+  idle_of (replay ask) run before = replay_idle ask old new status run before
 
 -- ---- all runs
 
@@ -118,3 +131,7 @@ module _ (request : Option Request) (old new : Outside) (status : Status) where
     counts = counts run;
     idle = idle run;
   }
+
+  -- a recorded run's certificate comes again from its record
+  pub returns : Runs request old new status → Returns request old new status
+  returns run ask is = comes_back ask old new status (command (replay ask) is run)

@@ -14,7 +14,7 @@ stored_at old new name text calls middle same stored =
     subst (λ now. Stored old.files (Writing name text) now) (sym same)
     (subst (λ file. Stored old.files file middle.files) (written-puts text (Open name true ∷ calls) name [] refl) stored)
 
-not_written_counts : (before middle : Outside) (text : List ℕ) → NotWritten text before middle → faults before.calls < faults middle.calls
+pub not_written_counts : (before middle : Outside) (text : List ℕ) → NotWritten text before middle → faults before.calls < faults middle.calls
 not_written_counts before middle text (endings.dropped cut part is) =
     let more : faults cut ≡ suc (faults before.calls) = put_count before.calls text cut part in
     let at : faults middle.calls ≡ faults cut = ap (λ o. faults o.calls) is in
@@ -24,11 +24,11 @@ not_written_counts before middle text (endings.unclosed calls stored) =
     let same = faults-puts text before.calls in
     omega (arith, at, same)
 
-not_written_idle : (before middle : Outside) (text : List ℕ) → NotWritten text before middle → IsIdle middle.calls
+pub not_written_idle : (before middle : Outside) (text : List ℕ) → NotWritten text before middle → IsIdle middle.calls
 not_written_idle before middle text (endings.dropped cut part is) = ap (λ o. written o.calls) is
 not_written_idle before middle text (endings.unclosed calls stored) = ap written calls
 
-wrote_counts : (before middle : Outside) (text : List ℕ) → Wrote text before middle → faults middle.calls ≡ faults before.calls
+pub wrote_counts : (before middle : Outside) (text : List ℕ) → Wrote text before middle → faults middle.calls ≡ faults before.calls
 wrote_counts before middle text wrote = ap faults wrote.calls ∙ faults-puts text before.calls
 
 module _ (before new : Outside) (text said_text : List ℕ) (due status : Status) where

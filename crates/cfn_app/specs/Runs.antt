@@ -4,7 +4,8 @@ use Rattle.std.specs.Prelude.{◌≡◌, Option, Some, None}
 use Rattle.cfn_model.specs.Text.{memory_fault_text}
 use Rattle.cfn_report.specs.Texts.{usage_text}
 use Rattle.cfn_desk.specs.Outside.{Outside, IsIdle}
-use Rattle.cfn_cli.specs.Request.{Request, solve, check, cost, normal, trial, migrate, rebase, merge, k_best, check_best}
+use Rattle.cfn_cli.specs.Request.{Request, solve, check, cost, normal, trial, migrate, rebase, merge, k_best, check_best, recorded, replay}
+use Rattle.cfn_cli.specs.Request.Replaying.{ReplayRequest}
 use Rattle.cfn_app.specs.declared.status.Status.{Status}
 use Rattle.cfn_app.specs.declared.status.Status.TheVariants.{Done, Nothing, LimitSpent, Usage, Refused, Fault, NoMemory, Disproved}
 use Rattle.cfn_app.specs.Endings.{Ends}
@@ -18,6 +19,8 @@ use Rattle.cfn_app.specs.Runs.Merging.{Merges, MergeStatus}
 use Rattle.cfn_app.specs.Runs.Migrating.{Migrates, MigrateStatus}
 use Rattle.cfn_app.specs.Runs.Normalizing.{Normalizes, NormalStatus}
 use Rattle.cfn_app.specs.Runs.Rebasing.{Rebases, RebaseStatus}
+use Rattle.cfn_app.specs.Runs.Recording.{Records, RecordedStatus}
+use Rattle.cfn_app.specs.Runs.Replaying.{Replays, ReplayStatus, ComesBack}
 use Rattle.cfn_app.specs.Runs.Trying.{Tries, TrialStatus}
 pub mod Checking
 pub mod CheckingBest
@@ -27,12 +30,15 @@ pub mod Merging
 pub mod Migrating
 pub mod Normalizing
 pub mod Rebasing
+pub mod Recording
+pub mod Replaying
 pub mod Solving
 pub mod Trying
 
 -- ---- the commands
 
--- How a run may end that is asked this. Only `solve`, `migrate`, `rebase`, `merge` and `kbest` write a file.
+-- How a run may end that is asked this. Only `solve`, `migrate`, `rebase`, `merge`, `kbest` and `replay`
+-- write a file; `solve` writes two where it is recorded.
 abbrev pub RunsOf : Request → Outside → Outside → Status → Type 0
 RunsOf (solve ask) old new status = Solves ask old new status
 RunsOf (check ask) old new status = (new.files ≡ old.files) × Checks ask old new.calls status
@@ -44,6 +50,8 @@ RunsOf (rebase ask) old new status = Rebases ask old new status
 RunsOf (merge ask) old new status = Merges ask old new status
 RunsOf (k_best ask) old new status = ListsBest ask old new status
 RunsOf (check_best ask) old new status = (new.files ≡ old.files) × ChecksBest ask old new.calls status
+RunsOf (recorded ask) old new status = Records ask old new status
+RunsOf (replay ask) old new status = Replays ask old new status
 
 -- What the status of a run says that is asked this.
 abbrev pub StatusOf : Request → Outside → Outside → Status → Type 0
@@ -57,6 +65,8 @@ StatusOf (rebase ask) old new status = RebaseStatus ask old new status
 StatusOf (merge ask) old new status = MergeStatus ask old new status
 StatusOf (k_best ask) old new status = KBestStatus ask old new status
 StatusOf (check_best ask) old new status = CheckBestStatus ask old new status
+StatusOf (recorded ask) old new status = RecordedStatus ask old new status
+StatusOf (replay ask) old new status = ReplayStatus ask old new status
 
 -- ---- all runs
 
@@ -87,3 +97,8 @@ pub record Statuses (request : Option Request) (old new : Outside) (status : Sta
   pub command : (ask : Request) → request ≡ Some ask → StatusOf ask old new status
   pub counts : Counts old.calls new.calls status
   pub idle : IsIdle old.calls → IsIdle new.calls
+
+-- Words that ask for a replay of what a run recorded, on the same file, have that run's certificate written again, or the run is
+-- hindered.
+abbrev pub Returns : Option Request → Outside → Outside → Status → Type 0
+Returns request old new status = (ask : ReplayRequest) → request ≡ Some (replay ask) → ComesBack ask old new status

@@ -12,6 +12,8 @@ mod merging;
 mod migrating;
 mod normalizing;
 mod rebasing;
+mod recording;
+mod replaying;
 mod solving;
 mod trying;
 
@@ -27,6 +29,8 @@ use merging::merge_files;
 use migrating::migrate_file;
 use normalizing::normalize_file;
 use rebasing::rebase_file;
+use recording::record_file;
+use replaying::replay_file;
 use solving::solve_file;
 use std::alloc::Global;
 use std::sync::Wait;
@@ -49,6 +53,7 @@ pub(crate) fn do_command<R: Threads + Wait + Sync, D: Desk, G: Gate + Sync, C: C
 {
     match command {
         Command::Solve(ask) => solve_file(rt, alloc, ask, desk, gate, clock),
+        Command::Recorded(ask) => record_file(rt, alloc, ask, desk, gate, clock),
         Command::Check(ask) => check_file(alloc, ask, desk),
         Command::Cost(ask) => cost_file(alloc, ask, desk),
         Command::Normal(ask) => normalize_file(alloc, ask, desk),
@@ -58,5 +63,6 @@ pub(crate) fn do_command<R: Threads + Wait + Sync, D: Desk, G: Gate + Sync, C: C
         Command::Merge(ask) => merge_files(alloc, ask, desk),
         Command::KBest(ask) => list_file(alloc, ask, desk, clock),
         Command::CheckBest(ask) => check_best_file(alloc, ask, desk),
+        Command::Replay(ask) => replay_file(alloc, ask, desk),
     }
 }

@@ -5,7 +5,7 @@ ghost use Rattle.cfn_model.specs.Certificate.{threshold};
 ghost use Rattle.cfn_model.specs.Text.{report, spelling};
 ghost use Rattle.cfn_desk.specs.Outside.{IsWriting};
 ghost use Rattle.cfn_proof.specs.Certificates.{certificate_of, solution_of};
-ghost use Rattle.cfn_app.specs.Endings.{Outputs, Wrote, NotWritten};
+ghost use Rattle.cfn_app.specs.Endings.{Ends, Outputs, Wrote, NotWritten};
 ghost use Rattle.cfn_app.specs.Runs.Solving.{status_of, word_of};
 
 use crate::status::{Status, ending};
@@ -29,10 +29,26 @@ pub fn put_out<D: Desk>(found: &Teamwork, workers: u32, desk: &mut D) -> Status
         (status_of (word_of found.now.outcome.stop (solution_of found.now.outcome.certificate.best)))
         (D.outside desk.old) (D.outside desk.new) result }
 {
-    let outcome = &found.outcome;
-    if save(&outcome.certificate, desk).is_err() {
+    if save(&found.outcome.certificate, desk).is_err() {
         return ending(cfn_report::write_write_fault(desk), Status::Fault);
     }
+    say_report(found, workers, desk)
+}
+
+/// Says the report of a search. It takes no memory. The status is the result's, or that of a fault. The workers that the report tells
+/// are those of whom each told a threshold, and the certificate's threshold is at most each of these.
+pub(crate) fn say_report<D: Desk>(found: &Teamwork, workers: u32, desk: &mut D) -> Status
+    requires workers { length found.now.thresholds.items ≡ workers }
+    requires least { All (λ k. threshold (certificate_of found.now.outcome.certificate) ≤ k) found.now.thresholds.items }
+    ensures ends { Ends (record {
+      calls = (D.outside desk.old).calls;
+      text = report workers (certificate_of found.now.outcome.certificate) found.now.outcome.rows.items found.now.outcome.nodes
+          (word_of found.now.outcome.stop (solution_of found.now.outcome.certificate.best));
+      status = status_of (word_of found.now.outcome.stop (solution_of found.now.outcome.certificate.best));
+    }) (D.outside desk.new).calls result }
+    ensures files { (D.outside desk.new).files ≡ (D.outside desk.old).files }
+{
+    let outcome = &found.outcome;
     let word = result_word(outcome);
     let report = Report {
         workers,

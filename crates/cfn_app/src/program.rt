@@ -3,7 +3,7 @@
 ghost use Rattle.std.specs.Prelude.{◌≡◌, map};
 ghost use Rattle.cfn_desk.specs.Outside.{IsIdle};
 ghost use Rattle.cfn_cli.specs.Request.{request_of};
-ghost use Rattle.cfn_app.specs.Runs.{Runs, Statuses};
+ghost use Rattle.cfn_app.specs.Runs.{Returns, Runs, Statuses};
 
 use crate::commands::do_command;
 use crate::status::{Status, ending};
@@ -34,6 +34,9 @@ pub fn run<R: Threads + Wait + Sync, D: Desk, G: Gate + Sync, C: Clock + Sync>(
         (D.outside desk.old) (D.outside desk.new) result }
     // What each status says, and which one comes.
     ensures statuses { Statuses (request_of (map (λ w. w.now) words.now))
+        (D.outside desk.old) (D.outside desk.new) result }
+    // A recorded run's certificate comes again from its record.
+    ensures again { Returns (request_of (map (λ w. w.now) words.now))
         (D.outside desk.old) (D.outside desk.new) result }
 {
     end_of(rt, alloc, words, desk, gate, clock)

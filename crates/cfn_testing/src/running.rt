@@ -135,6 +135,71 @@ impl Run {
     }
 }
 
+/// How a run of `solve` ended that is recorded, what it said, and both files that it was to write, each with no bytes where there is
+/// none.
+#[derive(Drop)]
+pub struct RecordedRun {
+    /// The number of its status.
+    pub status: u8,
+    said: Vec<u8>,
+    certificate: Vec<u8>,
+    record: Vec<u8>,
+}
+
+impl RecordedRun {
+    /// The run of `solve in out` with these words behind, which have `--record rec`, over a desk whose file `in` has these bytes and
+    /// whose calls with these ordinals fail, in which workers pass a gate.
+    pub fn of<R: AllocGlobal + Threads + Wait + Sync, G: Gate + Sync>(
+        rt: &R,
+        words: &[&str],
+        file: &[u8],
+        failing: &[u64],
+        gate: &G,
+    ) -> Result<RecordedRun, AllocError> {
+        let files = [("in", file)];
+        let mut desk = MemoryDesk::make_two(rt.alloc(), &files, 20_000, 20_000, 2_000, failing)?;
+        let status = run(rt, rt.alloc(), words, &mut desk, gate, &Still).code();
+        Ok(RecordedRun {
+            status,
+            said: Vec::from_slice(rt.alloc(), desk.said_bytes())?,
+            certificate: Vec::from_slice(rt.alloc(), desk.file("out").unwrap_or(b""))?,
+            record: Vec::from_slice(rt.alloc(), desk.file("rec").unwrap_or(b""))?,
+        })
+    }
+
+    /// What was said.
+    pub fn said(&self) -> &[u8] {
+        &self.said
+    }
+
+    /// The certificate that was written, or no bytes.
+    pub fn certificate(&self) -> &[u8] {
+        &self.certificate
+    }
+
+    /// The record that was written, or no bytes.
+    pub fn record(&self) -> &[u8] {
+        &self.record
+    }
+}
+
+/// The run of `replay in rec out` over a desk with these two files, whose calls with these ordinals fail.
+pub fn replay<R: AllocGlobal + Threads + Wait + Sync>(
+    rt: &R,
+    file: &[u8],
+    record: &[u8],
+    failing: &[u64],
+) -> Result<Run, AllocError> {
+    let files = [("in", file), ("rec", record)];
+    Run::over(
+        rt,
+        &["wcspsolve", "replay", "in", "rec", "out"],
+        &files,
+        failing,
+        "out",
+    )
+}
+
 /// Whether the run of these words over a file ends with this status, says this, and leaves this certificate, or none where
 /// these are no bytes.
 pub fn ends<R: AllocGlobal + Threads + Wait + Sync>(

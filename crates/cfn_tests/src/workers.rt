@@ -2,6 +2,7 @@
 
 use crate::solving::best_values;
 use cfn_app::{Gate, Point};
+use cfn_testing::gates::Holding;
 use cfn_testing::running::{Run, TRI, check_answers};
 use std::alloc::{AllocError, AllocGlobal};
 use std::sync::Wait;
@@ -43,30 +44,6 @@ impl Gate for Meeting {
                 thread::yield_now();
             }
             self.missed.store(1, Ordering::SeqCst);
-        }
-    }
-}
-
-/// A gate that holds one of four workers for some time, at one of the points or at each.
-#[derive(Drop)]
-struct Holding {
-    /// The worker is this modulo 4, and the point this by 4.
-    number: u32,
-}
-
-impl Gate for Holding {
-    fn pass(&self, worker: u32, point: Point) {
-        let held = match self.number / 4 {
-            0 => point == Point::Taken,
-            1 => point == Point::BeforeGive,
-            2 => point == Point::Waiting,
-            3 => point == Point::Ended,
-            _ => true,
-        };
-        if held && worker == self.number % 4 {
-            for _ in 0..10_000 {
-                thread::yield_now();
-            }
         }
     }
 }

@@ -74,10 +74,10 @@ module _ (ask : SolveRequest) (old new : Outside) where
         absurd (read_refused ask.format other bytes P refusal (same_bytes old ask.file other bytes told has) reads refuses)
 
     -- a file that reads as a network
-    by_result : (due : Ending) → Ends due new.calls status → IsReported due.status ⊎ IsHindered due.status → IsReported status ⊎ IsHindered status
+    pub by_result : (due : Ending) → Ends due new.calls status → IsReported due.status ⊎ IsHindered due.status → IsReported status ⊎ IsHindered status
     by_result due ends is = by (λ s. IsReported s ⊎ IsHindered s) due new.calls status ends (λ calls. is) (inr (inl refl))
 
-    word_reported : (word : ResultWord) → IsReported (status_of word) ⊎ IsHindered (status_of word)
+    pub word_reported : (word : ResultWord) → IsReported (status_of word) ⊎ IsHindered (status_of word)
     word_reported words.Optimum = inl (inl refl)
     word_reported words.Nothing = inl (inr (inl refl))
     word_reported words.Budget = inl (inr (inr refl))
@@ -116,7 +116,7 @@ module _ (ask : SolveRequest) (old new : Outside) where
     }
 
     -- the count of failed calls
-    word_counts : (before now : List Call) (word : ResultWord) → faults now ≡ faults before → Counts before now (status_of word)
+    pub word_counts : (before now : List Call) (word : ResultWord) → faults now ≡ faults before → Counts before now (status_of word)
     word_counts before now words.Optimum same = same
     word_counts before now words.Nothing same = same
     word_counts before now words.Budget same = same

@@ -67,7 +67,7 @@ fn begin_and_search<R: Threads + Wait + Sync, D: Desk, G: Gate + Sync, H: Halt +
     requires halt { H.limited halt.now ≡ is_some ask.now.seconds }
     ensures { Searches network.now (fresh network.now) (spoken_solve ask.now) (D.outside desk.old) (D.outside desk.new) result }
 {
-    match Begin::fresh(alloc, network) {
+    match Begin::fresh(alloc, network, false) {
         Ok(begin) => open_and_search(rt, alloc, network, begin, ask, desk, gate, halt),
         Err(AllocError) => ending(cfn_report::write_memory_fault(desk), Status::NoMemory),
     }

@@ -65,7 +65,7 @@ fn least_cost<R: Threads + Wait + Sync, G: Gate + Sync>(
     ensures { IfOk result (λ least. Least network.now least) }
 {
     network.limits();
-    let begin = Begin::fresh(alloc, network)?;
+    let begin = Begin::fresh(alloc, network, false)?;
     let found = search(
         rt, alloc, network, begin, workers, GREATEST, false, gate, &Never,
     )?;

@@ -39,3 +39,9 @@ returns-in-KBest g c = run_of _ _ _ _ _ c.in-KBest.is c.list_file.ensures
 
 pub returns-in-CheckBest : goal.returns-in-CheckBest
 returns-in-CheckBest g c = run_of _ _ _ _ _ c.in-CheckBest.is (c.check_best_file.ensures.files, c.check_best_file.ensures.ends)
+
+pub returns-in-Recorded : goal.returns-in-Recorded
+returns-in-Recorded g c = run_of _ _ _ _ _ c.in-Recorded.is c.record_file.ensures
+
+pub returns-in-Replay : goal.returns-in-Replay
+returns-in-Replay g c = run_of _ _ _ _ _ c.in-Replay.is c.replay_file.ensures
