@@ -5,8 +5,9 @@
 A library that cc compiles from refusing.c stands between the program and the C library, and refuses one allocation.
 It prints the statuses by ranges of allocations, and whether a run says what the whole run says; for several workers, whose allocations come in another order each time, how often each status came, and whether each certificate that a
 report stands for was judged good. Twice as many allocations are refused there as the whole run asked for. Of `kbest` it prints
-the same of each allocation that the whole run asked for. It ends with 1 where a status is neither that of the whole run nor 6,
-or a certificate is not good.
+the same of each allocation that the whole run asked for. Of each command it prints how many allocations the whole run asked for
+behind the first byte that it wrote, to a file or to standard output: writing and saying are promised to take no memory. It ends with
+1 where a status is neither that of the whole run nor 6, a certificate is not good, or an allocation came behind the first byte.
 """
 
 import argparse
@@ -24,9 +25,9 @@ SPLITS = 100_000
 
 
 def asked(count):
-    """How many allocations the last run asked for."""
+    """How many allocations the last run asked for, and how many of them behind the first byte that it wrote."""
     with open(count, "rb") as file:
-        return int.from_bytes(file.read(), sys.byteorder)
+        return [int.from_bytes(file.read(8), sys.byteorder) for _ in range(2)]
 
 
 def write_deep(path):
@@ -71,21 +72,22 @@ class Runs:
         return done.returncode, done.stdout
 
     def answers(self, words):
-        """The status of the whole run, the number of its allocations, and the answer where each of them is refused."""
+        """The status of the whole run, the number of its allocations, how many came behind the first byte, and the answer where each
+        of them is refused."""
         status, said = self.run(words, 0)
-        allocations = asked(self.count)
+        allocations, behind = asked(self.count)
         each = []
         for refused in range(1, allocations + 1):
             other, text = self.run(words, refused)
             each.append((other, "as the whole run" if text == said else text.decode().split("\n")[-2:-1]))
-        return status, allocations, each
+        return status, allocations, behind, each
 
     def judged(self, name, words, judge, rounds):
         """Prints how often each status and last line came where one of `rounds` times as many allocations as the whole run asked
         for was refused, and whether the certificate was judged good. Answers whether all is right."""
         whole, _ = self.run(words, 0)
         certificate, tally = judge[-1], collections.Counter()
-        for refused in range(1, rounds * asked(self.count) + 1):
+        for refused in range(1, rounds * asked(self.count)[0] + 1):
             if os.path.exists(certificate):
                 os.remove(certificate)
             status, said = self.run(words, refused)
@@ -99,15 +101,16 @@ class Runs:
         return all(status in (whole, 6) and (not last.startswith("result") or last.endswith(", verified")) for status, last in tally)
 
 
-def tell(name, status, allocations, each):
-    """Prints the answers of one command by ranges, and answers whether each status is right."""
-    print(f"{name}: status {status}, {allocations} allocations")
+def tell(name, status, allocations, behind, each):
+    """Prints the answers of one command by ranges, and answers whether each status is right and nothing was asked for behind the
+    first byte."""
+    print(f"{name}: status {status}, {allocations} allocations, {behind} of them behind the first byte written")
     first = 0
     for place in range(1, allocations + 1):
         if place == allocations or each[place] != each[first]:
             print(f"  {first + 1} to {place} refused: status {each[first][0]}, last line {each[first][1]}")
             first = place
-    return all(other in (status, 6) for other, _ in each)
+    return behind == 0 and all(other in (status, 6) for other, _ in each)
 
 
 def measured(program):
@@ -119,16 +122,21 @@ def measured(program):
         listed, deep_list = runs.file("listed"), runs.file("deep_list")
         subprocess.run([program, "kbest", NETWORK, "2", listed], stdout=subprocess.DEVNULL, check=False)
         write_deep_list(deep_list)
+        recording = runs.file("recording")
+        subprocess.run([program, "solve", NETWORK, written, "--record", recording], stdout=subprocess.DEVNULL, check=False)
         wide, wide_deep = runs.file("wide"), runs.file("wide_deep")
         write_wide(wide, wide_deep)
         commands = {
             "solve": ["solve", NETWORK, written],
+            "solve with a record": ["solve", NETWORK, written, "--record", runs.file("record")],
+            "replay": ["replay", NETWORK, recording, written],
             "check": ["check", NETWORK, certificate],
             "check of nested splits": ["check", NETWORK, deep],
             "cost": ["cost", NETWORK, "1"],
             "normal": ["normal", NETWORK],
             "trial": ["trial", "7", "3"],
             "migrate": ["migrate", NETWORK, certificate, written],
+            "migrate of nested splits": ["migrate", NETWORK, deep, written],
             "rebase": ["rebase", NETWORK, certificate, written],
             "rebase of nested splits": ["rebase", NETWORK, deep, written, "--budget", "0"],
             "rebase of nested splits that are kept": ["rebase", wide, wide_deep, written, "--budget", "0"],
