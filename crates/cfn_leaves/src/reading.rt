@@ -1,6 +1,6 @@
 //! What is read of the leaves.
 
-ghost use Rattle.std.specs.Prelude.{◌≡◌, ◌+◌, ◌≤◌, ◌^◌, [], min};
+ghost use Rattle.std.specs.Prelude.{◌≡◌, ◌+◌, ◌≤◌, ◌^◌, [], length, min};
 ghost use Rattle.cfn_model.specs.Tree.{bound, open_leaves};
 ghost use Rattle.cfn_proof.specs.Nodes.{tree_of};
 ghost use Rattle.cfn_machine.specs.Pool.{granted};
@@ -27,6 +27,13 @@ impl Leaves {
         ensures few { result ≤ 2 ^ 32 }
     {
         self.opened
+    }
+
+    /// Nothing: its contract tells a caller that the numbers of leaves are below 2^32.
+    pub fn numbered(&self)
+        ensures { length self.now.table ≤ 2 ^ 32 }
+    {
+        let _ = &self.table;
     }
 
     /// How many nodes may be made.
