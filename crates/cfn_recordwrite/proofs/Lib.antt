@@ -1,2 +1,4 @@
+mod Gathering
 mod Lines
 mod Spellings
+mod Trees

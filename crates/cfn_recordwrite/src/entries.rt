@@ -7,7 +7,7 @@ ghost use Rattle.cfn_line.specs.declared.channel.Channel.TheVariants.{File};
 ghost use Rattle.cfn_record.specs.Lines.{Back, Give, Recall, Sweep, Take, bytes_of, lines_of_entries, lines_of_entry, text_of};
 ghost use Rattle.cfn_history.specs.Histories.{entry_of};
 
-use cfn_certwrite::put_tree;
+use crate::nodes::put_tree;
 use cfn_desk::{Desk, Failed};
 use cfn_history::Happened;
 use cfn_line::{Channel, Word, write_line};

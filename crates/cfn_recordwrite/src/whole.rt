@@ -17,9 +17,10 @@ use cfn_line::{Channel, Word, write_line};
 use cfn_proof::Certificate;
 
 /// Puts the text of a search's record behind the bytes of the file that the desk is writing: of its history, and of the numbers and the
-/// best assignment of its certificate. That is the one spelling of the record. Each word is one put, together with the space or LF
-/// behind it. It takes no memory. A best assignment has to have a spelling, as that of a search's outcome has: its cost is at most
-/// 9,223,372,036,854,775,807, and it has a value at least.
+/// best assignment of its certificate. That is the one spelling of the record. The lines of a piece's tree are put in stretches of at most
+/// 4,096 bytes, each by one put, and in the other lines each word is one put, together with the space or LF behind it. It takes no
+/// memory. A best assignment has to have a spelling, as that of a search's outcome has: its cost is at most 9,223,372,036,854,775,807,
+/// and it has a value at least.
 ///
 /// An `Err` is a put that failed: some front of the text came behind the bytes, and the rest was not tried.
 pub fn write<D: Desk>(

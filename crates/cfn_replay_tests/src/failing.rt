@@ -58,9 +58,9 @@ fn record_faults<R: AllocGlobal + Threads + Wait + Sync>(
 
 #[test]
 fn each_failing_call_of_a_recorded_run_is_a_fault(rt: HostRuntime) -> Result<(), Fail> {
-    // the load; opening, 32 puts and closing of the certificate; opening, 61 puts and closing of the record; eleven lines of the report
+    // the load; opening, 32 puts and closing of the certificate; opening, 44 puts and closing of the record; eleven lines of the report
     let found = record_faults(&rt)?.unwrap_or(0);
-    assert!(rt; found == 109, "{found} calls");
+    assert!(rt; found == 92, "{found} calls");
     Ok(())
 }
 
