@@ -1,6 +1,6 @@
 -- The record of a search, and how a run ends that writes one.
 use Rattle.std.proofs.Common.{◌≡◌, ℕ, ◌≤◌, true, false, List, [], ◌∷◌, refl, sym, ap, ◌∙◌, subst, arith}
-use Rattle.std.specs.Prelude.{Option, Some, None, IfSome, Result, Ok, Err, is_ok, is_err, OnOk, OnErr, if◌then◌else◌}
+use Rattle.std.specs.Prelude.{Option, Result, Ok, Err, is_ok, is_err, OnOk, OnErr, if◌then◌else◌}
 use Rattle.std.specs.List.{AllByRecursion}
 use Rattle.cfn_model.specs.declared.report.Row.{Row}
 use Rattle.cfn_model.specs.declared.report.ResultWord.{ResultWord}
@@ -30,7 +30,7 @@ use Rattle.cfn_app.specs.Loading.{ReadsAs, Unread}
 use Rattle.cfn_app.specs.declared.status.Status.TheVariants.{Fault, NoMemory}
 use Rattle.cfn_app.specs.Endings.{Outputs, Wrote, NotWritten}
 use Rattle.cfn_app.specs.Runs.Solving.{limits_of, status_of}
-use Rattle.cfn_app.specs.Runs.Recording.{IsAbove, IsRecordOf, OutputsBoth, PutsRecord, Records, SearchesRecorded, recording_of}
+use Rattle.cfn_app.specs.Runs.Recording.{IsAbove, IsRecordOf, OutputsBoth, PutsRecord, Records, SearchesRecorded}
 use Rattle.cfn_app.specs.Runs.Recording as recording
 use Rattle.cfn_app.proofs.Ends.{ends_saying}
 
@@ -85,7 +85,7 @@ module _ (P : Network) (budget : ℕ) (k : found.Certificate) where
       (ap (λ t. bound P [] t (threshold_of P.upper c.best)) is ∙ ap (λ u. bound P [] c.tree (threshold_of u c.best)) (sym good.upper) ∙ sym lower) is
 
   -- the record of a search is one of its certificate
-  is_record : (history : HistoryValue) → IsRecorded P budget (searched.certificate_of k) history → Good P (searched.certificate_of k) → (searched.certificate_of k).lower ≡ bound P [] (searched.certificate_of k).tree (threshold (searched.certificate_of k))
+  pub is_record : (history : HistoryValue) → IsRecorded P budget (searched.certificate_of k) history → Good P (searched.certificate_of k) → (searched.certificate_of k).lower ≡ bound P [] (searched.certificate_of k).tree (threshold (searched.certificate_of k))
       → Spells (records.recorded history k) (records.spelling (records.recorded history k)) → IsRecordOf P budget (searched.certificate_of k) (records.recorded history k)
   is_record history is good lower spells =
       let c = searched.certificate_of k in
@@ -97,28 +97,18 @@ module _ (P : Network) (budget : ℕ) (k : found.Certificate) where
         above = subst (λ n. AllByRecursion (IsAbove n) (records.recorded history k).entries) (is.good.seen ∙ ap (λ u. threshold_of u c.best) (sym good.upper)) (seen_last P _ is.good.pool _ is.good.run).1;
       }
 
-  pub are_recorded : (history : Option HistoryValue) → IfSome history (IsRecorded P budget (searched.certificate_of k)) → Good P (searched.certificate_of k) → (searched.certificate_of k).lower ≡ bound P [] (searched.certificate_of k).tree (threshold (searched.certificate_of k))
-      → IfSome (recording_of history k) (λ r. Spells r (records.spelling r)) → IfSome (recording_of history k) (IsRecordOf P budget (searched.certificate_of k))
-  are_recorded None is good lower spells = tt
-  are_recorded (Some history) is good lower spells = is_record history is good lower spells
-
 -- ---- how a run ends that writes both
 
-module _ (certificate name : List ℕ) (recorded : Option Record) (report_text : List ℕ) (due : Status) (old middle new : Outside) (status : Status) where
+module _ (certificate name record_text report_text : List ℕ) (due : Status) (old middle new : Outside) (status : Status) where
   -- the certificate was not written, and that is said
-  pub both_unwritten : {T E U F : Type 0} (result : Result T E) (said : Result U F) → is_err result ≡ true → OnErr result (NotWritten certificate old middle) → Appends Screen middle write_fault_text said new → status ≡ (if is_ok said then Fault else Fault) → OutputsBoth certificate name recorded report_text due old new status
+  pub both_unwritten : {T E U F : Type 0} (result : Result T E) (said : Result U F) → is_err result ≡ true → OnErr result (NotWritten certificate old middle) → Appends Screen middle write_fault_text said new → status ≡ (if is_ok said then Fault else Fault) → OutputsBoth certificate name record_text report_text due old new status
   both_unwritten (Ok x) said failed not one is = absurd (let no : false ≡ true = failed in cc)
   both_unwritten (Err e) said failed not one is = recording.unwritten middle not one.files (ends_saying middle.calls middle new write_fault_text said Fault status refl one is)
 
-  -- it was, and memory was refused for the record
-  pub both_unrecorded : {T E U F : Type 0} (result : Result T E) (said : Result U F) → is_err result ≡ false → OnOk result (Wrote certificate old middle) → recorded ≡ None → Appends Screen middle memory_fault_text said new → status ≡ (if is_ok said then NoMemory else Fault) → OutputsBoth certificate name recorded report_text due old new status
-  both_unrecorded (Ok x) said fine wrote none one is = recording.unrecorded middle none wrote one.files (ends_saying middle.calls middle new memory_fault_text said NoMemory status refl one is)
-  both_unrecorded (Err e) said fine wrote none one is = absurd (let no : true ≡ false = fine in cc)
-
   -- both were to be written
-  pub both_recorded : {T E : Type 0} (result : Result T E) (r : Record) → is_err result ≡ false → OnOk result (Wrote certificate old middle) → recorded ≡ Some r → PutsRecord name (records.spelling r) report_text due middle new status → OutputsBoth certificate name recorded report_text due old new status
-  both_recorded (Ok x) r fine wrote some puts = recording.recorded middle r some wrote puts
-  both_recorded (Err e) r fine wrote some puts = absurd (let no : true ≡ false = fine in cc)
+  pub both_recorded : {T E : Type 0} (result : Result T E) → is_err result ≡ false → OnOk result (Wrote certificate old middle) → PutsRecord name record_text report_text due middle new status → OutputsBoth certificate name record_text report_text due old new status
+  both_recorded (Ok x) fine wrote puts = recording.wrote middle wrote puts
+  both_recorded (Err e) fine wrote puts = absurd (let no : true ≡ false = fine in cc)
 
 -- a record behind a file that was opened
 pub recorded_behind : {T E : Type 0} (name text report_text : List ℕ) (due : Status) (old middle new : Outside) (opened : Result T E) (status : Status) → is_err opened ≡ false → middle ≡ after (Open name (is_ok opened)) old →
@@ -132,11 +122,11 @@ wrote_idle text old middle (Ok x) fine wrote = ap written wrote.calls
 wrote_idle text old middle (Err e) fine wrote = absurd (let no : true ≡ false = fine in cc)
 
 -- a search behind a file that was opened
-pub searched_behind : {T E : Type 0} (P : Network) (ask : RecordedRequest) (old middle new : Outside) (opened : Result T E) (status : Status) (nodes : ℕ) (c : Certificate) (rows : List Row) (word : ResultWord) (recorded : Option Record) → is_err opened ≡ false → middle ≡ after (Open ask.solve.certificate (is_ok opened)) old →
-    Promise P (fresh P) (limits_of ask.solve) nodes c rows word → IfSome recorded (IsRecordOf P ask.solve.budget c) → OutputsBoth (spelling c) ask.recording recorded (report ask.solve.workers c rows nodes word) (status_of word) middle new status → SearchesRecorded P ask old new status
-searched_behind P ask old middle new (Ok x) status nodes c rows word recorded fine at promise is out =
-    recording.searched nodes c rows word recorded promise is (subst (λ o. OutputsBoth (spelling c) ask.recording recorded (report ask.solve.workers c rows nodes word) (status_of word) o new status) at out)
-searched_behind P ask old middle new (Err e) status nodes c rows word recorded fine at promise is out = absurd (let no : true ≡ false = fine in cc)
+pub searched_behind : {T E : Type 0} (P : Network) (ask : RecordedRequest) (old middle new : Outside) (opened : Result T E) (status : Status) (nodes : ℕ) (c : Certificate) (rows : List Row) (word : ResultWord) (r : Record) → is_err opened ≡ false → middle ≡ after (Open ask.solve.certificate (is_ok opened)) old →
+    Promise P (fresh P) (limits_of ask.solve) nodes c rows word → IsRecordOf P ask.solve.budget c r → OutputsBoth (spelling c) ask.recording (records.spelling r) (report ask.solve.workers c rows nodes word) (status_of word) middle new status → SearchesRecorded P ask old new status
+searched_behind P ask old middle new (Ok x) status nodes c rows word r fine at promise is out =
+    recording.searched nodes c rows word r promise is (subst (λ o. OutputsBoth (spelling c) ask.recording (records.spelling r) (report ask.solve.workers c rows nodes word) (status_of word) o new status) at out)
+searched_behind P ask old middle new (Err e) status nodes c rows word r fine at promise is out = absurd (let no : true ≡ false = fine in cc)
 
 module _ (ask : RecordedRequest) (old middle new : Outside) (status : Status) (bytes : List ℕ) (has : HasFile old ask.solve.file bytes) (at : middle ≡ after (Load ask.solve.file (Bytes bytes)) old) where
   pub records_unread : new.files ≡ middle.files → Unread ask.solve.format bytes middle.calls new.calls status → Records ask old new status

@@ -1,6 +1,6 @@
 //! A search whose gate is told when it begins and when it has ended.
 
-ghost use Rattle.std.specs.Prelude.{◌≡◌, ◌≤◌, All, length, IfOk, IfSome};
+ghost use Rattle.std.specs.Prelude.{◌≡◌, ◌≤◌, All, length, is_some, IfOk, IfSome};
 ghost use Rattle.cfn_model.specs.Certificate.{threshold};
 ghost use Rattle.cfn_model.specs.declared.limits.TheConstants.{GREATEST};
 ghost use Rattle.cfn_proof.specs.Certificates.{certificate_of};
@@ -32,6 +32,7 @@ pub fn search<R: Threads + Wait + Sync, G: Gate + Sync, H: Halt + Sync>(
     requires budget { budget ≤ GREATEST }
     ensures outcome { IfOk result (λ found. IsOutcome network.now (start_of network.now begin) (timed_nodes budget (H.limited halt.now)) found.outcome) }
     ensures history { IfOk result (λ found. IfSome found.history (IsRecorded network.now budget (certificate_of found.outcome.certificate))) }
+    ensures recorded { IfOk result (λ found. is_some found.history ≡ begin.recorded) }
     ensures count { IfOk result (λ found. length found.thresholds.items ≡ workers) }
     ensures least { IfOk result (λ found. All (λ k. threshold (certificate_of found.outcome.certificate) ≤ k) found.thresholds.items) }
 {

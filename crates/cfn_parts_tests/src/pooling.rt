@@ -32,6 +32,8 @@ fn give_a_piece<M: Incumbent>(
 ) -> Result<Option<(u64, bool, bool)>, AllocError>
     requires own { network.now ≡ M.network }
     requires seen { part.old.seen ≤ M.network.upper }
+    requires none { pool.old.recorded ≡ None }
+    ensures { pool.new.recorded ≡ None }
 {
     let Taken::Given { task } = pool.take(network, 0, 2) else {
         return Ok(None);
@@ -65,6 +67,7 @@ fn told_of<M: Incumbent>(
 ) -> Result<Told, AllocError>
     requires own { network.now ≡ M.network }
     requires seen { other.seen ≤ M.network.upper }
+    requires none { pool.recorded ≡ None }
 {
     let answer = give_a_piece(alloc, network, low, &mut other, &mut pool)?;
     pool.note(network);

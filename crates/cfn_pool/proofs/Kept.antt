@@ -12,7 +12,7 @@ use Rattle.cfn_low.specs.Holding.{Holding as Part, kept}
 use Rattle.cfn_leaves.specs.Value.{Holding as Leaves}
 use Rattle.cfn_record.specs.Entries.{entry_of}
 use Rattle.cfn_pool.specs.declared.recording.Recording.{Recording}
-use Rattle.cfn_pool.specs.Recorded.{record_in}
+use Rattle.cfn_pool.specs.Recorded.{value_of}
 use Rattle.cfn_pool.specs.Views.{values_of, AreReached, Held, pool, IsHeld}
 use Rattle.cfn_pool.proofs.Recorded.{Tells, recorded_by_step}
 
@@ -50,7 +50,7 @@ upper_reached P seen true below (inr reached) = reached
 upper_reached P seen false below reached = tt
 
 abbrev pub held : Leaves → Part → Recording → Held
-held leaves part recording = record { leaves = leaves; part = part; recorded = record_in recording }
+held leaves part recording = record { leaves = leaves; part = part; recorded = value_of recording }
 
 -- a step that is legal keeps all, where its entry is recorded
 pub kept_by_step : (P : Network) (old new : Held) (word : ℕ) (step : PoolStep) → IsReached P old.part.seen → new.leaves.network ≡ P → IsHeld P old → IsLegal P (pool old) word step → PoolSteps P (pool old) word step (pool new) → Tells (entry_of word step) old.recorded new.recorded → IsHeld P new

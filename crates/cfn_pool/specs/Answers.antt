@@ -1,5 +1,5 @@
 -- What the pool's calls answer, each by a step of the pool.
-use Rattle.std.specs.Prelude.{◌≡◌, ℕ, ◌≤◌, ◌⊎◌, length}
+use Rattle.std.specs.Prelude.{◌≡◌, ℕ, ◌≤◌, ◌⊎◌, length, Option}
 use Rattle.cfn_model.specs.Network.{Network}
 use Rattle.cfn_task.specs.Values.{PieceValue, piece_of}
 use Rattle.cfn_machine.specs.Pool.{Pool, price}
@@ -7,6 +7,7 @@ use Rattle.cfn_machine.specs.Word.{all_shares}
 use Rattle.cfn_machine.specs.Steps.{PoolTakes, PoolGives, PoolSweeps, PoolNotes, IsOut, HasNone, NoneOpen, AllSpent, AllOut}
 use Rattle.cfn_leaves.specs.declared.taking.Taken.{Taken}
 use Rattle.cfn_leaves.specs.declared.taking.Taken.TheVariants.{Given, Empty, Spent, Again, Memory as NoMemory}
+use Rattle.cfn_pool.specs.Recorded.{RecordingValue, Adds, gave}
 use Rattle.cfn_pool.specs.Views.{Held, pool}
 use Rattle.cfn_pool.specs.declared.steps.Handed.{Handed}
 use Rattle.cfn_pool.specs.declared.steps.Handed.TheVariants.{Done, Gone, Memory}
@@ -36,6 +37,12 @@ abbrev pub Gives : {M : Type 0} → Network → Held → PieceValue → ℕ → 
 Gives P old piece note Done new = IsGiven P (pool old) piece note (pool new)
 Gives P old piece note (Gone given told) new = (given ≡ piece) × (told ≡ note) × (new ≡ old) × (IsOut (pool old) piece.task → ⊥)
 Gives P old piece note (Memory given told) new = (given ≡ piece) × (told ≡ note) × (new ≡ old)
+
+-- A piece that is in its leaf's place is recorded, with the threshold that the pool has seen afterwards; else nothing changes.
+abbrev pub AddsGiven : {M : Type 0} → Option RecordingValue → PieceValue → ℕ → Handed M → Option RecordingValue → Type 0
+AddsGiven old piece seen Done new = Adds old (gave piece seen) new
+AddsGiven old piece seen (Gone given told) new = new ≡ old
+AddsGiven old piece seen (Memory given told) new = new ≡ old
 
 -- The pool sees the word, which is no more than it had seen, and at most the price of what it keeps, which it is where all
 -- shares are there; and free leaves are closed.

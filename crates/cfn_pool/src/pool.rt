@@ -7,10 +7,10 @@ ghost use Rattle.cfn_proof.specs.Nodes.{tree_of};
 ghost use Rattle.cfn_machine.specs.Pool as machine;
 ghost use Rattle.cfn_machine.specs.Pool.{IsKept, opening_part, opening_pool, price};
 ghost use Rattle.cfn_machine.specs.Parts.{IsPart, has_leaf};
-ghost use Rattle.cfn_pool.specs.Recorded.{IsRecordOf, record_of, told_by};
+ghost use Rattle.cfn_pool.specs.Recorded.{IsRecordOf, record_of, told_by, told_in};
 ghost use Rattle.cfn_pool.specs.Views.{pool, values_of, view_of};
 
-use crate::recording::Recording;
+use crate::recording::{Recording, SPARE};
 use cfn_history::History;
 use cfn_leaves::Leaves;
 use cfn_low::{Holder, Incumbent};
@@ -19,9 +19,6 @@ use cfn_net::Network;
 use cfn_proof::{Row, Tree};
 use std::alloc::{AllocError, Global};
 use std::marker::Model;
-
-/// How many entries there is room for at the opening: a sweep, and at the end a call for all leaves and a sweep.
-const ENTRIES: usize = 3;
 
 /// A search tree whose open leaves are free, or out to workers, with a part of the word of the incumbent.
 ///
@@ -38,14 +35,14 @@ pub struct Pool<M: Incumbent> {
 }
 
 impl<M: Incumbent> Model for Pool<M> {
-    ghost use Rattle.cfn_pool.specs.Recorded.{record_in};
-    ghost use Rattle.cfn_pool.specs.Views.{Held, IsHeld};
+    ghost use Rattle.cfn_pool.specs.Recorded.{value_of};
+    ghost use Rattle.cfn_pool.specs.Views.{Held, IsPooled};
 
     ghost Value = { Held };
 
-    ghost view = { λ p. record { leaves = p.leaves; part = p.holder; recorded = record_in p.recording } };
+    ghost view = { λ p. record { leaves = p.leaves; part = p.holder; recorded = value_of p.recording } };
 
-    ghost invariant = { λ p. IsHeld M.network (record { leaves = p.leaves; part = p.holder; recorded = record_in p.recording }) };
+    ghost invariant = { λ p. IsPooled M.network (record { leaves = p.leaves; part = p.holder; recorded = value_of p.recording }) p.recording };
 }
 
 /// What a pool leaves.
@@ -59,7 +56,7 @@ pub struct Finished<M: Incumbent> {
     pub rows: Vec<Row>,
     /// How many nodes were made.
     pub nodes: u64,
-    /// What was done to the pool, where a record was kept to the end.
+    /// What was done to the pool, where a record was begun.
     pub history: Option<History>,
 }
 
@@ -88,16 +85,22 @@ impl<M: Incumbent> Pool<M> {
 
     /// Begins a record of what is done to a pool from its usual opening on. An `Err` is want of memory, and changes nothing. The budget
     /// is at most 9,223,372,036,854,775,807.
-    pub fn begin_record(&mut self, alloc: Global) -> Result<(), AllocError>
+    pub fn begin_record(&mut self, alloc: Global, network: &Network) -> Result<(), AllocError>
+        requires own { network.now ≡ M.network }
         requires opening { (shares : ℕ) × (pool self.old ≡ opening_pool M.network shares (pool self.old).budget) }
         requires budget { (pool self.old).budget ≤ GREATEST }
         ensures pool { pool self.new ≡ pool self.old }
-        ensures ok { OnOk result (self.new.recorded ≡ Some (record { budget = (pool self.old).budget; happened = [] })) }
+        ensures ok { OnOk result (self.new.recorded ≡ Some (record { told = record { budget = (pool self.old).budget; happened = [] }; out = 0; spare = 3 })) }
         ensures err { OnErr result (self.new ≡ self.old) }
     {
+        network.limits();
         let mut history = History::new(alloc, self.leaves.budget());
-        history.reserve(ENTRIES)?;
-        self.recording = Recording::On { history, out: 0 };
+        history.reserve(SPARE)?;
+        self.recording = Recording::On {
+            history,
+            out: 0,
+            spare: SPARE,
+        };
         Ok(())
     }
 
@@ -139,7 +142,7 @@ impl<M: Incumbent> Pool<M> {
         ensures view { view_of result.holder ≡ (pool self).view }
         ensures rows { result.rows.items ≡ (pool self).rows }
         ensures nodes { result.nodes ≡ (pool self).nodes }
-        ensures same { record_of result.history ≡ self.recorded }
+        ensures same { record_of result.history ≡ told_in self.recorded }
         ensures history { IfSome result.history (λ history. IsRecordOf M.network (pool self) (told_by history)) }
     {
         let Pool {

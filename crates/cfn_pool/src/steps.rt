@@ -3,9 +3,11 @@
 ghost use Rattle.std.specs.Prelude.{◌≡◌, ◌+◌, ◌≤◌, length, IfSome, IsTrue, IsFalse};
 ghost use Rattle.cfn_machine.specs.Steps.{PoolRecalls, PoolReturns, PoolMeets, PoolNotes, IsNotOut};
 ghost use Rattle.cfn_machine.specs.Word.{all_shares};
-ghost use Rattle.cfn_pool.specs.Recorded.{IsExactRecordOf};
+ghost use Rattle.cfn_record.specs.Entries.{CalledBack, Freed, Swept};
+ghost use Rattle.cfn_model.specs.declared.limits.TheConstants.{GREATEST};
+ghost use Rattle.cfn_pool.specs.Recorded.{Adds, AddsTaken, HasSpare, IsExactRecordOf};
 ghost use Rattle.cfn_pool.specs.Views.{pool, view_of};
-ghost use Rattle.cfn_pool.specs.Answers.{Takes, Gives, Sweeps, NotesOrWaits};
+ghost use Rattle.cfn_pool.specs.Answers.{AddsGiven, Takes, Gives, Sweeps, NotesOrWaits};
 
 use crate::pool::Pool;
 use cfn_leaves as leaves;
@@ -24,20 +26,26 @@ pub enum Handed<M: Incumbent> {
     Done,
     /// Its leaf is not out to its task's worker with the task's grant, or has another path.
     Gone { piece: Piece, note: Note<M> },
-    /// There is no memory for it, or no number for a node, a leaf or a floor.
+    /// There is no memory for it, or for its record where one is kept, or no number for a node, a leaf or a floor.
     Memory { piece: Piece, note: Note<M> },
 }
 
 impl<M: Incumbent> Pool<M> {
     /// Hands out a free leaf of least floor, the one of least number among those, to a worker that wants to make at most
-    /// `want` nodes below it, at least 1. The grant is that, or less where the budget has less left. Where it hands out
-    /// nothing, nothing changes.
+    /// `want` nodes below it, at least 1 and at most 9,223,372,036,854,775,807. The grant is that, or less where the budget has less
+    /// left. Where it hands out nothing, nothing changes. Where a record is kept, want of memory may be for the record.
     pub fn take(&mut self, network: &Network, worker: u32, want: u64) -> Taken
         requires own { network.now ≡ M.network }
         requires wants { 1 ≤ want }
+        requires most { want ≤ GREATEST }
         ensures takes { Takes M.network self.old worker want result self.new }
+        ensures adds { AddsTaken self.old.recorded worker want result self.new.recorded }
     {
         self.holder.kept();
+        self.leaves.numbered();
+        if self.recording.make_room().is_err() {
+            return Taken::Memory;
+        }
         let taken = self.leaves.take(network, worker, want);
         self.recording.took(worker, want, &taken);
         taken
@@ -50,11 +58,15 @@ impl<M: Incumbent> Pool<M> {
         requires own { piece.network ≡ M.network }
         requires seen { note ≤ piece.threshold }
         ensures gives { Gives M.network self.old piece note result self.new }
+        ensures adds { AddsGiven self.old.recorded piece (pool self.new).view.seen result self.new.recorded }
     {
         piece.kept();
         self.holder.kept();
         self.holder.best().priced();
-        let copy = self.recording.copy(&piece);
+        self.leaves.numbered();
+        let Ok(copy) = self.recording.copy(&piece) else {
+            return Handed::Memory { piece, note };
+        };
         match self.leaves.give(piece) {
             leaves::Handed::Done => {
                 let seen = low.heed(&mut self.holder, note);
@@ -78,8 +90,10 @@ impl<M: Incumbent> Pool<M> {
         ensures back { IsTrue result → PoolReturns (pool self.old) task.now.task (pool self.new) }
         ensures none { IsFalse result → IsNotOut (pool self.old) task.now.task }
         ensures same { IsFalse result → self.new ≡ self.old }
+        ensures adds { IsTrue result → Adds self.old.recorded (Freed task.now.task.worker task.now.task.leaf task.now.task.grant) self.new.recorded }
     {
         self.holder.kept();
+        self.leaves.numbered();
         if self.leaves.back(task) {
             self.recording.freed(task);
             true
@@ -88,9 +102,11 @@ impl<M: Incumbent> Pool<M> {
         }
     }
 
-    /// Frees every leaf that is out. It takes no memory.
+    /// Frees every leaf that is out. It takes no memory: where a record is kept, there has to be room for an entry.
     pub fn recall(&mut self)
-        ensures { PoolRecalls (pool self.old) (pool self.new) }
+        requires spare { HasSpare 1 self.old.recorded }
+        ensures recalls { PoolRecalls (pool self.old) (pool self.new) }
+        ensures adds { Adds self.old.recorded CalledBack self.new.recorded }
     {
         self.holder.kept();
         self.leaves.recall();
@@ -98,10 +114,12 @@ impl<M: Incumbent> Pool<M> {
     }
 
     /// Reads the word, and closes each free leaf whose floor is at least that. What is recorded makes a pool then that has seen the
-    /// same. It takes no memory.
+    /// same. It takes no memory: where a record is kept, there has to be room for an entry.
     pub fn sweep(&mut self, low: &Low<M>)
+        requires spare { HasSpare 1 self.old.recorded }
         ensures sweeps { Sweeps M.network (pool self.old) (pool self.new) }
-        ensures recorded { IfSome self.new.recorded (IsExactRecordOf M.network (pool self.new)) }
+        ensures adds { Adds self.old.recorded (Swept (pool self.new).view.seen) self.new.recorded }
+        ensures recorded { IfSome self.new.recorded (λ r. IsExactRecordOf M.network (pool self.new) r.told) }
     {
         self.holder.kept();
         self.holder.best().priced();
@@ -113,7 +131,8 @@ impl<M: Incumbent> Pool<M> {
     /// Joins a part of the word into the pool's. It takes no memory.
     pub fn meet(&mut self, low: &Low<M>, other: Holder<M>)
         requires shares { (pool self.old).view.shares + other.shares ≤ all_shares }
-        ensures { PoolMeets M.network (pool self.old) (view_of other) (pool self.new) }
+        ensures meets { PoolMeets M.network (pool self.old) (view_of other) (pool self.new) }
+        ensures recorded { self.new.recorded ≡ self.old.recorded }
     {
         self.holder.kept();
         self.holder.best().priced();
@@ -126,7 +145,8 @@ impl<M: Incumbent> Pool<M> {
     /// search. It takes no memory.
     pub fn note(&mut self, network: &Network)
         requires own { network.now ≡ M.network }
-        ensures { NotesOrWaits M.network (pool self.old) (pool self.new) }
+        ensures notes { NotesOrWaits M.network (pool self.old) (pool self.new) }
+        ensures recorded { self.new.recorded ≡ self.old.recorded }
     {
         if self.is_due() {
             self.note_now(network);
@@ -143,7 +163,8 @@ impl<M: Incumbent> Pool<M> {
     /// Notes a row of the bounds that hold now, where it differs from the last one and there are fewer than 256.
     fn note_now(&mut self, network: &Network)
         requires own { network.now ≡ M.network }
-        ensures { PoolNotes M.network (pool self.old) (pool self.new) }
+        ensures notes { PoolNotes M.network (pool self.old) (pool self.new) }
+        ensures recorded { self.new.recorded ≡ self.old.recorded }
     {
         network.limits();
         self.holder.kept();

@@ -7,7 +7,7 @@ ghost use Rattle.cfn_net.specs.Scoring.{IsPriced};
 ghost use Rattle.cfn_proof.specs.Certificates.{certificate_of, solution_of};
 ghost use Rattle.cfn_outcome.specs.Outcome.{IsOutcome, timed_nodes};
 ghost use Rattle.cfn_machine.specs.Word.{all_shares};
-ghost use Rattle.cfn_pool.specs.Recorded.{IsExactRecordOf};
+ghost use Rattle.cfn_pool.specs.Recorded.{HasSpare, IsExactRecordOf};
 ghost use Rattle.cfn_pool.specs.Views.{pool};
 ghost use Rattle.cfn_worker.specs.Searching.{IsSearch};
 ghost use Rattle.cfn_search.specs.Recording.{IsRecorded};
@@ -29,19 +29,23 @@ pub(crate) fn meet<M: Incumbent>(low: &Low<M>, held: &mut Pool<M>, part: Holder<
     ensures budget { (pool held.new).budget ≡ (pool held.old).budget }
     ensures shares { (pool held.new).view.shares ≡ (pool held.old).view.shares + part.shares }
     ensures seen { (pool held.new).view.seen ≡ min (pool held.old).view.seen part.seen }
+    ensures recorded { held.new.recorded ≡ held.old.recorded }
 {
     held.meet(low, part);
 }
 
-/// Calls back what is out, and closes what need not be searched, where all parts of the word were met. It takes no memory.
+/// Calls back what is out, and closes what need not be searched, where all parts of the word were met. It takes no memory: where a
+/// record is kept, there has to be room for two entries.
 pub(crate) fn wind_up<M: Incumbent>(low: &Low<M>, held: &mut Pool<M>)
     requires search { IsSearch M.start (pool held.old) }
     requires shares { (pool held.old).view.shares ≡ all_shares }
+    requires spare { HasSpare 2 held.old.recorded }
     ensures ended { IsEnded M.start (pool held.new) }
     ensures budget { (pool held.new).budget ≡ (pool held.old).budget }
     ensures last { IsLast M.network (pool held.new) }
     ensures falls { (pool held.new).view.seen ≤ (pool held.old).view.seen }
-    ensures recorded { IfSome held.new.recorded (IsExactRecordOf M.network (pool held.new)) }
+    ensures recorded { IfSome held.new.recorded (λ r. IsExactRecordOf M.network (pool held.new) r.told) }
+    ensures kept { is_some held.new.recorded ≡ is_some held.old.recorded }
 {
     held.recall();
     held.sweep(low);
@@ -60,10 +64,11 @@ pub(crate) fn conclude<M: Incumbent, H: Halt>(
     requires ended { IsEnded M.start (pool held) }
     requires others { others ≡ length M.start.aside }
     requires last { IsLast M.network (pool held) }
-    requires recorded { IfSome held.recorded (IsExactRecordOf M.network (pool held)) }
+    requires recorded { IfSome held.recorded (λ r. IsExactRecordOf M.network (pool held) r.told) }
     ensures outcome { IsOutcome network.now M.start (timed_nodes (pool held).budget (H.limited halt.now)) result.0 }
     ensures threshold { threshold (certificate_of result.0.certificate) ≡ (pool held).view.seen }
     ensures history { IfSome result.1 (IsRecorded network.now (pool held).budget (certificate_of result.0.certificate)) }
+    ensures kept { is_some result.1 ≡ is_some held.recorded }
 {
     network.limits();
     held.kept();

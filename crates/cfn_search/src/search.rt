@@ -1,6 +1,6 @@
 //! The search, and one dive of it.
 
-ghost use Rattle.std.specs.Prelude.{◌≡◌, ℕ, ◌+◌, ◌<◌, ◌≤◌, ◌^◌, [], length, None, IfOk, IfSome, IsTrue};
+ghost use Rattle.std.specs.Prelude.{◌≡◌, ℕ, ◌+◌, ◌<◌, ◌≤◌, ◌^◌, [], length, is_some, None, IfOk, IfSome, IsTrue, OnOk};
 ghost use Rattle.cfn_model.specs.Tree.{Open, count, open_leaves};
 ghost use Rattle.cfn_model.specs.declared.limits.TheConstants.{GREATEST};
 ghost use Rattle.cfn_model.specs.Certificate.{threshold};
@@ -11,8 +11,9 @@ ghost use Rattle.cfn_machine.specs.Parts.{IsPart, has_leaf, others_among, others
 ghost use Rattle.cfn_machine.specs.Pool as machine;
 ghost use Rattle.cfn_machine.specs.Pool.{IsKept, opening_pool, price, row_of};
 ghost use Rattle.cfn_machine.specs.Word.{all_shares};
+ghost use Rattle.cfn_pool.specs.Recorded.{HasSpare};
 ghost use Rattle.cfn_pool.specs.Views.{pool, values_of};
-ghost use Rattle.cfn_worker.specs.Searching.{IsSearch, GoesOn, HasMore};
+ghost use Rattle.cfn_worker.specs.Searching.{IsSearch, GoesOn, HasMore, StaysReady};
 ghost use Rattle.cfn_worker.specs.Granting.{IsLimit};
 ghost use Rattle.cfn_search.specs.Beginning.{MayBegin, start_of};
 ghost use Rattle.cfn_search.specs.Recording.{IsRecorded};
@@ -71,6 +72,7 @@ pub(crate) fn solve_alone<X: Explorers, G: Gate, H: Halt>(
     requires budget { budget ≤ GREATEST }
     ensures outcome { IfOk result (λ found. IsOutcome network.now (start_of network.now begin) (timed_nodes budget (H.limited halt.now)) found.0) }
     ensures history { IfOk result (λ found. IfSome found.1 (IsRecorded network.now budget (certificate_of found.0.certificate))) }
+    ensures recorded { IfOk result (λ found. is_some found.1 ≡ begin.recorded) }
     ensures most { IfOk result (λ found. found.2 ≤ network.now.upper) }
     ensures least { IfOk result (λ found. threshold (certificate_of found.0.certificate) ≤ found.2) }
 {
@@ -104,6 +106,7 @@ fn search<M: Incumbent, X: Explorers, G: Gate, H: Halt>(
     requires most { budget ≤ GREATEST }
     ensures outcome { IfOk result (λ found. IsOutcome network.now (start_of network.now begin) (timed_nodes budget (H.limited halt.now)) found.0) }
     ensures history { IfOk result (λ found. IfSome found.1 (IsRecorded network.now budget (certificate_of found.0.certificate))) }
+    ensures recorded { IfOk result (λ found. is_some found.1 ≡ begin.recorded) }
     ensures most { IfOk result (λ found. found.2 ≤ network.now.upper) }
     ensures least { IfOk result (λ found. threshold (certificate_of found.0.certificate) ≤ found.2) }
 {
@@ -146,8 +149,8 @@ pub(crate) fn know<M: Incumbent>(low: &Low<M>, holder: &mut Holder<M>, best: &Sc
 }
 
 /// A pool at the beginning of a search, with a tree, of which a part of a search has not all open leaves, and a part of the word that
-/// has seen the price of what it keeps; and how many leaves are left to others. What is done to it is recorded where that is asked for
-/// and there is memory for it. An `Err` is want of memory.
+/// has seen the price of what it keeps; and how many leaves are left to others. What is done to it is recorded exactly where that is
+/// asked for. An `Err` is want of memory.
 pub(crate) fn open<M: Incumbent>(
     alloc: Global,
     network: &Network,
@@ -172,26 +175,38 @@ pub(crate) fn open<M: Incumbent>(
     ensures budget { IfOk result (λ made. (pool made.0).budget ≡ budget) }
     ensures shares { IfOk result (λ made. (pool made.0).view.shares ≡ holder.shares) }
     ensures others { IfOk result (λ made. made.1 ≡ length M.start.aside) }
+    ensures recorded { IfOk result (λ made. is_some made.0.recorded ≡ recorded) }
+    ensures spare { IfOk result (λ made. HasSpare 2 made.0.recorded) }
 {
     parts();
     let Ok(mut held) = Pool::begin_with(alloc, network, holder, budget, tree, part) else {
         return Err(AllocError);
     };
     let others = others_among(part, &held);
-    record_if(recorded, alloc, &mut held);
+    record_if(recorded, alloc, network, &mut held)?;
     sweep(low, &mut held);
     Ok((held, others))
 }
 
-/// Begins a record of what is done to a pool from its usual opening on, where that is asked for and there is memory for it.
-fn record_if<M: Incumbent>(recorded: bool, alloc: Global, held: &mut Pool<M>)
+/// Begins a record of what is done to a pool from its usual opening on, where that is asked for. An `Err` is want of memory.
+fn record_if<M: Incumbent>(
+    recorded: bool,
+    alloc: Global,
+    network: &Network,
+    held: &mut Pool<M>,
+) -> Result<(), AllocError>
+    requires own { network.now ≡ M.network }
     requires opening { IsTrue recorded → (shares : ℕ) × (pool held.old ≡ opening_pool M.network shares (pool held.old).budget) }
     requires budget { (pool held.old).budget ≤ GREATEST }
-    ensures { pool held.new ≡ pool held.old }
+    requires none { held.old.recorded ≡ None }
+    ensures pool { pool held.new ≡ pool held.old }
+    ensures recorded { OnOk result (is_some held.new.recorded ≡ recorded) }
+    ensures spare { OnOk result (HasSpare 3 held.new.recorded) }
 {
     if recorded {
-        let _ = held.begin_record(alloc);
+        held.begin_record(alloc, network)?;
     }
+    Ok(())
 }
 
 /// How many of a pool's open leaves, by their numbers, a part leaves to others.
@@ -217,9 +232,11 @@ fn ended<M: Incumbent, H: Halt>(
     requires own { network.now ≡ M.network }
     requires others { others ≡ length M.start.aside }
     requires search { IsSearch M.start (pool held) }
+    requires spare { HasSpare 2 held.recorded }
     requires shares { (pool held).view.shares + account.part.shares ≡ all_shares }
     ensures outcome { IsOutcome network.now M.start (timed_nodes (pool held).budget (H.limited halt.now)) result.0 }
     ensures history { IfSome result.1 (IsRecorded network.now (pool held).budget (certificate_of result.0.certificate)) }
+    ensures recorded { is_some result.1 ≡ is_some held.recorded }
     ensures told { result.2 ≡ account.least }
     ensures most { result.2 ≤ network.now.upper }
     ensures least { threshold (certificate_of result.0.certificate) ≤ result.2 }
@@ -245,7 +262,9 @@ fn work<M: Incumbent, X: Explorers, G: Gate, H: Halt>(
     requires own { network.now ≡ M.network }
     requires explorers { X.network explorers.now ≡ M.network }
     requires search { IsSearch M.start (pool held.old) }
+    requires spare { HasSpare 2 held.old.recorded }
     ensures goes { GoesOn M.start (pool held.old) (pool held.new) }
+    ensures ready { StaysReady held.old held.new }
     ensures shares { account.new.part.shares ≡ account.old.part.shares }
     ensures falls { account.new.least ≤ account.old.least }
 {
@@ -279,7 +298,9 @@ fn dive_all<M: Incumbent, E: Explore, G: Gate, H: Halt>(
     requires own { network.now ≡ M.network }
     requires explorer { E.made_of explorer.old ≡ M.network }
     requires search { IsSearch M.start (pool held.old) }
+    requires spare { HasSpare 2 held.old.recorded }
     ensures goes { GoesOn M.start (pool held.old) (pool held.new) }
+    ensures ready { StaysReady held.old held.new }
     ensures shares { account.new.part.shares ≡ account.old.part.shares }
     ensures falls { account.new.least ≤ account.old.least }
 {
@@ -308,8 +329,10 @@ fn dive<M: Incumbent, E: Explore, G: Gate, H: Halt>(
     requires own { network.now ≡ M.network }
     requires explorer { E.made_of explorer.old ≡ M.network }
     requires search { IsSearch M.start (pool held.old) }
+    requires spare { HasSpare 2 held.old.recorded }
     requires limit { IsLimit limit }
     ensures goes { GoesOn M.start (pool held.old) (pool held.new) }
+    ensures ready { StaysReady held.old held.new }
     ensures shares { account.new.part.shares ≡ account.old.part.shares }
     ensures falls { account.new.least ≤ account.old.least }
     ensures explorer { E.made_of explorer.new ≡ E.made_of explorer.old }

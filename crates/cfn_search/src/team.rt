@@ -1,16 +1,17 @@
 //! Several workers, each in a thread of its own.
 
-ghost use Rattle.std.specs.Prelude.{◌≡◌, ◌+◌, ◌<◌, ◌≤◌, [], ◌∷◌, ◌++◌, All, map, reverse, length, vec_capacity, None, IfOk, IfSome, IsFalse, OnOk};
+ghost use Rattle.std.specs.Prelude.{◌≡◌, ◌+◌, ◌<◌, ◌≤◌, [], ◌∷◌, ◌++◌, All, map, reverse, length, vec_capacity, is_some, None, IfOk, IfSome, OnOk};
 ghost use Rattle.cfn_model.specs.declared.limits.TheConstants.{GREATEST};
 ghost use Rattle.cfn_model.specs.Certificate.{threshold};
 ghost use Rattle.cfn_proof.specs.Certificates.{certificate_of};
 ghost use Rattle.cfn_outcome.specs.Outcome.{IsOutcome, fresh, timed_nodes};
 ghost use Rattle.cfn_machine.specs.Word.{all_shares};
+ghost use Rattle.cfn_pool.specs.Recorded.{HasSpare};
 ghost use Rattle.cfn_pool.specs.Views.{pool};
 ghost use Rattle.cfn_rota.specs.Values.{AreAll, access};
 ghost use Rattle.cfn_worker.specs.Accounts.{least_of, reach};
 ghost use Rattle.cfn_worker.specs.Boards.{IsBoard};
-ghost use Rattle.cfn_worker.specs.Searching.{IsSearch};
+ghost use Rattle.cfn_worker.specs.Searching.{IsSearch, StaysReady};
 ghost use Rattle.cfn_search.specs.Beginning.{MayBegin, start_of};
 ghost use Rattle.cfn_search.specs.Recording.{IsRecorded};
 
@@ -40,7 +41,7 @@ pub struct Teamwork {
     pub outcome: Outcome,
     /// Of each worker the least threshold at which it made a piece; where it made none, what it had seen at first.
     pub thresholds: Vec<Threshold>,
-    /// What was done to the pool, where it was asked for and memory was there for it.
+    /// What was done to the pool, where that was asked for.
     pub history: Option<History>,
 }
 
@@ -80,8 +81,8 @@ pub fn solve_together<
 }
 
 /// Goes on so from the tree and the assignment of an earlier search. The nodes are those that it makes itself. What is done to the pool is
-/// recorded where the beginning asks for it; where memory for the record is refused, or a number in it has no spelling, the record is
-/// lost, and the search goes on.
+/// recorded exactly where the beginning asks for it; a leaf that can't be recorded is not taken, and a piece that can't be is not placed,
+/// as where memory is refused for these.
 pub fn solve_from<X: Explorers + Sync, R: Threads + Wait + Sync, G: Gate + Sync, H: Halt + Sync>(
     rt: &R,
     alloc: Global,
@@ -98,36 +99,7 @@ pub fn solve_from<X: Explorers + Sync, R: Threads + Wait + Sync, G: Gate + Sync,
     requires budget { budget ≤ GREATEST }
     ensures outcome { IfOk result (λ found. IsOutcome network.now (start_of network.now begin) (timed_nodes budget (H.limited halt.now)) found.outcome) }
     ensures history { IfOk result (λ found. IfSome found.history (IsRecorded network.now budget (certificate_of found.outcome.certificate))) }
-    ensures unasked { IfOk result (λ found. IsFalse begin.recorded → found.history ≡ None) }
-    ensures count { IfOk result (λ found. length found.thresholds.items ≡ workers) }
-    ensures most { IfOk result (λ found. All (λ k. k ≤ network.now.upper) found.thresholds.items) }
-    ensures least { IfOk result (λ found. All (λ k. threshold (certificate_of found.outcome.certificate) ≤ k) found.thresholds.items) }
-{
-    let recorded = begin.recorded;
-    let mut found = go_on(rt, alloc, network, begin, workers, budget, gate, halt)?;
-    if !recorded {
-        found.history = None;
-    }
-    Ok(found)
-}
-
-/// The same, where it is not told which searches have no record.
-fn go_on<X: Explorers + Sync, R: Threads + Wait + Sync, G: Gate + Sync, H: Halt + Sync>(
-    rt: &R,
-    alloc: Global,
-    network: &Problem<'_, X>,
-    begin: Begin,
-    workers: u32,
-    budget: u64,
-    gate: &G,
-    halt: &H,
-) -> Result<Teamwork, AllocError>
-    requires may { MayBegin network.now begin }
-    requires some { 1 ≤ workers }
-    requires few { workers ≤ 64 }
-    requires budget { budget ≤ GREATEST }
-    ensures outcome { IfOk result (λ found. IsOutcome network.now (start_of network.now begin) (timed_nodes budget (H.limited halt.now)) found.outcome) }
-    ensures history { IfOk result (λ found. IfSome found.history (IsRecorded network.now budget (certificate_of found.outcome.certificate))) }
+    ensures recorded { IfOk result (λ found. is_some found.history ≡ begin.recorded) }
     ensures count { IfOk result (λ found. length found.thresholds.items ≡ workers) }
     ensures most { IfOk result (λ found. All (λ k. k ≤ network.now.upper) found.thresholds.items) }
     ensures least { IfOk result (λ found. All (λ k. threshold (certificate_of found.outcome.certificate) ≤ k) found.thresholds.items) }
@@ -155,6 +127,7 @@ fn solve_single<X: Explorers, G: Gate, H: Halt>(
     requires budget { budget ≤ GREATEST }
     ensures outcome { IfOk result (λ found. IsOutcome network.now (start_of network.now begin) (timed_nodes budget (H.limited halt.now)) found.outcome) }
     ensures history { IfOk result (λ found. IfSome found.history (IsRecorded network.now budget (certificate_of found.outcome.certificate))) }
+    ensures recorded { IfOk result (λ found. is_some found.history ≡ begin.recorded) }
     ensures count { IfOk result (λ found. length found.thresholds.items ≡ 1) }
     ensures most { IfOk result (λ found. All (λ k. k ≤ network.now.upper) found.thresholds.items) }
     ensures least { IfOk result (λ found. All (λ k. threshold (certificate_of found.outcome.certificate) ≤ k) found.thresholds.items) }
@@ -196,11 +169,13 @@ fn search<
     requires explorers { X.network explorers.now ≡ unnamed.network }
     requires budget { M.budget ≡ budget }
     requires crew { M.workers ≡ workers }
+    requires recorded { M.recorded ≡ begin.recorded }
     requires some { 1 ≤ workers }
     requires few { workers ≤ 64 }
     requires most { budget ≤ GREATEST }
     ensures outcome { IfOk result (λ found. IsOutcome network.now (start_of network.now begin) (timed_nodes budget (H.limited halt.now)) found.outcome) }
     ensures history { IfOk result (λ found. IfSome found.history (IsRecorded network.now budget (certificate_of found.outcome.certificate))) }
+    ensures recorded { IfOk result (λ found. is_some found.history ≡ begin.recorded) }
     ensures count { IfOk result (λ found. length found.thresholds.items ≡ workers) }
     ensures most { IfOk result (λ found. All (λ k. k ≤ network.now.upper) found.thresholds.items) }
     ensures least { IfOk result (λ found. All (λ k. threshold (certificate_of found.outcome.certificate) ≤ k) found.thresholds.items) }
@@ -245,8 +220,8 @@ fn run<
 ) -> (Pool<M>, Vec<Worker<M>>)
     requires own { network.now ≡ M.network }
     requires explorers { X.network explorers.now ≡ M.network }
-    requires board { IsBoard M.start M.budget M.workers held }
-    ensures board { IsBoard M.start M.budget M.workers result.0 }
+    requires board { IsBoard M.start M.budget M.workers M.recorded held }
+    ensures board { IsBoard M.start M.budget M.workers M.recorded result.0 }
     ensures count { length result.1.items ≡ length crew.items }
     ensures same { map reach result.1.items ≡ map reach crew.items }
 {
@@ -268,12 +243,14 @@ fn end_all<M: Incumbent, H: Halt>(
     requires own { network.now ≡ M.network }
     requires others { others ≡ length M.start.aside }
     requires search { IsSearch M.start (pool held) }
+    requires spare { HasSpare 2 held.recorded }
     requires shares { (pool held).view.shares + length crew.items ≡ all_shares }
     requires all { AreAll (map reach crew.items) }
     requires none { thresholds.items ≡ [] }
     requires room { length crew.items ≤ vec_capacity thresholds }
     ensures outcome { IsOutcome network.now M.start (timed_nodes (pool held).budget (H.limited halt.now)) result.outcome }
     ensures history { IfSome result.history (IsRecorded network.now (pool held).budget (certificate_of result.outcome.certificate)) }
+    ensures recorded { is_some result.history ≡ is_some held.recorded }
     ensures count { length result.thresholds.items ≡ length crew.items }
     ensures most { All (λ k. k ≤ network.now.upper) result.thresholds.items }
     ensures least { All (λ k. threshold (certificate_of result.outcome.certificate) ≤ k) result.thresholds.items }
@@ -434,11 +411,13 @@ fn end_workers<M: Incumbent>(
     mut thresholds: Vec<Threshold>,
 ) -> Vec<Threshold>
     requires search { IsSearch M.start (pool held.old) }
+    requires spare { HasSpare 2 held.old.recorded }
     requires shares { (pool held.old).view.shares + length crew.items ≡ all_shares }
     requires all { AreAll (map reach crew.items) }
     requires none { thresholds.items ≡ [] }
     requires room { length crew.items ≤ vec_capacity thresholds }
     ensures search { IsSearch M.start (pool held.new) }
+    ensures ready { StaysReady held.old held.new }
     ensures budget { (pool held.new).budget ≡ (pool held.old).budget }
     ensures shares { (pool held.new).view.shares ≡ all_shares }
     ensures told { result.items ≡ reverse (map least_of crew.items) }
@@ -462,9 +441,11 @@ fn end<M: Incumbent>(
     others: &mut [Worker<M>],
 ) -> Threshold
     requires search { IsSearch M.start (pool held.old) }
+    requires spare { HasSpare 2 held.old.recorded }
     requires share { (pool held.old).view.shares + 1 ≤ all_shares }
     requires all { AreAll (map reach others.old ++ reach worker ∷ []) }
     ensures search { IsSearch M.start (pool held.new) }
+    ensures ready { StaysReady held.old held.new }
     ensures budget { (pool held.new).budget ≡ (pool held.old).budget }
     ensures share { (pool held.new).view.shares ≡ (pool held.old).view.shares + 1 }
     ensures others { AreAll (map reach others.new) }

@@ -1,6 +1,6 @@
 //! The search of a network, by divers whose splits are named by weighted degree.
 
-ghost use Rattle.std.specs.Prelude.{◌≡◌, ◌≤◌, All, length, None, IfOk, IfSome, IsFalse};
+ghost use Rattle.std.specs.Prelude.{◌≡◌, ◌≤◌, All, length, is_some, None, IfOk, IfSome};
 ghost use Rattle.cfn_model.specs.Certificate.{threshold};
 ghost use Rattle.cfn_model.specs.declared.limits.TheConstants.{GREATEST};
 ghost use Rattle.cfn_proof.specs.Certificates.{certificate_of};
@@ -62,8 +62,8 @@ pub fn solve_together<R: Threads + Wait + Sync, G: Gate + Sync, H: Halt + Sync>(
 }
 
 /// Goes on so from the tree and the assignment of an earlier search. The nodes are those that it makes itself. What is done to the pool is
-/// recorded where the beginning asks for it; where memory for the record is refused, or a number in it has no spelling, the record is
-/// lost, and the search goes on.
+/// recorded exactly where the beginning asks for it; a leaf that can't be recorded is not taken, and a piece that can't be is not placed,
+/// as where memory is refused for these.
 pub fn solve_from<R: Threads + Wait + Sync, G: Gate + Sync, H: Halt + Sync>(
     rt: &R,
     alloc: Global,
@@ -80,7 +80,7 @@ pub fn solve_from<R: Threads + Wait + Sync, G: Gate + Sync, H: Halt + Sync>(
     requires budget { budget ≤ GREATEST }
     ensures outcome { IfOk result (λ found. IsOutcome network.now (start_of network.now begin) (timed_nodes budget (H.limited halt.now)) found.outcome) }
     ensures history { IfOk result (λ found. IfSome found.history (IsRecorded network.now budget (certificate_of found.outcome.certificate))) }
-    ensures unasked { IfOk result (λ found. IsFalse begin.recorded → found.history ≡ None) }
+    ensures recorded { IfOk result (λ found. is_some found.history ≡ begin.recorded) }
     ensures count { IfOk result (λ found. length found.thresholds.items ≡ workers) }
     ensures most { IfOk result (λ found. All (λ k. k ≤ network.now.upper) found.thresholds.items) }
     ensures least { IfOk result (λ found. All (λ k. threshold (certificate_of found.outcome.certificate) ≤ k) found.thresholds.items) }

@@ -13,7 +13,11 @@ use Rattle.cfn_machine.specs.Pool.{IsPiece}
 use Rattle.cfn_pool.specs.Answers as answers
 use Rattle.cfn_pool.specs.Answers.{IsGiven}
 use Rattle.cfn_pool.specs.Views.{Held, pool}
-use Rattle.cfn_worker.specs.Searching.{IsSearch, GoesOn, IsReturned}
+use Rattle.cfn_worker.specs.Searching.{IsSearch, GoesOn, IsReturned, StaysReady}
+
+-- a record that is kept stays kept
+pub stays : (one two three : Held) → StaysReady one two → StaysReady two three → StaysReady one three
+stays one two three first second = record { kept = second.kept ∙ first.kept; spare = second.spare }
 
 -- a pool that goes on as it is
 pub goes_same : (start : Start) (old new : Pool) → IsSearch start old → new ≡ old → GoesOn start old new

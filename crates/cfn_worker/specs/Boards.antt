@@ -1,10 +1,11 @@
 -- The pool of a search under the lock, while workers have parts of the word.
-use Rattle.std.specs.Prelude.{◌≡◌, true, false, IsTrue, IsFalse, ℕ, ◌+◌, ◌<◌, ◌≤◌, ◌⊎◌, Bool, List, [], ◌∷◌, ◌++◌, length}
+use Rattle.std.specs.Prelude.{◌≡◌, true, false, IsTrue, IsFalse, ℕ, ◌+◌, ◌<◌, ◌≤◌, ◌⊎◌, Bool, List, [], ◌∷◌, ◌++◌, length, is_some}
 use Rattle.cfn_model.specs.Network.{Network}
 use Rattle.cfn_outcome.specs.Outcome.{Start}
 use Rattle.cfn_machine.specs.Pool.{Pool}
 use Rattle.cfn_machine.specs.Steps.{PoolTakes, HasNone, NoneOpen, AllSpent, AllOut}
 use Rattle.cfn_machine.specs.Word.{all_shares}
+use Rattle.cfn_pool.specs.Recorded.{HasSpare}
 use Rattle.cfn_pool.specs.Views.{Held, pool}
 use Rattle.cfn_rota.specs.Values.{EndsValue}
 use Rattle.cfn_task.specs.Values.{TaskValue, PieceValue}
@@ -20,11 +21,14 @@ pub record BoardValue : Type 0 where
   pub changes : ℕ
   pub stopped : Bool
 
--- It is a search's, with this budget, and has all shares of the word but those of the workers.
-pub record IsBoard (start : Start) (budget crew : ℕ) (held : Held) : Type 0 where
+-- It is a search's, with this budget, and has all shares of the word but those of the workers. A record is kept where one was begun,
+-- and has room for what may be recorded.
+pub record IsBoard (start : Start) (budget crew : ℕ) (recorded : Bool) (held : Held) : Type 0 where
   pub search : IsSearch start (pool held)
   pub budget_is : (pool held).budget ≡ budget
   pub shares : (pool held).view.shares + crew ≡ all_shares
+  pub kept : is_some held.recorded ≡ recorded
+  pub spare : HasSpare 2 held.recorded
 
 -- A task that is offered is of the network.
 abbrev pub IsOffered : Network → Offer → Type 0

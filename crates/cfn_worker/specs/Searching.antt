@@ -1,5 +1,5 @@
 -- What holds of the pool of a search.
-use Rattle.std.specs.Prelude.{◌≡◌, ℕ, ◌<◌, ◌≤◌, ◌⊎◌, Bool, List, ◌∷◌, Contains}
+use Rattle.std.specs.Prelude.{◌≡◌, ℕ, ◌<◌, ◌≤◌, ◌⊎◌, Bool, List, ◌∷◌, Contains, is_some}
 use Rattle.cfn_model.specs.declared.report.Row.{Row}
 use Rattle.cfn_model.specs.declared.step.Event.{Event}
 use Rattle.cfn_model.specs.Network.{Network}
@@ -10,6 +10,7 @@ use Rattle.cfn_explore.specs.Exploring.{Keeping, IsPieceOf}
 use Rattle.cfn_machine.specs.Parts.{IsAside}
 use Rattle.cfn_machine.specs.Pool.{Pool, Task}
 use Rattle.cfn_machine.specs.Steps.{PoolTakes, PoolReturns, IsOut, IsNotOut, HasNone, NoneOpen, AllSpent, AllOut}
+use Rattle.cfn_pool.specs.Recorded.{HasSpare}
 use Rattle.cfn_pool.specs.Views.{Held, pool}
 use Rattle.cfn_worker.specs.declared.steps.Asked.{Asked}
 use Rattle.cfn_worker.specs.declared.steps.Asked.TheVariants as asked
@@ -34,6 +35,11 @@ pub record GoesOn (start : Start) (old new : Pool) : Type 0 where
 pub record HasMore (old new : Pool) : Type 0 where
   pub more : old.nodes < new.nodes
   pub within : new.nodes ≤ new.budget
+
+-- A record is kept of a pool where one was kept of it before, and has room for two more entries besides two for each leaf that is out.
+pub record StaysReady (old new : Held) : Type 0 where
+  pub kept : is_some new.recorded ≡ is_some old.recorded
+  pub spare : HasSpare 2 new.recorded
 
 -- A worker that asks for a leaf gets a task of the network, or there is none for one reason; where there is no memory for the
 -- leaf's path nothing changes.

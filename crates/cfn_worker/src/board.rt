@@ -1,6 +1,7 @@
 //! What lies under the lock: the pool, a count of its changes, and whether the search has to stop.
 
 ghost use Rattle.std.specs.Prelude.{◌≡◌, ◌+◌, ◌≤◌, ◌^◌, ◌%◌, ◌==◌, true, false, None, is_some, length, IfSome, IsTrue, IsFalse};
+ghost use Rattle.cfn_model.specs.declared.limits.TheConstants.{GREATEST};
 ghost use Rattle.cfn_gate.specs.Telling.{AreBounds};
 ghost use Rattle.cfn_pool.specs.Views.{pool};
 ghost use Rattle.cfn_rota.specs.Values.{access};
@@ -19,21 +20,28 @@ use cfn_net::Network;
 use cfn_pool::Pool;
 use std::marker::{Brand, Model};
 
-/// Which search it is: how many nodes may be made, and how many shares of the word its workers have. No value of it is made.
+/// Which search it is: how many nodes may be made, how many shares of the word its workers have, and whether it is recorded. No value of
+/// it is made.
 pub trait Crew {
-    ghost use Rattle.std.specs.Prelude.{ℕ};
+    ghost use Rattle.std.specs.Prelude.{ℕ, Bool};
 
     ghost budget: { ℕ };
 
     ghost workers: { ℕ };
+
+    ghost recorded: { Bool };
 }
 
 /// The name that one call picks for a search: at such a call the members are those that the caller says, and these are never
 /// read.
 impl Crew for Brand {
+    ghost use Rattle.std.specs.Prelude.{false};
+
     ghost budget = { 0 };
 
     ghost workers = { 0 };
+
+    ghost recorded = { false };
 }
 
 /// How many tasks a worker takes for its lane beside the one that it begins with.
@@ -56,7 +64,7 @@ impl<M: Incumbent + Crew> Model for Board<M> {
 
     ghost view = { λ b. record { held = b.held; changes = b.changes; stopped = b.stopped } };
 
-    ghost invariant = { λ b. IsBoard M.start M.budget M.workers b.held };
+    ghost invariant = { λ b. IsBoard M.start M.budget M.workers M.recorded b.held };
 }
 
 /// The answer to a worker that asks for a leaf.
@@ -88,7 +96,7 @@ pub(crate) struct Given {
 impl<M: Incumbent + Crew> Board<M> {
     /// A pool at the beginning of a search.
     pub fn new(held: Pool<M>) -> Board<M>
-        requires { IsBoard M.start M.budget M.workers held }
+        requires { IsBoard M.start M.budget M.workers M.recorded held }
         ensures { result ≡ record { held = held; changes = 0; stopped = false } }
     {
         Board {
@@ -101,7 +109,7 @@ impl<M: Incumbent + Crew> Board<M> {
     /// The pool again.
     pub fn into_pool(self) -> Pool<M>
         ensures same { result ≡ self.held }
-        ensures board { IsBoard M.start M.budget M.workers result }
+        ensures board { IsBoard M.start M.budget M.workers M.recorded result }
     {
         let Board { held, .. } = self;
         held
@@ -159,6 +167,7 @@ impl<M: Incumbent + Crew> Board<M> {
     fn fill(&mut self, network: &Network, worker: u32, want: u64, lanes: &mut Lanes<M>) -> bool
         requires own { network.now ≡ M.network }
         requires wants { 1 ≤ want }
+        requires most { want ≤ GREATEST }
         ensures lays { Lays M.network worker want 3 (pool self.old.held) lanes.old result (pool self.new.held) lanes.new }
         ensures stopped { self.new.stopped ≡ self.old.stopped }
     {
@@ -179,6 +188,7 @@ impl<M: Incumbent + Crew> Board<M> {
     fn lay(&mut self, network: &Network, worker: u32, want: u64, lanes: &mut Lanes<M>) -> bool
         requires own { network.now ≡ M.network }
         requires wants { 1 ≤ want }
+        requires most { want ≤ GREATEST }
         ensures lays { IsTrue result → IsLaid M.network worker want (pool self.old.held) lanes.old (pool self.new.held) lanes.new }
         ensures none { IsFalse result → (pool self.new.held ≡ pool self.old.held) × (lanes.new ≡ lanes.old) }
         ensures stopped { self.new.stopped ≡ self.old.stopped }

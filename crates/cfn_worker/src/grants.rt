@@ -1,6 +1,7 @@
 //! How many nodes and backtracks a dive may make.
 
 ghost use Rattle.std.specs.Prelude.{◌≡◌, ◌≤◌};
+ghost use Rattle.cfn_model.specs.declared.limits.TheConstants.{GREATEST};
 ghost use Rattle.cfn_worker.specs.Granting.{IsLimit, limit_after as next_limit, wanted as wish};
 
 /// How many backtracks a dive may make at first and at least.
@@ -29,6 +30,7 @@ pub fn wanted(is_root: bool, known: bool, limit: u64, variables: u32) -> u64
     requires { IsLimit limit }
     ensures is { result ≡ wish is_root known limit variables }
     ensures some { 1 ≤ result }
+    ensures most { result ≤ GREATEST }
 {
     if is_root {
         1

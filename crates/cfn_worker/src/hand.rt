@@ -7,9 +7,10 @@
 ghost use Rattle.std.specs.Prelude.{◌≡◌, [], ◌∷◌, ◌++◌, ◌<◌, ◌≤◌, min, length, IfOk, IfErr, OnOk};
 ghost use Rattle.cfn_explore.specs.Falling.{HasFallen};
 ghost use Rattle.cfn_pool.specs.Answers.{IsGiven};
+ghost use Rattle.cfn_pool.specs.Recorded.{HasSpare};
 ghost use Rattle.cfn_pool.specs.Views.{pool};
 ghost use Rattle.cfn_task.specs.Values.{IsTaskOf};
-ghost use Rattle.cfn_worker.specs.Searching.{IsSearch, GoesOn, IsMadeOf, IsReturned, IsUnplaced};
+ghost use Rattle.cfn_worker.specs.Searching.{IsSearch, GoesOn, IsMadeOf, IsReturned, IsUnplaced, StaysReady};
 
 use crate::account::Account;
 use crate::lanes::Lanes;
@@ -88,6 +89,8 @@ impl InHand {
     /// Gives it back to the pool: its leaf is free again, if it was out to the task's worker. It takes no memory.
     pub fn back<M: Incumbent>(self, held: &mut Pool<M>)
         requires search { IsSearch M.start (pool held.old) }
+        requires spare { HasSpare 2 held.old.recorded }
+        ensures ready { StaysReady held.old held.new }
         ensures back { IsReturned held.old self.task held.new }
         ensures goes { GoesOn M.start (pool held.old) (pool held.new) }
     {
@@ -103,7 +106,7 @@ impl InHand {
 pub enum Unplaced {
     /// Its leaf was not out any more, and the piece was let go.
     Late,
-    /// There was no memory for it, and its leaf is free again.
+    /// There was no memory for it, or for its record, and its leaf is free again.
     Memory,
 }
 
@@ -135,7 +138,10 @@ impl Made {
         requires own { self.network ≡ M.network }
         requires least { account.old.least ≤ self.threshold }
         requires search { IsSearch M.start (pool held.old) }
+        requires spare { HasSpare 2 held.old.recorded }
         ensures goes { GoesOn M.start (pool held.old) (pool held.new) }
+        ensures ready { StaysReady held.old held.new }
+        ensures spare { OnOk result (HasSpare 3 held.new.recorded) }
         ensures gives { OnOk result (IsGiven M.network (pool held.old) self account.old.part.seen (pool held.new)) }
         ensures more { OnOk result ((pool held.old).nodes < (pool held.new).nodes) }
         ensures seen { OnOk result ((pool held.new).view.seen ≤ self.threshold) }

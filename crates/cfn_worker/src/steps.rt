@@ -1,11 +1,13 @@
 //! Leaves are taken from the pool, pieces are handed in, bounds are noted and told, and what need not be searched is closed.
 
 ghost use Rattle.std.specs.Prelude.{◌≡◌, ◌≤◌, IfSome, IfOk, IfErr, OnOk};
+ghost use Rattle.cfn_model.specs.declared.limits.TheConstants.{GREATEST};
 ghost use Rattle.cfn_gate.specs.Telling.{AreBounds};
 ghost use Rattle.cfn_pool.specs.Answers.{NotesOrWaits, Sweeps};
+ghost use Rattle.cfn_pool.specs.Recorded.{HasSpare};
 ghost use Rattle.cfn_pool.specs.Telling.{IsNews};
 ghost use Rattle.cfn_pool.specs.Views.{pool};
-ghost use Rattle.cfn_worker.specs.Searching.{IsSearch, GoesOn, HasMore, Asks, HandsIn, IsUnplaced, SweepsBelow};
+ghost use Rattle.cfn_worker.specs.Searching.{IsSearch, GoesOn, HasMore, Asks, HandsIn, IsUnplaced, StaysReady, SweepsBelow};
 ghost use Rattle.cfn_worker.specs.Granting.{IsLimit};
 
 use crate::account::Account;
@@ -26,7 +28,7 @@ pub enum Asked {
     Done,
     /// None any more: the budget is spent.
     Spent,
-    /// There is no memory for a leaf's path.
+    /// There is no memory for a leaf's path, or for the record.
     Memory,
 }
 
@@ -34,8 +36,11 @@ pub enum Asked {
 pub fn take<M: Incumbent>(network: &Network, held: &mut Pool<M>, worker: u32, want: u64) -> Asked
     requires own { network.now ≡ M.network }
     requires wants { 1 ≤ want }
+    requires most { want ≤ GREATEST }
     requires search { IsSearch M.start (pool held.old) }
+    requires spare { HasSpare 2 held.old.recorded }
     ensures goes { GoesOn M.start (pool held.old) (pool held.new) }
+    ensures ready { StaysReady held.old held.new }
     ensures nodes { (pool held.new).nodes ≡ (pool held.old).nodes }
     ensures asks { Asks M.network held.old worker want result held.new }
 {
@@ -66,8 +71,10 @@ pub fn hand_in<M: Incumbent>(
     requires own { made.network ≡ M.network }
     requires least { account.old.least ≤ made.threshold }
     requires search { IsSearch M.start (pool held.old) }
+    requires spare { HasSpare 2 held.old.recorded }
     requires limit { IsLimit limit }
     ensures goes { GoesOn M.start (pool held.old) (pool held.new) }
+    ensures ready { StaysReady held.old held.new }
     ensures account { account.new ≡ account.old }
     ensures next { IfOk result IsLimit }
     ensures steps { OnOk result (HandsIn M.network (pool held.old) made account.old.part.seen (pool held.new)) }
@@ -93,6 +100,7 @@ fn note<M: Incumbent>(network: &Network, held: &mut Pool<M>)
     requires own { network.now ≡ M.network }
     requires search { IsSearch M.start (pool held.old) }
     ensures notes { NotesOrWaits M.network (pool held.old) (pool held.new) }
+    ensures recorded { held.new.recorded ≡ held.old.recorded }
     ensures goes { GoesOn M.start (pool held.old) (pool held.new) }
     ensures nodes { (pool held.new).nodes ≡ (pool held.old).nodes }
 {
@@ -102,6 +110,8 @@ fn note<M: Incumbent>(network: &Network, held: &mut Pool<M>)
 /// Closes what need not be searched, where the pool has seen less than `before`.
 fn sweep_below<M: Incumbent>(low: &Low<M>, held: &mut Pool<M>, before: u64)
     requires search { IsSearch M.start (pool held.old) }
+    requires spare { HasSpare 3 held.old.recorded }
+    ensures ready { StaysReady held.old held.new }
     ensures sweeps { SweepsBelow M.network before (pool held.old) (pool held.new) }
     ensures goes { GoesOn M.start (pool held.old) (pool held.new) }
     ensures nodes { (pool held.new).nodes ≡ (pool held.old).nodes }
@@ -112,9 +122,11 @@ fn sweep_below<M: Incumbent>(low: &Low<M>, held: &mut Pool<M>, before: u64)
     }
 }
 
-/// Closes what need not be searched.
+/// Closes what need not be searched. Where a record is kept, there has to be room for one entry more than afterwards.
 pub fn sweep<M: Incumbent>(low: &Low<M>, held: &mut Pool<M>)
     requires search { IsSearch M.start (pool held.old) }
+    requires spare { HasSpare 3 held.old.recorded }
+    ensures ready { StaysReady held.old held.new }
     ensures sweeps { Sweeps M.network (pool held.old) (pool held.new) }
     ensures goes { GoesOn M.start (pool held.old) (pool held.new) }
     ensures nodes { (pool held.new).nodes ≡ (pool held.old).nodes }

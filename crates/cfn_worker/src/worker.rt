@@ -5,11 +5,12 @@ ghost use Rattle.std.specs.Prelude.{◌≡◌, ◌≤◌, [], ◌∷◌, ◌++�
 ghost use Rattle.cfn_rota.specs.Balances.{AreWhole, AreWithin};
 ghost use Rattle.cfn_rota.specs.Values.{AreAll, EndsWith, Meets, lanes_of};
 ghost use Rattle.cfn_gate.specs.Telling.{AreBounds};
+ghost use Rattle.cfn_pool.specs.Recorded.{HasSpare};
 ghost use Rattle.cfn_pool.specs.Views.{pool};
 ghost use Rattle.cfn_task.specs.Values.{IsTaskOf};
 ghost use Rattle.cfn_worker.specs.Accounts.{least_of, reach};
 ghost use Rattle.cfn_worker.specs.Boards.{IsOffered};
-ghost use Rattle.cfn_worker.specs.Searching.{IsSearch, GoesOn};
+ghost use Rattle.cfn_worker.specs.Searching.{IsSearch, GoesOn, StaysReady};
 
 use crate::account::{Account, Threshold};
 use crate::board::{Board, Crew, Given, Offer};
@@ -110,8 +111,10 @@ impl<M: Incumbent> Worker<M> {
     /// Gives back all that is left in its whole lane.
     pub fn give_left(&mut self, held: &mut Pool<M>)
         requires search { IsSearch M.start (pool held.old) }
+        requires spare { HasSpare 2 held.old.recorded }
         requires whole { self.old.ends.lane.parts ≡ 128 }
         ensures goes { GoesOn M.start (pool held.old) (pool held.new) }
+        ensures ready { StaysReady held.old held.new }
         ensures whole { self.new.ends.lane.parts ≡ 128 }
         ensures empty { AreWhole self.new.ends.lane.pushed self.new.ends.lane.taken [] }
         ensures least { self.new.least ≡ self.old.least }

@@ -1,13 +1,14 @@
 //! What becomes of the tasks in a worker's lane: they are dived with, or given back to the pool once the worker ends.
 
-ghost use Rattle.std.specs.Prelude.{◌≡◌, [], ◌∷◌, None, IfOk, IfSome};
+ghost use Rattle.std.specs.Prelude.{◌≡◌, false, [], ◌∷◌, None, IfOk, IfSome};
+ghost use Rattle.cfn_pool.specs.Recorded.{HasSpare};
 ghost use Rattle.cfn_pool.specs.Views.{pool};
 ghost use Rattle.cfn_rota.specs.Values.{AreAll, access};
 ghost use Rattle.cfn_task.specs.Values.{IsTaskOf};
 ghost use Rattle.cfn_outcome.specs.Outcome.{fresh};
 ghost use Rattle.cfn_worker.specs.Accounts.{reach};
 ghost use Rattle.cfn_worker.specs.Boards.{IsBoard};
-ghost use Rattle.cfn_worker.specs.Searching.{IsSearch, GoesOn};
+ghost use Rattle.cfn_worker.specs.Searching.{IsSearch, GoesOn, StaysReady};
 
 use cfn_clock::Never;
 use cfn_dive::{Diver, Divers};
@@ -72,6 +73,7 @@ fn begin<M: Incumbent>(
     ensures search { IfOk result (λ held. IsSearch M.start (pool held)) }
     ensures budget { IfOk result (λ held. (pool held).budget ≡ 1000) }
     ensures shares { IfOk result (λ held. (pool held).view.shares ≡ holder.shares) }
+    ensures recorded { IfOk result (λ held. held.recorded ≡ None) }
 {
     match Pool::begin(alloc, network, holder, BUDGET) {
         Ok(held) => Ok(held),
@@ -94,7 +96,9 @@ fn own_ends<M: Incumbent>(alloc: Global) -> Result<Ends<Task, LaneTasks<M>>, All
 fn taken<M: Incumbent>(network: &Network, held: &mut Pool<M>, worker: u32) -> Option<Task>
     requires own { network.now ≡ M.network }
     requires search { IsSearch M.start (pool held.old) }
+    requires spare { HasSpare 2 held.old.recorded }
     ensures goes { GoesOn M.start (pool held.old) (pool held.new) }
+    ensures ready { StaysReady held.old held.new }
     ensures task { IfSome result (IsTaskOf M.network) }
 {
     held.kept();
@@ -107,7 +111,9 @@ fn taken<M: Incumbent>(network: &Network, held: &mut Pool<M>, worker: u32) -> Op
 /// Frees a task's leaf.
 fn free<M: Incumbent>(held: &mut Pool<M>, task: &Task)
     requires search { IsSearch M.start (pool held.old) }
+    requires spare { HasSpare 2 held.old.recorded }
     ensures goes { GoesOn M.start (pool held.old) (pool held.new) }
+    ensures ready { StaysReady held.old held.new }
 {
     held.kept();
     task.kept();
@@ -118,7 +124,9 @@ fn free<M: Incumbent>(held: &mut Pool<M>, task: &Task)
 fn is_free<M: Incumbent>(network: &Network, held: &mut Pool<M>) -> bool
     requires own { network.now ≡ M.network }
     requires search { IsSearch M.start (pool held.old) }
+    requires spare { HasSpare 2 held.old.recorded }
     ensures goes { GoesOn M.start (pool held.old) (pool held.new) }
+    ensures ready { StaysReady held.old held.new }
 {
     match take(network, held, WORKER, 1) {
         Asked::Task { task } => {
@@ -138,7 +146,9 @@ fn lays_two<M: Incumbent>(
 ) -> bool
     requires own { network.now ≡ M.network }
     requires search { IsSearch M.start (pool held.old) }
+    requires spare { HasSpare 2 held.old.recorded }
     ensures goes { GoesOn M.start (pool held.old) (pool held.new) }
+    ensures ready { StaysReady held.old held.new }
     ensures same { access own.new ≡ access own.old }
 {
     let Some(late) = taken(network, held, OTHER) else {
@@ -162,8 +172,8 @@ fn after_work<M: Incumbent + Crew, R: AllocGlobal + Wait>(
 ) -> Pool<M>
     requires network { network.now ≡ M.network }
     requires explorers { explorers.now.divers ≡ M.network }
-    requires board { IsBoard M.start M.budget M.workers held }
-    ensures board { IsBoard M.start M.budget M.workers result }
+    requires board { IsBoard M.start M.budget M.workers M.recorded held }
+    ensures board { IsBoard M.start M.budget M.workers M.recorded result }
     ensures same { reach worker.new ≡ reach worker.old }
 {
     let board = Mutex::new(Board::new(held));
@@ -184,8 +194,10 @@ fn after_work<M: Incumbent + Crew, R: AllocGlobal + Wait>(
 /// Lets a single worker go: what is left in its lane is given back.
 fn let_go<M: Incumbent>(alloc: Global, held: &mut Pool<M>, mut worker: Worker<M>)
     requires search { IsSearch M.start (pool held.old) }
+    requires spare { HasSpare 2 held.old.recorded }
     requires all { AreAll (reach worker ∷ []) }
     ensures goes { GoesOn M.start (pool held.old) (pool held.new) }
+    ensures ready { StaysReady held.old held.new }
 {
     let mut others = Vec::new(alloc);
     worker.gather(others.as_mut_slice());
@@ -205,7 +217,7 @@ fn free_after_work<M: Incumbent + Crew, R: AllocGlobal + Wait>(
 ) -> bool
     requires network { network.now ≡ M.network }
     requires explorers { explorers.now.divers ≡ M.network }
-    requires board { IsBoard M.start M.budget M.workers held }
+    requires board { IsBoard M.start M.budget M.workers M.recorded held }
     requires all { AreAll (reach worker ∷ []) }
 {
     let mut held = after_work(rt, network, explorers, low, held, &mut worker);
@@ -223,6 +235,7 @@ fn free_without_work<M: Incumbent>(
 ) -> bool
     requires own { network.now ≡ M.network }
     requires search { IsSearch M.start (pool held) }
+    requires spare { HasSpare 2 held.recorded }
     requires all { AreAll (reach worker ∷ []) }
 {
     let_go(alloc, &mut held, worker);
@@ -253,6 +266,7 @@ fn asked<M: Incumbent + Crew, R: AllocGlobal + Wait>(
     requires own { network.now ≡ unnamed.network }
     requires budget { M.budget ≡ 1000 }
     requires crew { M.workers ≡ 1 }
+    requires recorded { M.recorded ≡ false }
 {
     let tables = Tables::expand(rt.alloc(), network)?;
     let explorers = Making {

@@ -1,6 +1,5 @@
 -- What each status of `solve` with a record says, from how a run of it ends.
 use Rattle.std.proofs.Common.{◌≡◌, ◌⊎◌, inl, inr, ℕ, suc, ◌<◌, true, List, refl, sym, ap, ◌∙◌, subst, arith}
-use Rattle.std.specs.Prelude.{Option, IfSome}
 use Rattle.cfn_model.specs.declared.report.Row.{Row}
 use Rattle.cfn_model.specs.declared.report.ResultWord.{ResultWord}
 use Rattle.cfn_model.specs.declared.report.ResultWord.TheVariants as words
@@ -36,7 +35,7 @@ module _ (ask : RecordedRequest) (old new : Outside) where
   reported words.Budget done = inl done
   reported words.Time done = inr done
   reported words.Part done = absurd (let left = done.certified.promise.causes.left_to_others.0 refl in let some = left.0 in let few = left.1 in omega (arith, some, few))
-  reported words.Memory done = inr (inl done)
+  reported words.Memory done = inr done
 
   -- ---- a network that was searched
 
@@ -71,16 +70,9 @@ module _ (ask : RecordedRequest) (old new : Outside) where
       calls = calls ∙ ap (says (report ask.solve.workers c rows nodes word)) behind.calls;
     })) tt
 
-    says_both : (recorded : Option Record) → IfSome recorded (IsRecordOf P ask.solve.budget c) → OutputsBoth (spelling c) ask.recording recorded (report ask.solve.workers c rows nodes word) (status_of word) start new status → RecordedSays ask old new status
-    says_both recorded is (recording.unwritten middle not same ends) = by (RecordedSays ask old new) _ new.calls status ends (λ calls. tt) tt
-    says_both recorded is (recording.unrecorded middle none wrote same ends) = by (RecordedSays ask old new) _ new.calls status ends (λ calls. inr (inr (record {
-      word = word;
-      middle = middle;
-      certified = certified middle wrote;
-      same = same;
-      calls = calls;
-    }))) tt
-    says_both recorded is (recording.recorded middle r some wrote puts) = says_record middle r wrote (subst (λ o. IfSome o (IsRecordOf P ask.solve.budget c)) some is) puts
+    says_both : (r : Record) → IsRecordOf P ask.solve.budget c r → OutputsBoth (spelling c) ask.recording (records.spelling r) (report ask.solve.workers c rows nodes word) (status_of word) start new status → RecordedSays ask old new status
+    says_both r is (recording.unwritten middle not same ends) = by (RecordedSays ask old new) _ new.calls status ends (λ calls. tt) tt
+    says_both r is (recording.wrote middle wrote puts) = says_record middle r wrote is puts
 
   -- ---- all runs
 
@@ -93,7 +85,7 @@ module _ (ask : RecordedRequest) (old new : Outside) where
     says_records (recording.read bytes P has reads (recording.unbegun same ends)) = by (RecordedSays ask old new) _ new.calls status ends (λ calls. inl (_, (calls, same))) tt
     says_records (recording.read bytes P has reads (recording.unopened same ends)) = by (RecordedSays ask old new) _ new.calls status ends (λ calls. tt) tt
     says_records (recording.read bytes P has reads (recording.no_memory same ends)) = by (RecordedSays ask old new) _ new.calls status ends (λ calls. inl (_, (calls, same))) tt
-    says_records (recording.read bytes P has reads (recording.searched nodes c rows word recorded promise is out)) = says_both status bytes P has reads nodes c rows word promise recorded is out
+    says_records (recording.read bytes P has reads (recording.searched nodes c rows word r promise is out)) = says_both status bytes P has reads nodes c rows word promise r is out
 
     says_refused : (bytes : List ℕ) (refusal : FirstUnread) → Tells old ask.solve.file bytes → RefusesAs ask.solve.format bytes refusal → Records ask old new status → (status ≡ Refused) ⊎ IsHindered status
     says_refused bytes refusal told refuses (recording.unloaded same (loading.unread ends)) = by_due Refused _ new.calls status ends (inr (inl refl))
@@ -104,12 +96,11 @@ module _ (ask : RecordedRequest) (old new : Outside) where
         absurd (read_refused ask.solve.format other bytes P refusal (same_bytes old ask.solve.file other bytes told has) reads refuses)
 
     -- a file that reads as a network
-    both_reported : (certificate name report_text : List ℕ) (recorded : Option Record) (word : ResultWord) (before : Outside) → OutputsBoth certificate name recorded report_text (status_of word) before new status → IsReported status ⊎ IsHindered status
-    both_reported certificate name report_text recorded word before (recording.unwritten middle not same ends) = by_result ask.solve old new status _ ends (inr (inl refl))
-    both_reported certificate name report_text recorded word before (recording.unrecorded middle none wrote same ends) = by_result ask.solve old new status _ ends (inr (inr refl))
-    both_reported certificate name report_text recorded word before (recording.recorded middle r some wrote (recording.unopened same ends)) = by_result ask.solve old new status _ ends (inr (inl refl))
-    both_reported certificate name report_text recorded word before (recording.recorded middle r some wrote (recording.put_out (endings.unwritten last not same ends))) = by_result ask.solve old new status _ ends (inr (inl refl))
-    both_reported certificate name report_text recorded word before (recording.recorded middle r some wrote (recording.put_out (endings.wrote last behind same ends))) = by_result ask.solve old new status _ ends (word_reported ask.solve old new status word)
+    both_reported : (certificate name record_text report_text : List ℕ) (word : ResultWord) (before : Outside) → OutputsBoth certificate name record_text report_text (status_of word) before new status → IsReported status ⊎ IsHindered status
+    both_reported certificate name record_text report_text word before (recording.unwritten middle not same ends) = by_result ask.solve old new status _ ends (inr (inl refl))
+    both_reported certificate name record_text report_text word before (recording.wrote middle wrote (recording.unopened same ends)) = by_result ask.solve old new status _ ends (inr (inl refl))
+    both_reported certificate name record_text report_text word before (recording.wrote middle wrote (recording.put_out (endings.unwritten last not same ends))) = by_result ask.solve old new status _ ends (inr (inl refl))
+    both_reported certificate name record_text report_text word before (recording.wrote middle wrote (recording.put_out (endings.wrote last behind same ends))) = by_result ask.solve old new status _ ends (word_reported ask.solve old new status word)
 
     says_solved : (bytes : List ℕ) (P : Network) → Tells old ask.solve.file bytes → ReadsAs ask.solve.format bytes P → Records ask old new status → IsReported status ⊎ IsHindered status
     says_solved bytes P told reads (recording.unloaded same (loading.unread ends)) = by_result ask.solve old new status _ ends (inr (inl refl))
@@ -120,7 +111,7 @@ module _ (ask : RecordedRequest) (old new : Outside) where
     says_solved bytes P told reads (recording.read other Q has also (recording.unbegun same ends)) = by_result ask.solve old new status _ ends (inr (inr refl))
     says_solved bytes P told reads (recording.read other Q has also (recording.unopened same ends)) = by_result ask.solve old new status _ ends (inr (inl refl))
     says_solved bytes P told reads (recording.read other Q has also (recording.no_memory same ends)) = by_result ask.solve old new status _ ends (inr (inr refl))
-    says_solved bytes P told reads (recording.read other Q has also (recording.searched nodes c rows word recorded promise is out)) = both_reported _ _ _ recorded word _ out
+    says_solved bytes P told reads (recording.read other Q has also (recording.searched nodes c rows word r promise is out)) = both_reported _ _ _ _ word _ out
 
     -- memory was refused before the words were understood
     pub recorded_unheard : new.files ≡ old.files → Ends (unheard old) new.calls status → RecordedStatus ask old new status
@@ -138,16 +129,15 @@ module _ (ask : RecordedRequest) (old new : Outside) where
     }
 
     -- the count of failed calls
-    both_counts : (certificate name report_text : List ℕ) (recorded : Option Record) (word : ResultWord) (before : List Call) (from : Outside) → faults from.calls ≡ faults before → OutputsBoth certificate name recorded report_text (status_of word) from new status → Counts before new.calls status
-    both_counts certificate name report_text recorded word before from same (recording.unwritten middle not also ends) =
+    both_counts : (certificate name record_text report_text : List ℕ) (word : ResultWord) (before : List Call) (from : Outside) → faults from.calls ≡ faults before → OutputsBoth certificate name record_text report_text (status_of word) from new status → Counts before new.calls status
+    both_counts certificate name record_text report_text word before from same (recording.unwritten middle not also ends) =
         let more = not_written_counts from middle certificate not in
         counted before _ new.calls status ends (omega (arith, more, same))
-    both_counts certificate name report_text recorded word before from same (recording.unrecorded middle none wrote also ends) = counted before _ new.calls status ends (wrote_counts from middle certificate wrote ∙ same)
-    both_counts certificate name report_text recorded word before from same (recording.recorded middle r some wrote (recording.unopened also ends)) =
+    both_counts certificate name record_text report_text word before from same (recording.wrote middle wrote (recording.unopened also ends)) =
         let at = wrote_counts from middle certificate wrote ∙ same in
         counted before _ new.calls status ends (let more : faults before < suc (faults middle.calls) = omega (arith, at) in more)
-    both_counts certificate name report_text recorded word before from same (recording.recorded middle r some wrote (recording.put_out out)) =
-        output_counts _ new (records.spelling r) report_text (status_of word) status before (wrote_counts from middle certificate wrote ∙ same) (λ now. word_counts ask.solve old new status before now word) out
+    both_counts certificate name record_text report_text word before from same (recording.wrote middle wrote (recording.put_out out)) =
+        output_counts _ new record_text report_text (status_of word) status before (wrote_counts from middle certificate wrote ∙ same) (λ now. word_counts ask.solve old new status before now word) out
 
     pub recorded_counts : Records ask old new status → Counts old.calls new.calls status
     recorded_counts (recording.unloaded same (loading.unread ends)) = counted old.calls _ new.calls status ends (one_more old.calls)
@@ -157,14 +147,13 @@ module _ (ask : RecordedRequest) (old new : Outside) where
     recorded_counts (recording.read bytes P has reads (recording.unbegun same ends)) = counted old.calls _ new.calls status ends refl
     recorded_counts (recording.read bytes P has reads (recording.unopened same ends)) = counted old.calls _ new.calls status ends (one_more old.calls)
     recorded_counts (recording.read bytes P has reads (recording.no_memory same ends)) = counted old.calls _ new.calls status ends refl
-    recorded_counts (recording.read bytes P has reads (recording.searched nodes c rows word recorded promise is out)) = both_counts _ _ _ recorded word old.calls _ refl out
+    recorded_counts (recording.read bytes P has reads (recording.searched nodes c rows word r promise is out)) = both_counts _ _ _ _ word old.calls _ refl out
 
     -- no file is being written at the end
-    both_idle : (certificate name report_text : List ℕ) (recorded : Option Record) (due : Status) (from : Outside) → OutputsBoth certificate name recorded report_text due from new status → IsIdle new.calls
-    both_idle certificate name report_text recorded due from (recording.unwritten middle not also ends) = ends_idle _ new.calls status ends (not_written_idle from middle certificate not)
-    both_idle certificate name report_text recorded due from (recording.unrecorded middle none wrote also ends) = ends_idle _ new.calls status ends (ap written wrote.calls)
-    both_idle certificate name report_text recorded due from (recording.recorded middle r some wrote (recording.unopened also ends)) = ends_idle _ new.calls status ends refl
-    both_idle certificate name report_text recorded due from (recording.recorded middle r some wrote (recording.put_out out)) = output_idle _ new (records.spelling r) report_text due status out
+    both_idle : (certificate name record_text report_text : List ℕ) (due : Status) (from : Outside) → OutputsBoth certificate name record_text report_text due from new status → IsIdle new.calls
+    both_idle certificate name record_text report_text due from (recording.unwritten middle not also ends) = ends_idle _ new.calls status ends (not_written_idle from middle certificate not)
+    both_idle certificate name record_text report_text due from (recording.wrote middle wrote (recording.unopened also ends)) = ends_idle _ new.calls status ends refl
+    both_idle certificate name record_text report_text due from (recording.wrote middle wrote (recording.put_out out)) = output_idle _ new record_text report_text due status out
 
     pub recorded_idle : Records ask old new status → IsIdle old.calls → IsIdle new.calls
     recorded_idle (recording.unloaded same (loading.unread ends)) idle = ends_idle _ new.calls status ends idle
@@ -174,4 +163,4 @@ module _ (ask : RecordedRequest) (old new : Outside) where
     recorded_idle (recording.read bytes P has reads (recording.unbegun same ends)) idle = ends_idle _ new.calls status ends idle
     recorded_idle (recording.read bytes P has reads (recording.unopened same ends)) idle = ends_idle _ new.calls status ends refl
     recorded_idle (recording.read bytes P has reads (recording.no_memory same ends)) idle = ends_idle _ new.calls status ends refl
-    recorded_idle (recording.read bytes P has reads (recording.searched nodes c rows word recorded promise is out)) idle = both_idle _ _ _ recorded (status_of word) _ out
+    recorded_idle (recording.read bytes P has reads (recording.searched nodes c rows word r promise is out)) idle = both_idle _ _ _ _ (status_of word) _ out

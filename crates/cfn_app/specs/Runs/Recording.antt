@@ -1,5 +1,5 @@
 -- The command `solve` where it is recorded: how a run of it ends, and what each status of it says.
-use Rattle.std.specs.Prelude.{◌≡◌, ◌⊎◌, ℕ, ◌≤◌, true, false, List, ◌∷◌, Option, Some, None, IfSome}
+use Rattle.std.specs.Prelude.{◌≡◌, ◌⊎◌, ℕ, ◌≤◌, true, false, List, ◌∷◌}
 use Rattle.std.specs.List.{AllByRecursion}
 use Rattle.cfn_model.specs.declared.report.Row.{Row}
 use Rattle.cfn_model.specs.declared.report.ResultWord.{ResultWord}
@@ -7,12 +7,10 @@ use Rattle.cfn_model.specs.declared.report.ResultWord.TheVariants as words
 use Rattle.cfn_model.specs.Network.{Network}
 use Rattle.cfn_model.specs.Certificate.{Certificate, threshold}
 use Rattle.cfn_model.specs.Text.{spelling, report, write_fault_text, memory_fault_text}
-use Rattle.cfn_proof.specs.declared.certificate.Certificate as found
 use Rattle.cfn_machine.specs.Pool.{tree_of}
 use Rattle.cfn_record.specs.Entries.{Entry, Took, Gave, Freed, CalledBack, Swept}
 use Rattle.cfn_record.specs.Lines.{Record, Spells}
 use Rattle.cfn_record.specs.Replaying.{GoodRecord, certificate_of}
-use Rattle.cfn_history.specs.Histories.{HistoryValue}
 use Rattle.cfn_recordwrite.specs.Records as records
 use Rattle.cfn_desk.specs.Outside.{Outside, Load, Open, Close, Discard, Bytes, HasFile, Stored, after, puts, Writing, says}
 use Rattle.cfn_cli.specs.Request.Recording.{RecordedRequest}
@@ -45,11 +43,6 @@ pub record IsRecordOf (P : Network) (budget : ℕ) (c : Certificate) (r : Record
   pub comes : certificate_of P r.best (tree_of good.pool.tree) ≡ c
   pub above : AllByRecursion (IsAbove (threshold c)) r.entries
 
--- The record of a search that has this history, where memory was there for it, and this certificate.
-abbrev pub recording_of : Option HistoryValue → found.Certificate → Option Record
-recording_of None c = None
-recording_of (Some history) c = Some (records.recorded history c)
-
 -- ---- a run
 
 -- A record was to be written under a name: that can't be opened for writing; or it is written, and then the report is said.
@@ -57,12 +50,10 @@ pub data PutsRecord (name record_text report_text : List ℕ) (due : Status) (ol
   unopened : new.files ≡ old.files → Ends (record { calls = Open name false ∷ old.calls; text = write_fault_text; status = Fault }) new.calls status → PutsRecord name record_text report_text due old new status
   put_out : Outputs record_text report_text due (after (Open name true) old) new status → PutsRecord name record_text report_text due old new status
 
--- How a run ends that writes a certificate into the file that was opened, then a record under a name, and then says its report. Where
--- memory was refused for the record, there is none, and that is said.
-pub data OutputsBoth (certificate name : List ℕ) (recording : Option Record) (report_text : List ℕ) (due : Status) (old new : Outside) (status : Status) : Type 0 where
-  unwritten : (middle : Outside) → NotWritten certificate old middle → new.files ≡ middle.files → Ends (record { calls = middle.calls; text = write_fault_text; status = Fault }) new.calls status → OutputsBoth certificate name recording report_text due old new status
-  unrecorded : (middle : Outside) → recording ≡ None → Wrote certificate old middle → new.files ≡ middle.files → Ends (record { calls = middle.calls; text = memory_fault_text; status = NoMemory }) new.calls status → OutputsBoth certificate name recording report_text due old new status
-  recorded : (middle : Outside) (r : Record) → recording ≡ Some r → Wrote certificate old middle → PutsRecord name (records.spelling r) report_text due middle new status → OutputsBoth certificate name recording report_text due old new status
+-- How a run ends that writes a certificate into the file that was opened, then a record under a name, and then says its report.
+pub data OutputsBoth (certificate name record_text report_text : List ℕ) (due : Status) (old new : Outside) (status : Status) : Type 0 where
+  unwritten : (middle : Outside) → NotWritten certificate old middle → new.files ≡ middle.files → Ends (record { calls = middle.calls; text = write_fault_text; status = Fault }) new.calls status → OutputsBoth certificate name record_text report_text due old new status
+  wrote : (middle : Outside) → Wrote certificate old middle → PutsRecord name record_text report_text due middle new status → OutputsBoth certificate name record_text report_text due old new status
 
 -- How a run ends that searches a network and records it: as one that is not recorded, but that the record is written behind the
 -- certificate.
@@ -70,8 +61,8 @@ pub data SearchesRecorded (P : Network) (ask : RecordedRequest) (old new : Outsi
   unbegun : new.files ≡ old.files → Ends (record { calls = old.calls; text = memory_fault_text; status = NoMemory }) new.calls status → SearchesRecorded P ask old new status
   unopened : new.files ≡ old.files → Ends (record { calls = Open ask.solve.certificate false ∷ old.calls; text = write_fault_text; status = Fault }) new.calls status → SearchesRecorded P ask old new status
   no_memory : new.files ≡ old.files → Ends (record { calls = Discard ∷ Open ask.solve.certificate true ∷ old.calls; text = memory_fault_text; status = NoMemory }) new.calls status → SearchesRecorded P ask old new status
-  searched : (nodes : ℕ) (c : Certificate) (rows : List Row) (word : ResultWord) (recording : Option Record) → Promise P (fresh P) (limits_of ask.solve) nodes c rows word → IfSome recording (IsRecordOf P ask.solve.budget c) →
-      OutputsBoth (spelling c) ask.recording recording (report ask.solve.workers c rows nodes word) (status_of word) (after (Open ask.solve.certificate true) old) new status → SearchesRecorded P ask old new status
+  searched : (nodes : ℕ) (c : Certificate) (rows : List Row) (word : ResultWord) (r : Record) → Promise P (fresh P) (limits_of ask.solve) nodes c rows word → IsRecordOf P ask.solve.budget c r →
+      OutputsBoth (spelling c) ask.recording (records.spelling r) (report ask.solve.workers c rows nodes word) (status_of word) (after (Open ask.solve.certificate true) old) new status → SearchesRecorded P ask old new status
 
 -- How a run of `solve` with a record ends: the file is not loaded, or not read, or searched.
 pub data Records (ask : RecordedRequest) (old new : Outside) (status : Status) : Type 0 where
@@ -103,14 +94,6 @@ pub record Recorded (ask : RecordedRequest) (old new : Outside) (word : ResultWo
   pub stored : Stored middle.files (Writing ask.recording (records.spelling recording)) new.files
   pub calls : new.calls ≡ says (report ask.solve.workers certified.certificate certified.rows certified.nodes word) (Close true ∷ puts (records.spelling recording) (Open ask.recording true ∷ middle.calls))
 
--- The certificate is written, but memory was refused for the record, and that was said.
-pub record Unrecorded (ask : RecordedRequest) (old new : Outside) : Type 0 where
-  pub word : ResultWord
-  pub middle : Outside
-  pub certified : Certified ask old word middle
-  pub same : new.files ≡ middle.files
-  pub calls : new.calls ≡ says memory_fault_text middle.calls
-
 abbrev pub RecordedSays : RecordedRequest → Outside → Outside → Status → Type 0
 RecordedSays ask old new Done = Recorded ask old new words.Optimum
 RecordedSays ask old new Nothing = Recorded ask old new words.Nothing
@@ -118,7 +101,7 @@ RecordedSays ask old new LimitSpent = Recorded ask old new words.Budget ⊎ Reco
 RecordedSays ask old new Usage = ⊥
 RecordedSays ask old new Refused = FileRefused ask.solve.format (λ bytes. loaded ask.solve.file bytes old.calls) ask.solve.file old new
 RecordedSays ask old new Fault = Unit {0}
-RecordedSays ask old new NoMemory = SaysNoMemory old new ⊎ (Recorded ask old new words.Memory ⊎ Unrecorded ask old new)
+RecordedSays ask old new NoMemory = SaysNoMemory old new ⊎ Recorded ask old new words.Memory
 RecordedSays ask old new Disproved = ⊥
 
 -- What a status of `solve` with a record says; a file that is refused ends with that, and one that reads as a network with a report.

@@ -1,18 +1,17 @@
 //! The command `solve` where it is recorded.
 
-ghost use Rattle.std.specs.Prelude.{◌≡◌, ◌≤◌, All, length, is_some, IfSome, OnOk, OnErr};
+ghost use Rattle.std.specs.Prelude.{◌≡◌, ◌≤◌, true, All, length, is_some, OnOk, OnErr};
 ghost use Rattle.cfn_model.specs.Certificate.{threshold};
 ghost use Rattle.cfn_model.specs.Text.{IsSpelledBest, report, spelling};
 ghost use Rattle.cfn_model.specs.declared.limits.TheConstants.{GREATEST};
 ghost use Rattle.cfn_desk.specs.Outside.{IsIdle, IsWriting};
 ghost use Rattle.cfn_outcome.specs.Outcome.{fresh};
 ghost use Rattle.cfn_proof.specs.Certificates.{certificate_of, solution_of};
-ghost use Rattle.cfn_record.specs.Lines.{Spells};
 ghost use Rattle.cfn_recordwrite.specs.Records as records;
 ghost use Rattle.cfn_search.specs.Beginning.{MayBegin, start_of};
 ghost use Rattle.cfn_cli.specs.Request.Recording.{spoken_recorded};
 ghost use Rattle.cfn_app.specs.Endings.{NotWritten, Wrote};
-ghost use Rattle.cfn_app.specs.Runs.Recording.{OutputsBoth, PutsRecord, Records, SearchesRecorded, recording_of};
+ghost use Rattle.cfn_app.specs.Runs.Recording.{OutputsBoth, PutsRecord, Records, SearchesRecorded};
 ghost use Rattle.cfn_app.specs.Runs.Solving.{status_of, word_of};
 
 use crate::loading::{load_bytes, read_bytes};
@@ -101,6 +100,7 @@ fn open_and_record<R: Threads + Wait + Sync, D: Desk, G: Gate + Sync, H: Halt + 
     requires halt { H.limited halt.now ≡ is_some ask.now.solve.seconds }
     requires may { MayBegin network.now begin }
     requires start { start_of network.now begin ≡ fresh network.now }
+    requires recorded { begin.recorded ≡ true }
     ensures { SearchesRecorded network.now (spoken_recorded ask.now) (D.outside desk.old) (D.outside desk.new) result }
 {
     let solve = &ask.solve;
@@ -120,10 +120,13 @@ fn open_and_record<R: Threads + Wait + Sync, D: Desk, G: Gate + Sync, H: Halt + 
         gate,
         halt,
     ) {
-        Ok(found) => {
-            spelled(&found);
-            put_both(&found, workers, ask.recording.as_str(), desk)
-        }
+        Ok(found) => match &found.history {
+            Some(history) => {
+                cfn_recordwrite::spelled(history, &found.outcome.certificate);
+                put_both(history, &found, workers, ask.recording.as_str(), desk)
+            }
+            None => unreachable!(),
+        },
         Err(AllocError) => {
             desk.discard_out();
             ending(cfn_report::write_memory_fault(desk), Status::NoMemory)
@@ -131,25 +134,21 @@ fn open_and_record<R: Threads + Wait + Sync, D: Desk, G: Gate + Sync, H: Halt + 
     }
 }
 
-/// Nothing: its contract says that the record of a search has a spelling.
-fn spelled(found: &Teamwork)
-    requires { IsSpelledBest (solution_of found.now.outcome.certificate.best) }
-    ensures { IfSome (recording_of found.now.history found.now.outcome.certificate) (λ r. Spells r (records.spelling r)) }
-{
-    if let Some(history) = &found.history {
-        cfn_recordwrite::spelled(history, &found.outcome.certificate);
-    }
-}
-
 /// Writes the certificate that a search found into the file that was opened, then its record into a file of that name, and then says
-/// the report. It takes no memory. Where memory was refused for the record, the certificate is written, and that is said.
-fn put_both<D: Desk>(found: &Teamwork, workers: u32, name: &str, desk: &mut D) -> Status
+/// the report. It takes no memory.
+fn put_both<D: Desk>(
+    history: &History,
+    found: &Teamwork,
+    workers: u32,
+    name: &str,
+    desk: &mut D,
+) -> Status
     requires workers { length found.now.thresholds.items ≡ workers }
     requires least { All (λ k. threshold (certificate_of found.now.outcome.certificate) ≤ k) found.now.thresholds.items }
     requires best { IsSpelledBest (solution_of found.now.outcome.certificate.best) }
     requires writing { IsWriting (D.outside desk.old).calls }
     ensures { OutputsBoth (spelling (certificate_of found.now.outcome.certificate)) name.now
-        (recording_of found.now.history found.now.outcome.certificate)
+        (records.spelling (records.recorded history.now found.now.outcome.certificate))
         (report workers (certificate_of found.now.outcome.certificate) found.now.outcome.rows.items found.now.outcome.nodes
         (word_of found.now.outcome.stop (solution_of found.now.outcome.certificate.best)))
         (status_of (word_of found.now.outcome.stop (solution_of found.now.outcome.certificate.best)))
@@ -158,10 +157,7 @@ fn put_both<D: Desk>(found: &Teamwork, workers: u32, name: &str, desk: &mut D) -
     if save(&found.outcome.certificate, desk).is_err() {
         return ending(cfn_report::write_write_fault(desk), Status::Fault);
     }
-    match &found.history {
-        Some(history) => put_record(history, found, workers, name, desk),
-        None => ending(cfn_report::write_memory_fault(desk), Status::NoMemory),
-    }
+    put_record(history, found, workers, name, desk)
 }
 
 /// Writes the record of a search into a file of that name, and then says the report. It takes no memory.

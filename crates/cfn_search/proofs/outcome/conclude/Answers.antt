@@ -15,7 +15,7 @@ use Rattle.cfn_search.specs.Stopping.{IsStop}
 use Rattle.cfn_search.proofs.Finished.{searched, price_held, best_held}
 use Rattle.std.specs.Prelude.{IfSome}
 use Rattle.cfn_search.specs.Recording.{IsRecorded}
-use Rattle.cfn_search.proofs.Recorded.{good_record}
+use Rattle.cfn_search.proofs.Recorded.{good_record, kept_by}
 use Rattle.cfn_search.proofs.outcome.conclude.Goals as goal
 
 pub invariant_of-outcome : goal.invariant_of-outcome
@@ -82,3 +82,6 @@ returns-clause-history g c =
     (best_held P c.end-best.result.0 finished.holder c.below.result c.end-best.ensures.best c.below.ensures.best)
     (price_held P c.end-best.result.0 finished.holder held.view c.below.result c.end-best.ensures.best c.finish-finished.ensures.view c.requires.last.seen c.below.ensures.priced c.below.ensures.price)
     c.finish-finished.ensures.tree)
+
+pub returns-clause-kept : goal.returns-clause-kept
+returns-clause-kept g c = kept_by c.args.held.recorded c.finish-finished.result.history c.finish-finished.ensures.same

@@ -6,7 +6,7 @@ use Rattle.cfn_search.proofs.outcome.meet.Goals as goal
 pub returns-clause-search : goal.returns-clause-search
 returns-clause-search g c =
     let search = c.requires.search in
-    let met = c.meet.ensures in
+    let met = c.meet.ensures.meets in
     record {
       begun_is = ap (λ (p : Pool). p.begun) met ∙ search.begun_is;
       others = search.others;

@@ -11,14 +11,14 @@ returns-clause-last g c =
     let between = pool c.recall.new.self in
     let new = pool c.sweep.new.self in
     let sweeps = c.sweep.ensures.sweeps in
-    let shares : between.view.shares ≡ 128 = ap (λ (p : Pool). p.view.shares) c.recall.ensures ∙ c.requires.shares in
+    let shares : between.view.shares ≡ 128 = ap (λ (p : Pool). p.view.shares) c.recall.ensures.recalls ∙ c.requires.shares in
     let best : new.view.best ≡ between.view.best = ap (λ (p : Pool). p.view.best) sweeps.sweeps in
     let seen : new.view.seen ≡ sweeps.word = ap (λ (p : Pool). p.view.seen) sweeps.sweeps in
     record {
       shares = ap (λ (p : Pool). p.view.shares) sweeps.sweeps ∙ shares;
       seen = seen ∙ sweeps.whole shares ∙ ap (Rattle.cfn_machine.specs.Pool.price P) (sym best);
       below = sweeps_all P between new sweeps.word
-          (λ n worker grant path at. recalled_free (pool c.args.held.now).tree n [] worker grant path (subst (λ (p : Pool). IsLeaf p.tree [] n (Out worker grant) path) c.recall.ensures at)) sweeps.sweeps;
+          (λ n worker grant path at. recalled_free (pool c.args.held.now).tree n [] worker grant path (subst (λ (p : Pool). IsLeaf p.tree [] n (Out worker grant) path) c.recall.ensures.recalls at)) sweeps.sweeps;
     }
 
 pub returns-clause-falls : goal.returns-clause-falls
@@ -26,7 +26,7 @@ returns-clause-falls g c =
     let new = pool c.sweep.new.self in
     let sweeps = c.sweep.ensures.sweeps in
     let seen : new.view.seen ≡ sweeps.word = ap (λ (p : Pool). p.view.seen) sweeps.sweeps in
-    let before = ap (λ (p : Pool). p.view.seen) c.recall.ensures in
+    let before = ap (λ (p : Pool). p.view.seen) c.recall.ensures.recalls in
     let falls = sweeps.falls in
     omega (arith, seen, falls, before)
 
@@ -39,10 +39,10 @@ returns-clause-ended g c =
     let new = pool c.sweep.new.self in
     let search = c.requires.search in
     let sweeps = c.sweep.ensures.sweeps in
-    let tree_is : new.tree ≡ swept P sweeps.word (recalled old.tree) [] = ap (λ (p : Pool). p.tree) sweeps.sweeps ∙ ap (λ (p : Pool). swept P sweeps.word p.tree []) c.recall.ensures in
+    let tree_is : new.tree ≡ swept P sweeps.word (recalled old.tree) [] = ap (λ (p : Pool). p.tree) sweeps.sweeps ∙ ap (λ (p : Pool). swept P sweeps.word p.tree []) c.recall.ensures.recalls in
     record {
-      begun_is = ap (λ (p : Pool). p.begun) sweeps.sweeps ∙ ap (λ (p : Pool). p.begun) c.recall.ensures ∙ search.begun_is;
+      begun_is = ap (λ (p : Pool). p.begun) sweeps.sweeps ∙ ap (λ (p : Pool). p.begun) c.recall.ensures.recalls ∙ search.begun_is;
       rest = search.others;
-      begin = ap (λ (p : Pool). p.rows) sweeps.sweeps ∙ ap (λ (p : Pool). p.rows) c.recall.ensures ∙ search.begin;
+      begin = ap (λ (p : Pool). p.rows) sweeps.sweeps ∙ ap (λ (p : Pool). p.rows) c.recall.ensures.recalls ∙ search.begin;
       others = λ path there. subst (λ t. EndsAt (tree_of t) [] path) (sym tree_is) (ends_others P sweeps.word old.tree path (search.aside path there));
     }

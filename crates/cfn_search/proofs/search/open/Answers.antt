@@ -10,12 +10,12 @@ pub record_if-requires-clause-opening : goal.record_if-requires-clause-opening
 record_if-requires-clause-opening g c = λ asked.
     fresh_opening g.M.Incumbent.network c.args.part c.args.holder.shares c.args.budget (tree_of c.args.tree) c.args.holder.held (pool c.in-Ok.held) (c.requires.fresh asked) c.in-Ok.ensures.pool
 
-pub sweep-requires : goal.sweep-requires
-sweep-requires g c =
+pub sweep-requires-clause-search : goal.sweep-requires-clause-search
+sweep-requires-clause-search g c =
     let start = g.M.Incumbent.start in
     let opening = opening_search g.M.Incumbent.network start c.args.part c.args.holder.shares c.args.budget (tree_of c.args.tree) (values_of c.args.holder.held)
     c.parts.ensures.sets c.requires.begun c.requires.first c.requires.aside in
-    record { search = subst (λ (p : Pool). IsSearch start p) (sym (c.record_if.ensures ∙ c.in-Ok.ensures.pool)) opening }
+    subst (λ (p : Pool). IsSearch start p) (sym (c.record_if.ensures.pool ∙ c.in-Ok.ensures.pool)) opening
 
 pub returns-clause-others : goal.returns-clause-others
 returns-clause-others g c =

@@ -4,6 +4,7 @@ use Rattle.cfn_pool.specs.Views.{pool}
 use Rattle.cfn_rota.specs.Values.{AreAll}
 use Rattle.cfn_worker.specs.Accounts.{least_of, reach}
 use Rattle.cfn_rota.proofs.CallerLemmas.{all_but_last}
+use Rattle.cfn_worker.proofs.CallerLemmas.{stays}
 use Rattle.cfn_search.proofs.Telling.{told_step, told_all, most_step, least_step}
 use Rattle.cfn_search.proofs.team.end_workers.Goals as goal
 
@@ -26,6 +27,7 @@ loop-worker-preserved g c =
     let pushed = length_push c.loop-worker.thresholds.items c.end-threshold.result in
     record {
       search = c.end-threshold.ensures.search;
+      ready = stays c.args.held.now c.loop-worker.held c.end-threshold.new.held so_far.ready c.end-threshold.ensures.ready;
       budget = c.end-threshold.ensures.budget ∙ so_far.budget;
       shares = (let s = so_far.shares in omega (arith, s, share, items, more, value, count, left));
       all = subst (λ workers. AreAll (map reach workers)) (sym same) c.end-threshold.ensures.others;

@@ -3,12 +3,13 @@ use Rattle.cfn_machine.specs.Word.{all_shares}
 use Rattle.cfn_pool.specs.Views.{pool}
 use Rattle.cfn_rota.specs.Values.{AreAll}
 use Rattle.cfn_worker.specs.Accounts.{least_of, reach}
-use Rattle.cfn_worker.specs.Searching.{IsSearch}
+use Rattle.cfn_worker.specs.Searching.{IsSearch, StaysReady}
 use Rattle.cfn_search.proofs.team.end_workers.Given as goal
 
 abbrev pub invariant-loop-worker : goal.invariant-loop-worker
 invariant-loop-worker g l = record {
   search : IsSearch g.M.Incumbent.start (pool l.held);
+  ready : StaysReady l.fn.held l.held;
   budget : (pool l.held).budget ≡ (pool l.fn.held).budget;
   shares : (pool l.held).view.shares + length l.crew.items ≡ all_shares;
   all : AreAll (map reach l.crew.items);

@@ -1,4 +1,5 @@
-use Rattle.std.proofs.Common.{sym, ap, ◌∙◌}
+use Rattle.std.proofs.Common.{sym, ap, ◌∙◌, arith}
+use Rattle.cfn_model.specs.Network.{Network}
 use Rattle.cfn_machine.specs.Pool.{opening_pool}
 use Rattle.cfn_history.specs.Histories.{HistoryValue}
 use Rattle.cfn_pool.specs.Views.{Held, pool}
@@ -14,9 +15,14 @@ invariant_of-self g c =
     let history = c.reserve.new.self in
     let budget = sym (ap (λ (h : Held). (pool h).budget) c.self.view_is) ∙ sym c.budget.ensures ∙ sym (ap (λ (h : HistoryValue). h.budget) c.new-history.ensures) ∙ sym c.reserve.ensures.budget in
     record {
-      own = c.self.invariant.own;
-      pool_is = c.self.invariant.pool_is;
-      rows = c.self.invariant.rows;
-      recorded = first_told P c.requires.opening.0 history (pool now) (ap pool c.self.view_is ∙ c.requires.opening.1 ∙ ap (opening_pool P c.requires.opening.0) budget)
-          (c.reserve.ensures.happened ∙ ap (λ (h : HistoryValue). h.happened) c.new-history.ensures);
+      room = let room = c.in_ok-reserve.ensures.ok in (omega (arith, room), omega arith);
+      held = record {
+        own = c.self.invariant.held.own;
+        pool_is = c.self.invariant.held.pool_is;
+        rows = c.self.invariant.held.rows;
+        recorded = first_told P c.requires.opening.0 history (pool now) 3 (ap pool c.self.view_is ∙ c.requires.opening.1 ∙ ap (opening_pool P c.requires.opening.0) budget)
+            (c.reserve.ensures.happened ∙ ap (λ (h : HistoryValue). h.happened) c.new-history.ensures)
+            (let few = c.requires.budget in let is = ap (λ (h : Held). (pool h).budget) c.self.view_is in omega (arith, few, budget, is))
+            (let top = c.limits.ensures.upper in let same = ap (λ (Q : Network). Q.upper) c.requires.own in omega (arith, top, same));
+      };
     }

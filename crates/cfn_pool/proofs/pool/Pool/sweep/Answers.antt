@@ -6,7 +6,7 @@ use Rattle.cfn_machine.specs.Steps.{PoolReturns, PoolRecalls, PoolSweeps, PoolNo
 use Rattle.cfn_leaves.specs.Value.{Holding as Leaves, pool_of}
 use Rattle.cfn_low.specs.Holding.{Holding as Part}
 use Rattle.cfn_pool.specs.Views.{Held, pool, view_of}
-use Rattle.cfn_pool.specs.Recorded.{record_in}
+use Rattle.cfn_pool.specs.Recorded.{value_of}
 use Rattle.cfn_pool.proofs.Recorded.{swept_exactly}
 use Rattle.cfn_pool.proofs.Kept.{held, kept_by_step, price_is}
 use Rattle.cfn_net.specs.Scoring.{Scoring, IsPriced}
@@ -26,9 +26,12 @@ invariant_of-self g c =
     let now = c.look-word.new.holder in
     let old = held c.self.inside.leaves part c.self.inside.recording in
     let new = held c.sweep.new.self now c.swept.new.self in
-    kept_by_step g.M.Incumbent.network old new c.look-word.result steps.Sweeps c.kept.ensures.reached (c.sweep.ensures.network ∙ c.self.invariant.own) c.self.invariant c.look-word.ensures.falls
-    (swept g.M.Incumbent.network c.self.inside.leaves c.sweep.new.self part now c.look-word.result c.self.invariant.own c.look-word.ensures.seen c.sweep.ensures.sweeps)
-    c.swept.ensures
+    record {
+      room = c.swept.ensures.room;
+      held = kept_by_step g.M.Incumbent.network old new c.look-word.result steps.Sweeps c.kept.ensures.reached (c.sweep.ensures.network ∙ c.self.invariant.held.own) c.self.invariant.held c.look-word.ensures.falls
+          (swept g.M.Incumbent.network c.self.inside.leaves c.sweep.new.self part now c.look-word.result c.self.invariant.held.own c.look-word.ensures.seen c.sweep.ensures.sweeps)
+          c.swept.ensures.adds;
+    }
 
 pub returns-clause-sweeps : goal.returns-clause-sweeps
 returns-clause-sweeps g c =
@@ -40,12 +43,12 @@ returns-clause-sweeps g c =
       falls = c.look-word.ensures.falls;
       below = let b = c.look-word.ensures.below in omega (arith, b, price);
       whole = λ all. c.look-word.ensures.whole all ∙ sym price;
-      sweeps = swept g.M.Incumbent.network c.self.inside.leaves c.sweep.new.self part now c.look-word.result c.self.invariant.own c.look-word.ensures.seen c.sweep.ensures.sweeps;
+      sweeps = swept g.M.Incumbent.network c.self.inside.leaves c.sweep.new.self part now c.look-word.result c.self.invariant.held.own c.look-word.ensures.seen c.sweep.ensures.sweeps;
     })
 
 pub returns-clause-recorded : goal.returns-clause-recorded
 returns-clause-recorded g c =
     let part = c.self.inside.holder in
     let now = c.look-word.new.holder in
-    swept_exactly g.M.Incumbent.network (pool_of c.self.inside.leaves (view_of part)) (pool_of c.sweep.new.self (view_of now)) c.look-word.result (record_in c.self.inside.recording) (record_in c.swept.new.self) c.look-word.ensures.falls
-    (swept g.M.Incumbent.network c.self.inside.leaves c.sweep.new.self part now c.look-word.result c.self.invariant.own c.look-word.ensures.seen c.sweep.ensures.sweeps) c.self.invariant.recorded c.swept.ensures
+    swept_exactly g.M.Incumbent.network (pool_of c.self.inside.leaves (view_of part)) (pool_of c.sweep.new.self (view_of now)) c.look-word.result (value_of c.self.inside.recording) (value_of c.swept.new.self) c.look-word.ensures.falls
+    (swept g.M.Incumbent.network c.self.inside.leaves c.sweep.new.self part now c.look-word.result c.self.invariant.held.own c.look-word.ensures.seen c.sweep.ensures.sweeps) c.self.invariant.held.recorded c.swept.ensures.adds

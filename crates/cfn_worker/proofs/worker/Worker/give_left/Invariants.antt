@@ -1,11 +1,12 @@
 use Rattle.std.proofs.Common.{◌≡◌, ◌-◌, length}
 use Rattle.cfn_pool.specs.Views.{pool}
-use Rattle.cfn_worker.specs.Searching.{GoesOn}
+use Rattle.cfn_worker.specs.Searching.{GoesOn, StaysReady}
 use Rattle.cfn_worker.proofs.worker.Worker.give_left.Given as goal
 
 abbrev pub invariant-loop-task : goal.invariant-loop-task
 invariant-loop-task g l = record {
   goes : GoesOn g.M.Incumbent.start (pool l.fn.held) (pool l.held);
+  ready : StaysReady l.fn.held l.held;
   whole : l.self.ends.lane.parts ≡ 128;
   least : l.self.least ≡ l.fn.self.least;
 }
