@@ -246,6 +246,7 @@ impl<'a> Iterator for Steps<'a> {
 
     ghost remaining = { item_count (λ left. left) };
 
+    #[inline(always)]
     fn next(&mut self) -> Option<Step> {
         if self.bytes.is_empty() {
             return None;

@@ -162,7 +162,7 @@ fn step_of_four(first: u64, second: u64, third: u64, fourth: u64) -> Step
     }
 }
 
-/// The number that bytes begin with, and the bytes behind it.
+/// The number that bytes begin with, and the bytes behind it. Most numbers have one byte or two.
 #[inline(always)]
 fn first_number(bytes: &[u8]) -> (u64, &[u8])
     requires whole { IsWhole bytes.now }
@@ -172,16 +172,43 @@ fn first_number(bytes: &[u8]) -> (u64, &[u8])
     ensures whole { IsWhole result.1.now }
     ensures shorter { length result.1.now < length bytes.now }
 {
+    if let Some((byte, behind)) = bytes.split_first() {
+        if *byte < 128 {
+            return (u64::from(*byte), behind);
+        }
+        if let Some((second, behind)) = behind.split_first() {
+            if *second < 128 {
+                return (u64::from(*byte - 128) + u64::from(*second) * 128, behind);
+            }
+        }
+    }
+    let mut left = bytes;
+    let number = take_number(&mut left);
+    (number, left)
+}
+
+/// Takes a number of any length from the front of bytes.
+#[inline(never)]
+fn take_number(bytes: &mut &[u8]) -> u64
+    requires whole { IsWhole bytes.old.now }
+    requires some { 0 < length (numbers_in bytes.old.now) }
+    requires fits { first_of (numbers_in bytes.old.now) < 2 ^ 64 }
+    ensures number { numbers_in bytes.old.now ≡ result ∷ numbers_in bytes.new.now }
+    ensures whole { IsWhole bytes.new.now }
+    ensures shorter { length bytes.new.now < length bytes.old.now }
+{
     let mut number = 0;
     let mut scale = 1;
-    let mut left = bytes;
+    let mut left = *bytes;
     while let Some((byte, behind)) = left.split_first() {
         left = behind;
         if *byte < 128 {
-            return (number + u64::from(*byte) * scale, left);
+            *bytes = left;
+            return number + u64::from(*byte) * scale;
         }
         number += u64::from(*byte - 128) * scale;
         scale *= 128;
     }
-    (number, left)
+    *bytes = left;
+    number
 }
