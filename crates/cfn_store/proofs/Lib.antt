@@ -22,6 +22,7 @@ pub mod Amounts
 pub mod Lines
 pub mod Sides
 pub mod Tuples
+pub mod Telling
 pub mod Least
 pub mod Doubting
 pub mod CallerLemmas

@@ -1,15 +1,15 @@
 -- Peaks along a history.
-use Rattle.std.proofs.Common.{◌≡◌, ℕ, ◌+◌, ◌-◌, ◌<◌, ◌≤◌, ◌^◌, Bool, true, false, not, ◌&&◌, List, [], ◌∷◌, ◌++◌, length, replicate, set, refl, sym, ap, subst, ◌∙◌, inl, inr, arith, get_or-set_same, get_or-set_other}
+use Rattle.std.proofs.Common.{◌≡◌, ℕ, ◌+◌, ◌<◌, ◌^◌, Bool, true, false, not, ◌&&◌, List, ◌∷◌, length, replicate, set, refl, sym, ap, subst, ◌∙◌, inl, inr, arith, get_or-set_same, get_or-set_other}
 use Rattle.std.proofs.lemmas.Bool.{cases_eq, false≢true}
 use Rattle.std.proofs.lemmas.Int.{ints}
 use Rattle.std.proofs.lemmas.List.{length-set, length-replicate, get_or-replicate}
-use Rattle.std.specs.Prelude.{pos, neg_ℤ, ◌+ℤ◌, ◌==◌, slice_index, IsTrue}
+use Rattle.std.specs.Prelude.{pos, neg_ℤ, ◌==◌, slice_index, IsTrue}
 use Rattle.cfn_model.proofs.CallerLemmas.{eqb_same, eqb_other}
 use Rattle.cfn_model.specs.declared.step.Step.TheVariants.{Project, Extend, Lift, CutValue, CutTuple}
 use Rattle.cfn_model.specs.declared.step.Event.{Event}
 use Rattle.cfn_model.specs.declared.step.Event.TheVariants.{Did, Took, Refused}
-use Rattle.cfn_model.specs.Decisions.{variable_of, keeps}
-use Rattle.cfn_model.specs.Network.{Network, variable_at}
+use Rattle.cfn_model.specs.Decisions.{keeps}
+use Rattle.cfn_model.specs.Network.{Network}
 use Rattle.cfn_model.specs.Sums.{when, unary, unary_by, removes, is_live}
 use Rattle.cfn_store.specs.Peaks.{HasPeak, ArePeaks, AreForgotten, AreLow, changes, unknown}
 

@@ -26,6 +26,10 @@ either : (a b : Bool) → (a ≡ true → b ≡ true) → (not a || b) ≡ true
 either true b h = h refl
 either false b h = refl
 
+-- where nothing is asked for at a place, each value agrees
+pub agrees_unasked : (pin : Pin) (place v : ℕ) → (place ≡ pin.place → ⊥) → agrees pin place v ≡ true
+agrees_unasked pin place v apart = either (place == pin.place) (v == pin.value) (λ e. absurd (apart (eqb-true place pin.place e)))
+
 -- the entry of a tuple is below the upper bound, and it is not cut
 abbrev pub is_last : Scan → ℕ → Bool
 is_last scan c = nat_lt (slice_index scan.table.now c) scan.upper && not (slice_index_or scan.flags.now c false)

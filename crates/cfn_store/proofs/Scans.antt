@@ -19,13 +19,13 @@ abbrev behind : Scan → ℕ → Spot → ℕ → Spot
 behind scan x spot value = gone_on scan spot (slice_index scan.sizes.now x) value
 
 -- values that are met are a value that may stand, and values that are met behind it
-met_of : (scan : Scan) (x : ℕ) (scope : List ℕ) (spot : Spot) (value : ℕ) (rest : List ℕ) → value < slice_index scan.sizes.now x → IsTrue (may_stand scan spot.place x value) → IsMet scan scope (behind scan x spot value) rest → IsMet scan (x ∷ scope) spot (value ∷ rest)
+pub met_of : (scan : Scan) (x : ℕ) (scope : List ℕ) (spot : Spot) (value : ℕ) (rest : List ℕ) → value < slice_index scan.sizes.now x → IsTrue (may_stand scan spot.place x value) → IsMet scan scope (behind scan x spot value) rest → IsMet scan (x ∷ scope) spot (value ∷ rest)
 met_of scan x scope spot value rest small stands met = record {
   fits = (small, met.fits);
   met = and_from (may_stand scan spot.place x value) (is_met scan scope (behind scan x spot value) rest) stands met.met;
 }
 
-met_behind : (scan : Scan) (x : ℕ) (scope : List ℕ) (spot : Spot) (value : ℕ) (rest : List ℕ) → IsMet scan (x ∷ scope) spot (value ∷ rest) → (value < slice_index scan.sizes.now x) × IsTrue (may_stand scan spot.place x value) × IsMet scan scope (behind scan x spot value) rest
+pub met_behind : (scan : Scan) (x : ℕ) (scope : List ℕ) (spot : Spot) (value : ℕ) (rest : List ℕ) → IsMet scan (x ∷ scope) spot (value ∷ rest) → (value < slice_index scan.sizes.now x) × IsTrue (may_stand scan spot.place x value) × IsMet scan scope (behind scan x spot value) rest
 met_behind scan x scope spot value rest met =
     let b = and_parts (may_stand scan spot.place x value) (is_met scan scope (behind scan x spot value) rest) met.met in
     (met.fits.0, b.0, record { fits = met.fits.1; met = b.1 })

@@ -1,7 +1,7 @@
 -- The least and the greatest residual cost of a function's live tuples with one value at one place, or one at each of two.
-use Rattle.std.specs.Prelude.{◌≡◌, ℕ, List, slice_index, ℤ, pos, ◌≤ℤ◌, IsTrue}
+use Rattle.std.specs.Prelude.{◌≡◌, ℕ, ◌<◌, Option, Some, None, List, slice_index, ℤ, pos, ◌≤ℤ◌, IsTrue}
 use Rattle.cfn_model.specs.declared.step.Event.{Event}
-use Rattle.cfn_model.specs.Network.{Network, Fits, cell, dims_at}
+use Rattle.cfn_model.specs.Network.{Network, Fits, arity, cell, dims_at}
 use Rattle.cfn_model.specs.Sums.{residual, is_live_tuple}
 use Rattle.cfn_store.specs.declared.scan.Sense.{Sense}
 use Rattle.cfn_store.specs.declared.scan.Sense.TheVariants.{Least, Greatest}
@@ -60,3 +60,13 @@ pub record IsExtremeBetween (P : Network) (history : List Event) (f i a j b : �
   pub cell_is : cell (dims_at P f) tuple ≡ extreme.cell
   pub cost_is : residual P history f tuple ≡ pos extreme.cost
   pub bounds : (other : List ℕ) → IsPickedBetween P history f i a j b other → Bounds sense extreme.cost (residual P history f other)
+
+-- The tuple of f with a number.
+pub record IsNumbered (P : Network) (f number : ℕ) (tuple : List ℕ) : Type 0 where
+  pub fits : Fits (dims_at P f) tuple
+  pub number_is : cell (dims_at P f) tuple ≡ number
+
+-- What is told of one tuple of f: it is not live, or it is, and what was found is its residual cost, where f has a place.
+abbrev pub IsTold : Network → List Event → ℕ → List ℕ → Option Extreme → Type 0
+IsTold P history f tuple None = IsTrue (is_live_tuple P history f tuple) → ⊥
+IsTold P history f tuple (Some found) = IsTrue (is_live_tuple P history f tuple) × (0 < arity P f → residual P history f tuple ≡ pos found.cost)

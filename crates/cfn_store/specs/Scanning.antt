@@ -1,5 +1,5 @@
 -- What a scan over the live tuples of a function looks at, and what it finds, said of the words that it reads.
-use Rattle.std.specs.Prelude.{◌≡◌, ℕ, ◌+◌, ◌-◌, ◌*◌, ◌%◌, ◌<◌, ◌≤◌, ◌^◌, Bool, false, not, ◌&&◌, ◌||◌, ◌==◌, List, [], ◌∷◌, length, slice_index, slice_index_or, nat_lt, IsTrue, Option, Some, None, ◌⊎◌}
+use Rattle.std.specs.Prelude.{◌≡◌, ℕ, suc, ◌+◌, ◌-◌, ◌*◌, ◌/◌, ◌%◌, ◌<◌, ◌≤◌, ◌^◌, Bool, false, not, ◌&&◌, ◌||◌, ◌==◌, List, [], ◌∷◌, length, drop, slice_index, slice_index_or, nat_lt, IsTrue, Option, Some, None, ◌⊎◌}
 use Rattle.cfn_model.specs.declared.limits.TheConstants.{MOST_TUPLES}
 use Rattle.cfn_model.specs.Network.{Fits, dims, cells, cell_from}
 use Rattle.cfn_model.specs.Sums.{is_live}
@@ -129,3 +129,16 @@ pub record IsLane (scan : Scan) (scope : List ℕ) (spot : Spot) : Type 0 where
   pub one : length scope ≡ 1
   pub least : scan.sense ≡ Least
   pub stand : (a : ℕ) → a < slice_index scan.sizes.now (slice_index scope 0) → IsTrue (may_stand scan spot.place (slice_index scope 0) a)
+
+-- The values are those of the tuple with a number, the last of them running fastest.
+abbrev pub HasDigits : List ℕ → ℕ → List ℕ → Type 0
+HasDigits sizes number values = (p : ℕ) → p < length sizes → (number / cells (drop (suc p) sizes)) % slice_index sizes p ≡ slice_index values p
+
+-- No value is asked for at a place of the scope.
+abbrev pub AsksNone : Scan → List ℕ → Spot → Type 0
+AsksNone scan scope spot = (p : ℕ) → p < length scope → (spot.place + p ≡ scan.one.place → ⊥) × (spot.place + p ≡ scan.two.place → ⊥)
+
+-- What is told of some values: they are not met, or they are, and what was found is their word.
+abbrev pub IsAt : Scan → List ℕ → Spot → List ℕ → Option Extreme → Type 0
+IsAt scan scope spot rest None = IsMet scan scope spot rest → ⊥
+IsAt scan scope spot rest (Some found) = IsMet scan scope spot rest × (word_of scan scope spot rest ≡ found.cost)

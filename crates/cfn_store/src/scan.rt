@@ -7,7 +7,8 @@
 //! The depth is that of the other open variables, of which there are at most 21. What is dead is never gone into.
 
 ghost use Rattle.std.specs.Prelude.{◌≡◌, ℕ, ◌+◌, ◌<◌, ◌≤◌, true, List, [], ◌∷◌, length, slice_index, drop, Option, MatchOption, IfSome, IsSomeAnd};
-ghost use Rattle.cfn_store.specs.Scanning.{IsSpot, IsInner, AreChoices, NoneMet, IsFound, IsSooner, gone_on, agrees, ended, key, found_in, IsBest, IsTail, IsLane};
+ghost use Rattle.cfn_model.specs.Network.{Fits, cells, dims};
+ghost use Rattle.cfn_store.specs.Scanning.{AsksNone, HasDigits, IsAt, IsSpot, IsInner, AreChoices, NoneMet, IsFound, IsSooner, gone_on, agrees, ended, key, found_in, IsBest, IsTail, IsLane};
 
 use cfn_lanes::{Row, least_open};
 use cfn_live::LiveSets;
@@ -334,6 +335,27 @@ impl<'a> Scan<'a> {
             cost: entry.wrapping_sub(spot.shift),
             cell: spot.cell,
         })
+    }
+
+    /// The tuple with a number, of so many tuples in all, where it is met; no value is asked for at a place.
+    pub(crate) fn at(&self, scope: &[u32], spot: Spot, tuples: u32, number: u32) -> Option<Extreme>
+        requires spot { IsSpot self.now scope.now spot }
+        requires tuples { tuples ≡ cells (dims self.now.sizes.now scope.now) }
+        requires asks { AsksNone self.now scope.now spot }
+        ensures { (rest : List ℕ) → Fits (dims self.now.sizes.now scope.now) rest
+            → HasDigits (dims self.now.sizes.now scope.now) number rest → IsAt self.now scope.now spot rest result }
+    {
+        if scope.is_empty() {
+            return self.here(spot);
+        }
+        let x = scope[0];
+        let size = self.sizes[x as usize];
+        let behind = tuples / size;
+        let value = number / behind % size;
+        if !self.live.is_live(x, value) {
+            return None;
+        }
+        self.at(from(scope, 1), self.gone_on(spot, x, value), behind, number)
     }
 
     /// What stands first of two.

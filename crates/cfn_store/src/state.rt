@@ -6,11 +6,11 @@ ghost use Rattle.cfn_model.specs.declared.step.Event.TheVariants.{Did};
 ghost use Rattle.cfn_model.specs.Sums.{is_live, lifted};
 ghost use Rattle.cfn_model.specs.Steps.{InRange, IsPlace};
 ghost use Rattle.cfn_store.specs.Shelf.{on_shelf};
-ghost use Rattle.cfn_store.specs.Extremes.{NoneBetween, IsExtremeBetween};
-ghost use Rattle.cfn_store.specs.Reading.{Reads, start};
+ghost use Rattle.cfn_store.specs.Extremes.{NoneBetween, IsExtremeBetween, IsNumbered, IsTold};
+ghost use Rattle.cfn_store.specs.Reading.{MayAsk, Reads, start};
 ghost use Rattle.cfn_store.specs.Lines.{IsSide};
 ghost use Rattle.cfn_store.specs.Scanning.{IsSpot};
-ghost use Rattle.cfn_model.specs.Network.{arity, scope_at, variable_at};
+ghost use Rattle.cfn_model.specs.Network.{arity, cells, dims_at, scope_at, variable_at};
 ghost use Rattle.cfn_store.specs.Exact.{InPlace, IsExact, IsExactAlong};
 ghost use Rattle.cfn_store.specs.Events.{with_first};
 ghost use Rattle.cfn_store.specs.State.{Keeps, IsState, HasRoom, history_of};
@@ -100,6 +100,36 @@ impl State {
         scan.first(network.scope(f), start)
     }
 
+    /// The tuple of `f` with a number, where it is live.
+    pub(crate) fn at(
+        &self,
+        network: &Network,
+        shelf: &Shelf<'_>,
+        f: u32,
+        number: u32,
+    ) -> Option<Extreme>
+        requires state { IsState network.now self.now }
+        requires shelf { on_shelf shelf.now ≡ network.now }
+        requires function { f < length network.now.functions }
+        requires number { number < cells (dims_at network.now f) }
+        ensures { (tuple : List ℕ) → IsNumbered network.now f number tuple → IsTold network.now (history_of self.now) f tuple result }
+    {
+        network.limits();
+        let scope = network.scope(f);
+        let pin = Pin {
+            place: scope.len(),
+            value: 0,
+        };
+        let scan = self.scan(network, shelf, f, pin, pin, Sense::Least);
+        let start = Spot {
+            cell: 0,
+            shift: 0,
+            offset: 0,
+            place: 0,
+        };
+        scan.at(scope, start, scan.table.len() as u32, number)
+    }
+
     /// The scan over these tuples.
     #[inline(always)]
     fn scan<'a>(
@@ -113,8 +143,9 @@ impl State {
     ) -> Scan<'a>
         requires state { IsState network.now self.now }
         requires shelf { on_shelf shelf.now ≡ network.now }
-        requires one { IsPlace network.now f one.place one.value }
-        requires two { IsPlace network.now f two.place two.value }
+        requires function { f < length network.now.functions }
+        requires one { MayAsk network.now f one }
+        requires two { MayAsk network.now f two }
         ensures reads { Reads network.now (history_of self.now) f result }
         ensures one { result.one ≡ one }
         ensures two { result.two ≡ two }

@@ -1,6 +1,6 @@
 //! The store: what a path makes of a network, step by step and back.
 
-ghost use Rattle.std.specs.Prelude.{◌≡◌, ℕ, ◌+◌, ◌-◌, ◌^◌, ◌<◌, ◌≤◌, List, [], ◌∷◌, ◌++◌, length, reverse, slice_index, slice_index_or, pos, IsTrue, IfOk, IfSome, OnOk, OnErr, MatchOption};
+ghost use Rattle.std.specs.Prelude.{◌≡◌, ℕ, ◌+◌, ◌-◌, ◌^◌, ◌<◌, ◌≤◌, false, List, [], ◌∷◌, ◌++◌, length, reverse, slice_index, slice_index_or, pos, IsTrue, IfOk, IfSome, OnOk, OnErr, MatchOption};
 ghost use Rattle.cfn_model.specs.declared.step.Step.{Step as PathStep};
 ghost use Rattle.cfn_model.specs.declared.step.Step.TheVariants.{Project, Extend, Lift, CutValue, CutTuple};
 ghost use Rattle.cfn_model.specs.declared.step.Event.{Event as PathEvent};
@@ -13,7 +13,7 @@ ghost use Rattle.cfn_model.specs.Text.{IsSpelledStep};
 ghost use Rattle.cfn_store.specs.Exact.{IsExact, IsExactAlong};
 ghost use Rattle.cfn_live.specs.Sets.{AreLive, live_count};
 ghost use Rattle.cfn_store.specs.declared.scan.Sense.TheVariants.{Least, Greatest};
-ghost use Rattle.cfn_store.specs.Extremes.{NonePicked, IsExtreme, NoneBetween, IsLeastBetween, IsFree};
+ghost use Rattle.cfn_store.specs.Extremes.{NonePicked, IsExtreme, NoneBetween, IsLeastBetween, IsFree, IsNumbered};
 ghost use Rattle.cfn_store.specs.Lines.{IsLine, IsSide};
 ghost use Rattle.cfn_store.specs.Doubts.{AreFreeBetween, AreFreeFrom, IsDoubt, IsLacking, IsSeen};
 ghost use Rattle.cfn_store.specs.Unaries.{AreUnaries};
@@ -314,6 +314,36 @@ impl<'n> Store<'n> {
         ensures { AreLive (sets_of self.now) x result.now }
     {
         self.state.live.live(x)
+    }
+
+    /// The residual cost of the tuple of `f` with the number `cell`, below 2^64; 0 where the tuple is not live, and where `f`
+    /// has no variable. The last variable's value runs fastest in a tuple's number. It takes no memory.
+    pub fn residual(&self, f: u32, cell: u32) -> u64
+        requires { IsCell self.now.network f cell }
+        ensures live { (tuple : List ℕ) → IsNumbered self.now.network f cell tuple
+            → IsTrue (is_live_tuple self.now.network (history self.now) f tuple)
+            → residual self.now.network (history self.now) f tuple ≡ pos result }
+        ensures dead { (tuple : List ℕ) → IsNumbered self.now.network f cell tuple
+            → is_live_tuple self.now.network (history self.now) f tuple ≡ false → result ≡ 0 }
+    {
+        self.network.limits();
+        if self.network.scope(f).is_empty() {
+            return 0;
+        }
+        match self.state.at(self.network, &self.tables, f, cell) {
+            Some(found) => found.cost,
+            None => 0,
+        }
+    }
+
+    /// Whether the tuple of `f` with the number `cell` is live: its values are, its entry is below the upper bound, and it is
+    /// not cut. It takes no memory.
+    pub fn is_live_cell(&self, f: u32, cell: u32) -> bool
+        requires { IsCell self.now.network f cell }
+        ensures { (tuple : List ℕ) → IsNumbered self.now.network f cell tuple
+            → result ≡ is_live_tuple self.now.network (history self.now) f tuple }
+    {
+        self.state.at(self.network, &self.tables, f, cell).is_some()
     }
 
     /// The least residual cost of the live tuples of `f` with `value` at `place`, and a tuple that has it. There is none

@@ -1,6 +1,4 @@
-use Rattle.std.proofs.Common.{rules, arith, ◌≡◌, ◌∙◌, ◌<◌, ◌++◌, length, get_or, take, ap, sym}
-use Rattle.std.proofs.lemmas.Grind.{common_steps}
-use Rattle.cfn_model.specs.declared.step.Event.{Event as PathEvent}
+use Rattle.std.proofs.Common.{rules, arith, ◌≡◌, ◌∙◌, ◌<◌, ◌++◌, length, get_or, take, ap}
 use Rattle.cfn_store.specs.Events.{with_first}
 use Rattle.cfn_store.proofs.Onward.{taken_out, one_in_common}
 use Rattle.cfn_store.proofs.state.in_common.Goals as goal

@@ -1,26 +1,21 @@
-use Rattle.std.proofs.Common.{ℕ, ◌<◌, arith, subst, sym, ap, ◌∙◌, length, slice_index}
-use Rattle.cfn_model.specs.Network.{Network, IsNetwork, arity, scope_at, variable_at}
-use Rattle.cfn_model.specs.Steps.{IsPlace}
-use Rattle.cfn_net.proofs.CallerLemmas.{get_or-dims}
-use Rattle.cfn_store.specs.Reading.{start}
+use Rattle.std.proofs.Common.{◌≡◌, ℕ, ◌<◌, arith, refl, subst, sym, ap, ◌∙◌, length, slice_index}
+use Rattle.cfn_model.specs.Network.{Network, IsNetwork, variable_at}
+use Rattle.cfn_store.specs.declared.scan.Pin.{Pin}
+use Rattle.cfn_store.specs.Reading.{MayAsk, start}
 use Rattle.cfn_store.specs.Scanning.{IsSpot}
 use Rattle.cfn_store.specs.State.{history_of}
 use Rattle.cfn_store.proofs.Along.{exact_here}
 use Rattle.cfn_store.proofs.Lines.{two_of}
 use Rattle.cfn_store.proofs.state.State.side.Goals as goal
 
-zero_there : (P : Network) (f i : ℕ) → IsNetwork P → f < length P.functions → i < arity P f → IsPlace P f i 0
-zero_there P f i net there place = record {
-  function = there;
-  place = place;
-  value = let d = get_or-dims P.sizes (scope_at P f) i place in let s = net.sizes (variable_at P f i) ((net.functions f there).variables i place) in let l = s.0 in omega (arith, d, l);
-}
+may_ask_zero : (P : Network) (f : ℕ) (pin : Pin) → IsNetwork P → f < length P.functions → pin.value ≡ 0 → MayAsk P f pin
+may_ask_zero P f pin net there zero p place e = (let s = net.sizes (variable_at P f p) ((net.functions f there).variables p place) in let l = s.0 in omega (arith, l, zero))
 
 pub scan-scan-requires-clause-one : goal.scan-scan-requires-clause-one
-scan-scan-requires-clause-one c = zero_there c.args.network.now c.args.f c.args.place c.limits.ensures c.requires.function (let two = c.requires.two in let l = c.requires.place in omega (arith, two, l))
+scan-scan-requires-clause-one c = may_ask_zero c.args.network.now c.args.f (record { place = c.args.place; value = 0 }) c.limits.ensures c.requires.function refl
 
 pub scan-scan-requires-clause-two : goal.scan-scan-requires-clause-two
-scan-scan-requires-clause-two c = zero_there c.args.network.now c.args.f c.args.place c.limits.ensures c.requires.function (let two = c.requires.two in let l = c.requires.place in omega (arith, two, l))
+scan-scan-requires-clause-two c = may_ask_zero c.args.network.now c.args.f (record { place = c.args.place; value = 0 }) c.limits.ensures c.requires.function refl
 
 pub of-requires-clause-spot : goal.of-requires-clause-spot
 of-requires-clause-spot c =

@@ -1,4 +1,4 @@
-use Rattle.std.proofs.Common.{◌≡◌, ◌∙◌, ◌++◌, length, take, ap, sym, subst, reverse, arith}
+use Rattle.std.proofs.Common.{◌∙◌, ◌++◌, length, take, ap, sym, subst, reverse, arith}
 use Rattle.cfn_store.specs.Events.{with_first}
 use Rattle.cfn_store.specs.Exact.{IsExactAlong}
 use Rattle.cfn_store.specs.Standing.{Standing}
