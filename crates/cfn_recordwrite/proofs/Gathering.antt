@@ -1,31 +1,13 @@
 -- What bytes that are gathered add up to.
-use Rattle.std.proofs.Common.{◌≡◌, ℕ, ◌<◌, ◌≤◌, ◌+◌, ◌/◌, ◌%◌, List, [], ◌∷◌, ◌++◌, Result, Ok, Err, sym, ap, ap₂, ◌∙◌, subst, append_assoc, arith}
-use Rattle.std.specs.Prelude.{IsErr, decimal}
+use Rattle.std.proofs.Common.{◌≡◌, ℕ, List, [], ◌++◌, Result, Ok, Err, sym, ap, ◌∙◌, subst, append_assoc}
+use Rattle.std.specs.Prelude.{IsErr}
 use Rattle.std.proofs.lemmas.Bool.{false≢true}
 use Rattle.std.proofs.lemmas.List.{append-nil}
-use Rattle.std.proofs.lemmas.Fmt.{decimal_digit, decimal_step}
-use Rattle.cfn_model.specs.Text.{line}
 use Rattle.cfn_desk.specs.Outside.{Outside, IsWriting}
 use Rattle.cfn_line.specs.Appending.{Midway}
 use Rattle.cfn_line.specs.declared.channel.Channel.TheVariants.{File}
 use Rattle.cfn_line.proofs.CallerLemmas.{ok, err, then, begin, halt}
 use Rattle.cfn_recordwrite.specs.Batches.{Gathers}
-
--- a number of one digit, and one of two
-pub one_digit : (old now : List ℕ) (n end d : ℕ) → n < 10 → d ≡ 48 + n → now ≡ old ++ d ∷ end ∷ [] → now ≡ old ++ decimal n ++ end ∷ []
-one_digit old now n end d less is added =
-    added
-    ∙ ap (λ x. old ++ x ∷ end ∷ []) is
-    ∙ ap (λ ds. old ++ (ds ++ end ∷ [])) (sym (decimal_digit n less))
-    ∙ sym (append_assoc old (decimal n) (end ∷ []))
-
-pub two_digits : (old now : List ℕ) (n end d e : ℕ) → 10 ≤ n → n < 100 → d ≡ 48 + n / 10 → e ≡ 48 + n % 10 → now ≡ old ++ d ∷ e ∷ end ∷ [] → now ≡ old ++ decimal n ++ end ∷ []
-two_digits old now n end d e more less first second added =
-    let digits : decimal n ≡ (48 + n / 10) ∷ (48 + n % 10) ∷ [] = decimal_step n more (omega arith) ∙ ap (λ ds. ds ++ (48 + n % 10) ∷ []) (decimal_digit (n / 10) (omega arith)) in
-    added
-    ∙ ap₂ (λ x y. old ++ x ∷ y ∷ end ∷ []) first second
-    ∙ ap (λ ds. old ++ (ds ++ end ∷ [])) (sym digits)
-    ∙ sym (append_assoc old (decimal n) (end ∷ []))
 
 -- some of what waits is put
 pub go_on : {T E : Type 0} {before mid now : Outside} {text had waiting waits : List ℕ} {x : T} (rest : List ℕ) → had ≡ waiting ++ rest → Midway File before text had mid → Gathers mid waiting (ok T E x) now waits → Midway File before text (waits ++ rest) now
@@ -62,15 +44,6 @@ gathered {before = before} {now = now} {text = text} is midway = record {
   ok = subst (λ (t : List ℕ). Midway File before text t now) (sym is) midway;
   err = tt;
 }
-
-regroup : (b l f i a m : List ℕ) → (((b ++ l) ++ f ++ 32 ∷ []) ++ i ++ 32 ∷ []) ++ a ++ 32 ∷ [] ++ m ++ 10 ∷ [] ≡ b ++ l ++ line (f ∷ i ∷ a ∷ m ∷ [])
-regroup b l f i a m = simp append_assoc
-
--- the line of four numbers behind a letter
-pub four_numbers : (b l f i a m b₀ b₁ b₂ b₃ b₄ : List ℕ) → b₀ ≡ b ++ l → b₁ ≡ b₀ ++ f ++ 32 ∷ [] → b₂ ≡ b₁ ++ i ++ 32 ∷ [] → b₃ ≡ b₂ ++ a ++ 32 ∷ [] → b₄ ≡ b₃ ++ m ++ 10 ∷ [] → b₄ ≡ b ++ l ++ line (f ∷ i ∷ a ∷ m ∷ [])
-four_numbers b l f i a m b₀ b₁ b₂ b₃ b₄ e₀ e₁ e₂ e₃ e₄ =
-    e₄ ∙ ap (λ t. t ++ m ++ 10 ∷ []) (e₃ ∙ ap (λ t. t ++ a ++ 32 ∷ []) (e₂ ∙ ap (λ t. t ++ i ++ 32 ∷ []) (e₁ ∙ ap (λ t. t ++ f ++ 32 ∷ []) e₀)))
-    ∙ regroup b l f i a m
 
 -- nothing is left to be gathered
 pub at_end : {before now : Outside} {text waits : List ℕ} → Midway File before text (waits ++ []) now → Midway File before text waits now

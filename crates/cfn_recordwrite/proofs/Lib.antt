@@ -1,3 +1,4 @@
+mod Digits
 mod Gathering
 mod Lines
 mod Spellings

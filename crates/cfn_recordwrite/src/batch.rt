@@ -1,6 +1,7 @@
 //! Bytes that are gathered for the file, so that many lines are put by one call.
 
-ghost use Rattle.std.specs.Prelude.{◌≡◌, ◌+◌, ◌<◌, ◌≤◌, [], ◌∷◌, ◌++◌, decimal, length, OnOk};
+ghost use Rattle.std.specs.Prelude.{◌≡◌, ◌+◌, ◌<◌, ◌≤◌, [], ◌∷◌, ◌++◌, decimal, length, take, OnOk};
+ghost use Rattle.cfn_model.specs.Text.{line};
 ghost use Rattle.cfn_desk.specs.Outside.{IsWriting};
 ghost use Rattle.cfn_line.specs.Appending.{Appends};
 ghost use Rattle.cfn_line.specs.declared.channel.Channel.TheVariants.{File};
@@ -19,6 +20,16 @@ const LINE_ROOM: usize = 96;
 
 /// The most digits of a number of 64 bits.
 const DIGITS: usize = 20;
+
+/// The two digits of each number below 100.
+static PAIRS: [u8; 200] =
+    *b"00010203040506070809101112131415161718192021222324252627282930313233343536373839404142434445464748495051525354555657585960616263646566676869707172737475767778798081828384858687888990919293949596979899";
+
+/// What stands behind a word that is not the last one of its line.
+const SPACE: u8 = b' ';
+
+/// What stands behind the last word of a line.
+const LF: u8 = b'\n';
 
 /// Bytes that wait to be put, at most 4,096 of them. Contracts see the list of them.
 #[derive(Drop)]
@@ -79,45 +90,76 @@ impl Batch {
         requires { length self.old + length bytes.now ≤ 4096 }
         ensures { self.new ≡ self.old ++ bytes.now }
     {
-        let end = self.len + bytes.len();
-        self.bytes[self.len..end].copy_from_slice(bytes);
-        self.len = end;
+        self.len = write(&mut self.bytes, self.len, bytes);
     }
 
-    /// Keeps a number's digits, and the byte behind them: 21 bytes at most.
+    /// Keeps the line of a letter and four numbers, of at most 86 bytes.
     #[inline(always)]
-    pub(crate) fn add_number(&mut self, number: u64, end: u8)
-        requires { length self.old + 21 ≤ 4096 }
-        ensures is { self.new ≡ self.old ++ decimal number ++ end ∷ [] }
-        ensures few { length self.new ≤ length self.old + 21 }
+    pub(crate) fn add_four(&mut self, letter: u8, first: u64, second: u64, third: u64, fourth: u64)
+        requires { length self.old + 96 ≤ 4096 }
+        ensures { self.new ≡ self.old
+            ++ line ((letter ∷ []) ∷ decimal first ∷ decimal second ∷ decimal third ∷ decimal fourth ∷ []) }
     {
-        if number < 10 {
-            self.add(&[digit(number), end]);
-        } else if number < 100 {
-            self.add(&[digit(number / 10), digit(number % 10), end]);
-        } else {
-            self.add_long(number, end);
-        }
+        let at = write(&mut self.bytes, self.len, &[letter, SPACE]);
+        let at = write_number(&mut self.bytes, at, first, SPACE);
+        let at = write_number(&mut self.bytes, at, second, SPACE);
+        let at = write_number(&mut self.bytes, at, third, SPACE);
+        self.len = write_number(&mut self.bytes, at, fourth, LF);
     }
 
-    /// The same for a number of any size.
-    #[inline(never)]
-    fn add_long(&mut self, number: u64, end: u8)
-        requires { length self.old + 21 ≤ 4096 }
-        ensures is { self.new ≡ self.old ++ decimal number ++ end ∷ [] }
-        ensures few { length self.new ≤ length self.old + 21 }
+    /// Keeps the line of a name and two numbers, of at most 48 bytes. The name comes with the space behind it.
+    #[inline(always)]
+    pub(crate) fn add_two(&mut self, name: &[u8], first: u64, second: u64)
+        requires room { length self.old + 96 ≤ 4096 }
+        requires short { length name.now ≤ 6 }
+        ensures { self.new ≡ self.old ++ name.now ++ line (decimal first ∷ decimal second ∷ []) }
     {
-        let mut piece = [end; DIGITS + 1];
-        let start = write_digits(number, &mut piece, DIGITS);
-        self.add(&piece[start..]);
+        let at = write(&mut self.bytes, self.len, name);
+        let at = write_number(&mut self.bytes, at, first, SPACE);
+        self.len = write_number(&mut self.bytes, at, second, LF);
     }
 }
 
-/// The digit of a number below 10.
+/// Writes bytes at a place, and answers the place behind them.
 #[inline(always)]
-fn digit(number: u64) -> u8
-    requires { number < 10 }
-    ensures { result ≡ 48 + number }
+fn write(room: &mut [u8], at: usize, bytes: &[u8]) -> usize
+    requires { at + length bytes.now ≤ length room.old }
+    ensures end { result ≡ at + length bytes.now }
+    ensures is { take result room.new ≡ take at room.old ++ bytes.now }
+    ensures room { length room.new ≡ length room.old }
 {
-    b'0' + number as u8
+    let end = at + bytes.len();
+    room[at..end].copy_from_slice(bytes);
+    end
+}
+
+/// Writes a number's digits at a place, and the byte behind them: 21 bytes at most. It answers the place behind that.
+#[inline(always)]
+fn write_number(room: &mut [u8], at: usize, number: u64, end: u8) -> usize
+    requires { at + 21 ≤ length room.old }
+    ensures few { result ≤ at + 21 }
+    ensures is { take result room.new ≡ take at room.old ++ decimal number ++ end ∷ [] }
+    ensures room { length room.new ≡ length room.old }
+{
+    if number < 10 {
+        return write(room, at, &[b'0' + number as u8, end]);
+    }
+    if number < 100 {
+        let pair = number as usize * 2;
+        return write(room, at, &[PAIRS[pair], PAIRS[pair + 1], end]);
+    }
+    write_long(room, at, number, end)
+}
+
+/// The same for a number of any size.
+#[inline(never)]
+fn write_long(room: &mut [u8], at: usize, number: u64, end: u8) -> usize
+    requires { at + 21 ≤ length room.old }
+    ensures few { result ≤ at + 21 }
+    ensures is { take result room.new ≡ take at room.old ++ decimal number ++ end ∷ [] }
+    ensures room { length room.new ≡ length room.old }
+{
+    let mut piece = [end; DIGITS + 1];
+    let start = write_digits(number, &mut piece, DIGITS);
+    write(room, at, &piece[start..])
 }

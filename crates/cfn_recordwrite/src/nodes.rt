@@ -14,12 +14,6 @@ use cfn_certwrite::next_node;
 use cfn_desk::{Desk, Failed};
 use cfn_proof::{Block, Decision, End, Node, Step, Tree};
 
-/// What stands behind a word that is not the last one of its line.
-const SPACE: u8 = b' ';
-
-/// What stands behind the last word of a line.
-const LF: u8 = b'\n';
-
 /// Puts the lines of a tree, many of them by one put. It takes no memory. An `Err` is a put that failed behind some front
 /// of them.
 pub(crate) fn put_tree<D: Desk>(tree: &Tree, desk: &mut D) -> Result<(), Failed>
@@ -74,44 +68,41 @@ fn add_step(step: Step, batch: &mut Batch)
             place,
             value,
             amount,
-        } => add_shift(b"p ", function, place, value, amount, batch),
+        } => batch.add_four(
+            b'p',
+            u64::from(function),
+            u64::from(place),
+            u64::from(value),
+            amount,
+        ),
         Step::Extend {
             function,
             place,
             value,
             amount,
-        } => add_shift(b"e ", function, place, value, amount, batch),
-        Step::Lift { variable, amount } => add_pair(b"u ", variable, amount, batch),
-        Step::CutValue { variable, value } => add_pair(b"v ", variable, u64::from(value), batch),
-        Step::CutTuple { function, cell } => add_pair(b"t ", function, u64::from(cell), batch),
+        } => batch.add_four(
+            b'e',
+            u64::from(function),
+            u64::from(place),
+            u64::from(value),
+            amount,
+        ),
+        Step::Lift { variable, amount } => batch.add_two(
+            &[b'u', b' '],
+            u64::from(variable),
+            amount,
+        ),
+        Step::CutValue { variable, value } => batch.add_two(
+            &[b'v', b' '],
+            u64::from(variable),
+            u64::from(value),
+        ),
+        Step::CutTuple { function, cell } => batch.add_two(
+            &[b't', b' '],
+            u64::from(function),
+            u64::from(cell),
+        ),
     }
-}
-
-/// Adds the line of a project or an extend: its letter and a space, function, place, value and amount.
-#[inline(always)]
-fn add_shift(letter: &[u8], function: u32, place: u32, value: u32, amount: u64, batch: &mut Batch)
-    requires room { length batch.old + 96 ≤ 4096 }
-    requires short { length letter.now ≤ 6 }
-    ensures { batch.new ≡ batch.old ++ letter.now
-        ++ line (decimal function ∷ decimal place ∷ decimal value ∷ decimal amount ∷ []) }
-{
-    batch.add(letter);
-    batch.add_number(u64::from(function), SPACE);
-    batch.add_number(u64::from(place), SPACE);
-    batch.add_number(u64::from(value), SPACE);
-    batch.add_number(amount, LF);
-}
-
-/// Adds a line of a name and a space, and two numbers.
-#[inline(always)]
-fn add_pair(name: &[u8], first: u32, second: u64, batch: &mut Batch)
-    requires room { length batch.old + 96 ≤ 4096 }
-    requires short { length name.now ≤ 6 }
-    ensures { batch.new ≡ batch.old ++ name.now ++ line (decimal first ∷ decimal second ∷ []) }
-{
-    batch.add(name);
-    batch.add_number(u64::from(first), SPACE);
-    batch.add_number(second, LF);
 }
 
 /// Adds the line of a node's end.
@@ -132,7 +123,15 @@ fn add_decision(decision: Decision, batch: &mut Batch)
     ensures { batch.new ≡ batch.old ++ line (decision_words decision) }
 {
     match decision {
-        Decision::Is { variable, value } => add_pair(b"split ", variable, u64::from(value), batch),
-        Decision::Most { variable, value } => add_pair(b"part ", variable, u64::from(value), batch),
+        Decision::Is { variable, value } => batch.add_two(
+            b"split ",
+            u64::from(variable),
+            u64::from(value),
+        ),
+        Decision::Most { variable, value } => batch.add_two(
+            b"part ",
+            u64::from(variable),
+            u64::from(value),
+        ),
     }
 }
