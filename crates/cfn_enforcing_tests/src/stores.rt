@@ -1,6 +1,7 @@
 //! A store's room, blocks and steps.
 
-ghost use Rattle.std.specs.Prelude.{◌≡◌};
+ghost use Rattle.std.specs.Prelude.{◌≡◌, ◌<◌, length};
+ghost use Rattle.cfn_model.specs.Network.{cells, dims_at};
 ghost use Rattle.cfn_store.specs.Standing.{at_root};
 
 use cfn_model::Step;
@@ -60,6 +61,64 @@ fn newest_in(store: &mut Store<'_>, network: &Network) -> Result<Option<(usize, 
     store.cut_value(0, 1);
     store.cut_value(1, 0);
     Ok(Some((store.block_len(), store.step(1))))
+}
+
+/// Whether each of the four cells of a store's one function is live, and its residual cost; then the same with what can be
+/// projected to the first value of the first variable there, and behind the step back.
+fn cells(alloc: Global, network: &Network) -> Result<Option<[Cells; 3]>, AllocError> {
+    let mut store = Store::build(alloc, network)?;
+    let told = cells_told(&mut store, network);
+    drop(store);
+    told
+}
+
+/// What is told of four cells.
+type Cells = [(bool, u64); 4];
+
+/// The same, of a store at the root.
+fn cells_told(store: &mut Store<'_>, network: &Network) -> Result<Option<[Cells; 3]>, AllocError>
+    requires { store.old ≡ at_root network.now }
+{
+    store.reserve(1)?;
+    network.limits();
+    if network.functions() != 1 || network.cells(0) != 4 || network.scope(0).len() != 2 {
+        return Ok(None);
+    }
+    if network.size(network.scope(0)[0]) != 2 {
+        return Ok(None);
+    }
+    let root = cells_at(store);
+    let mark = store.mark();
+    let room = store.project_room(0, 0, 0);
+    if room == 0 {
+        return Ok(None);
+    }
+    store.project(0, 0, 0, room);
+    let projected = cells_at(store);
+    store.undo(mark);
+    Ok(Some([root, projected, cells_at(store)]))
+}
+
+/// The same, where a store stands.
+fn cells_at(store: &Store<'_>) -> Cells
+    requires function { 0 < length store.now.network.functions }
+    requires cells { cells (dims_at store.now.network 0) ≡ 4 }
+{
+    let mut told = [(false, 0); 4];
+    for cell in 0..4 {
+        told[cell as usize] = (store.is_live_cell(0, cell), store.residual(0, cell));
+    }
+    told
+}
+
+#[test]
+fn tells_each_cell(rt: HostRuntime) -> Result<(), Fail> {
+    let network = pair(rt.alloc())?;
+    let told = cells(rt.alloc(), &network)?;
+    let root = [(true, 2), (true, 7), (false, 0), (true, 2)];
+    let projected = [(true, 0), (true, 5), (false, 0), (true, 2)];
+    assert!(rt; told == Some([root, projected, root]));
+    Ok(())
 }
 
 #[test]

@@ -1,3 +1,4 @@
 mod Adding
+mod Numerals
 mod Sending
 pub mod CallerLemmas

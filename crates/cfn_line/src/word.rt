@@ -6,6 +6,7 @@ ghost use Rattle.cfn_line.specs.Words.{word_text};
 ghost use Rattle.cfn_line.specs.declared.channel.Channel.TheVariants.{File};
 
 use crate::channel::{Channel, send};
+use crate::digits::two_digits;
 use crate::waiting::Line;
 use cfn_desk::{Desk, Failed};
 use itoa::write_digits;
@@ -78,6 +79,9 @@ fn put_name<D: Desk>(name: &[u8], end: u8, desk: &mut D) -> Result<(), Failed>
     ensures { Appends File (D.outside desk.old) (name.now ++ end ∷ []) result
         (D.outside desk.new) }
 {
+    if let [letter] = name {
+        return send(Channel::File, &[*letter, end], desk);
+    }
     if name.len() >= PIECE_ROOM {
         return put_both(name, end, desk);
     }
@@ -110,6 +114,23 @@ fn put_both<D: Desk>(name: &[u8], end: u8, desk: &mut D) -> Result<(), Failed>
 /// Puts a number and the byte behind it, in one call.
 #[inline(always)]
 fn put_number<D: Desk>(number: u64, end: u8, desk: &mut D) -> Result<(), Failed>
+    requires { IsOpen File (D.outside desk.old).calls }
+    ensures { Appends File (D.outside desk.old) (decimal number ++ end ∷ []) result
+        (D.outside desk.new) }
+{
+    if number < 10 {
+        return send(Channel::File, &[b'0' + number as u8, end], desk);
+    }
+    if number < 100 {
+        let [tens, ones] = two_digits(number);
+        return send(Channel::File, &[tens, ones, end], desk);
+    }
+    put_long(number, end, desk)
+}
+
+/// The same of a number of any size.
+#[inline(never)]
+fn put_long<D: Desk>(number: u64, end: u8, desk: &mut D) -> Result<(), Failed>
     requires { IsOpen File (D.outside desk.old).calls }
     ensures { Appends File (D.outside desk.old) (decimal number ++ end ∷ []) result
         (D.outside desk.new) }

@@ -1,4 +1,3 @@
-mod Digits
 mod Gathering
 mod Lines
 mod Spellings

@@ -8,7 +8,7 @@ ghost use Rattle.cfn_line.specs.declared.channel.Channel.TheVariants.{File};
 ghost use Rattle.cfn_recordwrite.specs.Batches.{Gathers};
 
 use cfn_desk::{Desk, Failed};
-use cfn_line::{Channel, send};
+use cfn_line::{Channel, send, two_digits};
 use itoa::write_digits;
 use std::marker::Model;
 
@@ -20,10 +20,6 @@ const LINE_ROOM: usize = 96;
 
 /// The most digits of a number of 64 bits.
 const DIGITS: usize = 20;
-
-/// The two digits of each number below 100.
-static PAIRS: [u8; 200] =
-    *b"00010203040506070809101112131415161718192021222324252627282930313233343536373839404142434445464748495051525354555657585960616263646566676869707172737475767778798081828384858687888990919293949596979899";
 
 /// What stands behind a word that is not the last one of its line.
 const SPACE: u8 = b' ';
@@ -145,8 +141,8 @@ fn write_number(room: &mut [u8], at: usize, number: u64, end: u8) -> usize
         return write(room, at, &[b'0' + number as u8, end]);
     }
     if number < 100 {
-        let pair = number as usize * 2;
-        return write(room, at, &[PAIRS[pair], PAIRS[pair + 1], end]);
+        let [tens, ones] = two_digits(number);
+        return write(room, at, &[tens, ones, end]);
     }
     write_long(room, at, number, end)
 }

@@ -31,6 +31,8 @@ pub(crate) enum Fault {
     Least(Place),
     Support(Place),
     Greatest(Place),
+    /// Whether a tuple is live, or its residual cost, which is 0 where it is dead.
+    Cell { function: u32, cell: u32 },
     /// The judge did not go through the tuples of a function.
     Tuples { function: u32 },
 }
@@ -121,6 +123,9 @@ fn fault_in(
     let Some(tuples) = live_tuples(alloc, network, history, f)? else {
         return Ok(Some(Fault::Tuples { function: f }));
     };
+    if let Some(fault) = fault_at_cell(network, store, &tuples, f) {
+        return Ok(Some(fault));
+    }
     let scope = network.scope(f);
     let Ok(places) = u32::try_from(scope.len()) else {
         return Ok(Some(Fault::Tuples { function: f }));
@@ -131,6 +136,34 @@ fn fault_in(
         }
     }
     Ok(None)
+}
+
+/// The first that it tells wrong of a tuple of a function with these live tuples, the least number first.
+fn fault_at_cell(
+    network: &Network,
+    store: &Store<'_>,
+    tuples: &[LiveTuple],
+    function: u32,
+) -> Option<Fault>
+    requires network { store.now.network ≡ network.now }
+    requires function { function < length network.now.functions }
+{
+    let mut left = tuples.iter();
+    let mut next = left.next();
+    for cell in 0..network.cells(function) {
+        let mut told = (false, 0);
+        if let Some(tuple) = next {
+            if tuple.cell == cell {
+                told = (true, tuple.cost);
+                next = left.next();
+            }
+        }
+        let residual = store.residual(function, cell) as i128;
+        if (store.is_live_cell(function, cell), residual) != told {
+            return Some(Fault::Cell { function, cell });
+        }
+    }
+    None
 }
 
 /// The first that it tells wrong of a place of a function with these live tuples.

@@ -1,9 +1,9 @@
 -- Numbers of one digit and of two, and the table of the two digits of a number.
-use Rattle.std.proofs.Common.{◌≡◌, ℕ, zero, suc, ◌<◌, ◌≤◌, ◌+◌, ◌*◌, ◌/◌, ◌%◌, Bool, true, ◌&&◌, List, [], ◌∷◌, ◌++◌, inl, inr, refl, sym, ap, ap₂, subst, ◌∙◌, append_assoc, arith, eqb-true}
+use Rattle.std.proofs.Common.{◌≡◌, ℕ, zero, suc, ◌<◌, ◌≤◌, ◌+◌, ◌*◌, ◌/◌, ◌%◌, Bool, true, ◌&&◌, [], ◌∷◌, ◌++◌, inl, inr, refl, sym, ap, subst, ◌∙◌, arith, eqb-true}
 use Rattle.std.specs.Prelude.{decimal, slice_index, ◌==◌}
 use Rattle.std.proofs.lemmas.Bool.{and_parts, cases_eq}
 use Rattle.std.proofs.lemmas.Fmt.{decimal_digit, decimal_step}
-use Rattle.cfn_recordwrite.specs.declared.batch.TheConstants.{PAIRS}
+use Rattle.cfn_line.specs.declared.digits.TheConstants.{PAIRS}
 
 -- the table's bytes for the numbers below one are their digits
 abbrev are_pairs : ℕ → Bool
@@ -24,17 +24,10 @@ pub pair_at : (p : ℕ) → p < 100 → (slice_index PAIRS (p * 2) ≡ 48 + p / 
 pair_at p l = below 100 p refl l
 
 -- a number of one digit, and one of two
-pub one_digit : (old now : List ℕ) (n end d : ℕ) → n < 10 → d ≡ 48 + n → now ≡ old ++ d ∷ end ∷ [] → now ≡ old ++ decimal n ++ end ∷ []
-one_digit old now n end d less is added =
-    added
-    ∙ ap (λ x. old ++ x ∷ end ∷ []) is
-    ∙ ap (λ ds. old ++ (ds ++ end ∷ [])) (sym (decimal_digit n less))
-    ∙ sym (append_assoc old (decimal n) (end ∷ []))
+pub one_digit : (n end : ℕ) → n < 10 → (48 + n) ∷ end ∷ [] ≡ decimal n ++ end ∷ []
+one_digit n end less = ap (λ ds. ds ++ end ∷ []) (sym (decimal_digit n less))
 
-pub two_digits : (old now : List ℕ) (n end d e : ℕ) → 10 ≤ n → n < 100 → d ≡ 48 + n / 10 → e ≡ 48 + n % 10 → now ≡ old ++ d ∷ e ∷ end ∷ [] → now ≡ old ++ decimal n ++ end ∷ []
-two_digits old now n end d e more less first second added =
+pub pair_digits : (n end d e : ℕ) → 10 ≤ n → n < 100 → d ∷ e ∷ [] ≡ (48 + n / 10) ∷ (48 + n % 10) ∷ [] → d ∷ e ∷ end ∷ [] ≡ decimal n ++ end ∷ []
+pair_digits n end d e more less is =
     let digits : decimal n ≡ (48 + n / 10) ∷ (48 + n % 10) ∷ [] = decimal_step n more (omega arith) ∙ ap (λ ds. ds ++ (48 + n % 10) ∷ []) (decimal_digit (n / 10) (omega arith)) in
-    added
-    ∙ ap₂ (λ x y. old ++ x ∷ y ∷ end ∷ []) first second
-    ∙ ap (λ ds. old ++ (ds ++ end ∷ [])) (sym digits)
-    ∙ sym (append_assoc old (decimal n) (end ∷ []))
+    ap (λ ds. ds ++ end ∷ []) (is ∙ sym digits)
