@@ -64,8 +64,8 @@ fn newest_in(store: &mut Store<'_>, network: &Network) -> Result<Option<(usize, 
 }
 
 /// Whether each of the four cells of a store's one function is live, and its residual cost; then the same with what can be
-/// projected to the first value of the first variable there, and behind the step back.
-fn cells(alloc: Global, network: &Network) -> Result<Option<[Cells; 3]>, AllocError> {
+/// projected to the first value of the first variable there.
+fn cells(alloc: Global, network: &Network) -> Result<Option<[Cells; 2]>, AllocError> {
     let mut store = Store::build(alloc, network)?;
     let told = cells_told(&mut store, network);
     drop(store);
@@ -76,7 +76,7 @@ fn cells(alloc: Global, network: &Network) -> Result<Option<[Cells; 3]>, AllocEr
 type Cells = [(bool, u64); 4];
 
 /// The same, of a store at the root.
-fn cells_told(store: &mut Store<'_>, network: &Network) -> Result<Option<[Cells; 3]>, AllocError>
+fn cells_told(store: &mut Store<'_>, network: &Network) -> Result<Option<[Cells; 2]>, AllocError>
     requires { store.old ≡ at_root network.now }
 {
     store.reserve(1)?;
@@ -88,15 +88,12 @@ fn cells_told(store: &mut Store<'_>, network: &Network) -> Result<Option<[Cells;
         return Ok(None);
     }
     let root = cells_at(store);
-    let mark = store.mark();
     let room = store.project_room(0, 0, 0);
     if room == 0 {
         return Ok(None);
     }
     store.project(0, 0, 0, room);
-    let projected = cells_at(store);
-    store.undo(mark);
-    Ok(Some([root, projected, cells_at(store)]))
+    Ok(Some([root, cells_at(store)]))
 }
 
 /// The same, where a store stands.
@@ -117,7 +114,7 @@ fn tells_each_cell(rt: HostRuntime) -> Result<(), Fail> {
     let told = cells(rt.alloc(), &network)?;
     let root = [(true, 2), (true, 7), (false, 0), (true, 2)];
     let projected = [(true, 0), (true, 5), (false, 0), (true, 2)];
-    assert!(rt; told == Some([root, projected, root]));
+    assert!(rt; told == Some([root, projected]));
     Ok(())
 }
 
