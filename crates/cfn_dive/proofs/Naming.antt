@@ -1,6 +1,6 @@
 -- By which decision a leaf is split.
-use Rattle.std.proofs.Common.{◌≡◌, ℕ, ◌+◌, List, refl, sym, ap, ◌∙◌, subst}
-use Rattle.std.specs.Prelude.{Option, Some, Result, Ok, Err, OnOk, IfSome}
+use Rattle.std.proofs.Common.{◌≡◌, ℕ, ◌+◌, List, sym, ap, ◌∙◌, subst}
+use Rattle.std.specs.Prelude.{Option, Result, Ok, Err, OnOk}
 use Rattle.cfn_model.specs.declared.step.Decision.{Decision}
 use Rattle.cfn_model.specs.declared.step.Event.{Event}
 use Rattle.cfn_model.specs.Certificate.{Solution}
@@ -10,7 +10,7 @@ use Rattle.cfn_proof.specs.declared.tree.NodeId.{NodeId}
 use Rattle.cfn_proof.specs.declared.tree.Node.{Node}
 use Rattle.cfn_proof.specs.declared.tree.End.TheVariants.{Split}
 use Rattle.cfn_proof.specs.Nodes.{split_end}
-use Rattle.cfn_store.specs.Standing.{Standing, history}
+use Rattle.cfn_store.specs.Standing.{Standing}
 use Rattle.cfn_branch.specs.declared.rule.Rule.{Rule}
 use Rattle.cfn_dive.specs.Deciding.{IsByRule, IsSplitByRule}
 

@@ -1,6 +1,6 @@
 -- The store goes on behind the leaf that is expanded.
-use Rattle.std.proofs.Common.{◌≡◌, ℕ, ◌+◌, ◌<◌, ◌≤◌, ◌^◌, ◌++◌, Bool, true, false, inl, List, [], length, sym, ap, ◌∙◌, subst, arith}
-use Rattle.std.specs.Prelude.{Some, MatchOption}
+use Rattle.std.proofs.Common.{◌≡◌, ℕ, ◌+◌, ◌<◌, ◌≤◌, ◌^◌, ◌++◌, Bool, true, false, inl, inr, List, [], length, refl, sym, ap, ◌∙◌, subst, arith}
+use Rattle.std.specs.Prelude.{Some, MatchOption, Result, Ok, Err, IfOk, OnOk}
 use Rattle.cfn_model.specs.declared.step.Event.{Event}
 use Rattle.cfn_model.specs.declared.step.Step.{Step}
 use Rattle.cfn_model.specs.Network.{Network}
@@ -14,11 +14,13 @@ use Rattle.cfn_store.specs.Standing.{Standing, history}
 use Rattle.cfn_trim.specs.Trimming.{IsBegin}
 use Rattle.cfn_nc.specs.declared.settling.Settling.{Settling}
 use Rattle.cfn_nc.specs.declared.settling.Settling.TheVariants.{Settled, Spent}
-use Rattle.cfn_node.specs.Enforcing.{GoesOn, Finds, IsSpent}
+use Rattle.cfn_node.specs.Enforcing.{GoesOn, Finds, Groups, IsSpent}
 use Rattle.cfn_node.specs.Limit.{step_limit}
+use Rattle.cfn_node.proofs.CallerLemmas.{block_groups}
 use Rattle.cfn_dive.specs.declared.parts.Parts.{Parts}
 use Rattle.cfn_dive.specs.declared.growth.Growth.{Growth}
 use Rattle.cfn_dive.specs.declared.growth.Leaf.{Leaf}
+use Rattle.cfn_dive.specs.Growing.{InGroups}
 use Rattle.cfn_dive.specs.Diving.{IsAt, IsDiving, IsClosing, IsSettledOrSpent}
 use Rattle.cfn_dive.proofs.Trees.{grown_lower}
 
@@ -52,7 +54,7 @@ diving_lower P p g leaf k diving is less =
         grown = grown_lower P g.base.value g.threshold k g.granted g.tree g.nodes g.left less diving.kept.grown;
         waiting = diving.kept.waiting;
       };
-      at = subst (λ o. MatchOption o (open_leaves (tree_of g.tree) ≡ 0) (IsAt P p (record g { threshold = k }))) (sym is) (record { stack = at.stack; block = at.block; floor = at.floor; since = at.since });
+      at = subst (λ o. MatchOption o (open_leaves (tree_of g.tree) ≡ 0) (IsAt P p (record g { threshold = k }))) (sym is) (record { stack = at.stack; block = at.block; floor = at.floor; since = at.since; root = at.root });
     }
 
 -- the floor of the current leaf reaches the threshold
@@ -84,3 +86,10 @@ settled_alive P path k found is finds = (subst (Finds P path k) is finds).1
 
 pub spent_alive : (P : Network) (path : List Event) (k : ℕ) (found : Settling) → found ≡ Spent → Finds P path k found → CanClose P path k → ⊥
 spent_alive P path k found is finds = (subst (Finds P path k) is finds).0
+
+-- what was made at a leaf, at the root and below it
+pub groups_made : {E : Type 0} (is_root : Bool) (before now : Standing) (result : Result Settling E) → (is_root ≡ true → before.base ≡ []) → now.base ≡ before.base → before.block ≡ [] → (is_root ≡ false → IfOk result (Groups before now)) → OnOk result (InGroups now.network now.base now.block)
+groups_made true before now (Ok found) root base empty gains = inl (base ∙ root refl)
+groups_made false before now (Ok found) root base empty gains = inr (block_groups before now found empty (gains refl))
+groups_made true before now (Err e) root base empty gains = tt
+groups_made false before now (Err e) root base empty gains = tt

@@ -20,7 +20,7 @@ use Rattle.cfn_dive.specs.declared.parts.Parts.{Parts}
 use Rattle.cfn_dive.specs.declared.parts.Waiting.{Waiting}
 use Rattle.cfn_dive.specs.declared.growth.Growth.{Growth}
 use Rattle.cfn_dive.specs.Stack.{Place, Stack}
-use Rattle.cfn_dive.specs.Growing.{IsEnforced, IsGrown}
+use Rattle.cfn_dive.specs.Growing.{InGroups, IsEnforced, IsGrown}
 use Rattle.cfn_consistency.specs.Consistency.{AreFullyConsistent}
 use Rattle.cfn_consistency.proofs.CallerLemmas.{fulls_rise}
 use Rattle.cfn_node.specs.Enforcing.{GoesOn, IsSettledAt}
@@ -138,9 +138,16 @@ still_of P p s ws network of = record {
 }
 
 -- where a store is settled or its steps are spent, its block is enforced
-pub enforced_here : (P : Network) (s : Standing) (k : ℕ) (settled : Bool) → s.network ≡ P → k ≤ P.upper → IsSettledOrSpent settled s k → IsEnforced P s.base s.block
-enforced_here P s k true network below is = inl (subst (λ Q. AreFullyConsistent Q (history s) P.upper) network (fulls_rise s.network (history s) k P.upper below is))
-enforced_here P s k false network below is = inr (subst (λ Q. step_limit Q ≤ length s.block) network is)
+pub enforced_here : (P : Network) (s : Standing) (k : ℕ) (settled : Bool) → s.network ≡ P → k ≤ P.upper → IsSettledOrSpent settled s k → InGroups s.network s.base s.block → IsEnforced P s.base s.block
+enforced_here P s k true network below is groups = (subst (λ Q. InGroups Q s.base s.block) network groups, inl (subst (λ Q. AreFullyConsistent Q (history s) P.upper) network (fulls_rise s.network (history s) k P.upper below is)))
+enforced_here P s k false network below is groups = (subst (λ Q. InGroups Q s.base s.block) network groups, inr (subst (λ Q. step_limit Q ≤ length s.block) network is))
+
+-- a leaf that is not the whole tree's root
+pub below_root : (b : Bool) (A : Type 0) → b ≡ false → b ≡ true → A
+below_root b A is e = absurd (differ (sym is ∙ e))
+  where
+    differ : false ≡ true → ⊥
+    differ d = cc
 
 -- and where it is settled, a place behind it is
 pub settled_here : (P : Network) (s t : Standing) (k : ℕ) (settled : Bool) → s.network ≡ P → t ≡ s → IsSettledOrSpent settled s k → settled ≡ true → IsSettledAt P (history t)

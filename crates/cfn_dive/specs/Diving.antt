@@ -61,12 +61,13 @@ abbrev pub HasStack : Parts → Growth → NodeId → Type 0
 HasStack p g leaf = Stack g.tree 0 g.base.value (record { leaf = leaf.number; path = p.store.base }) (places p.waiting.items)
 
 -- The store stands at a leaf, with an empty block. The leaf's floor is known, and so is the side that leads there from a
--- place where the network was fully consistent, if it was.
+-- place where the network was fully consistent, if it was. Only where no event stands before it is it the whole tree's root.
 pub record IsAt (P : Network) (p : Parts) (g : Growth) (leaf : Leaf) : Type 0 where
   pub stack : HasStack p g leaf.id
   pub block : p.store.block ≡ []
   pub floor : leaf.floor ≡ floor P p.store.base
   pub since : IfSome leaf.since (IsBehindSettled p.store)
+  pub root : leaf.is_root ≡ true → p.store.base ≡ []
 
 -- Between two expansions: the store stands at the current leaf, or no leaf is open.
 pub record IsDiving (P : Network) (p : Parts) (g : Growth) : Type 0 where

@@ -8,14 +8,21 @@ use Rattle.cfn_model.specs.Paths.{Tame}
 use Rattle.cfn_model.specs.Steps.{after}
 use Rattle.cfn_model.specs.Tree.{Tree, Open, Closed, Split, Valid, Strict, count}
 use Rattle.cfn_consistency.specs.Consistency.{AreFullyConsistent}
+use Rattle.cfn_consistency.specs.Groups.{AreOpenGroups}
 use Rattle.cfn_proof.specs.declared.tree.Node.{Node}
 use Rattle.cfn_proof.specs.Nodes.{tree_of}
 use Rattle.cfn_node.specs.Limit.{step_limit}
 use Rattle.cfn_explore.specs.Backtracks.{backtracks}
 
--- Behind a block the network is fully consistent at its upper bound, or the block has all steps that it may have.
+-- The steps of a block fall into groups, each of which gains something; the last one may be unfinished. At the root of the whole
+-- tree, where virtual arc consistency makes steps too, nothing is said.
+abbrev pub InGroups : Network → List Event → List Step → Type 0
+InGroups P history block = (history ≡ []) ⊎ AreOpenGroups P history block
+
+-- A block's steps fall into groups, and behind it the network is fully consistent at its upper bound, or the block has all steps
+-- that it may have.
 abbrev pub IsEnforced : Network → List Event → List Step → Type 0
-IsEnforced P history block = AreFullyConsistent P (after block history) P.upper ⊎ (step_limit P ≤ length block)
+IsEnforced P history block = InGroups P history block × (AreFullyConsistent P (after block history) P.upper ⊎ (step_limit P ≤ length block))
 
 -- This holds of the block of each split, and an open leaf has no step of its own.
 abbrev pub AreEnforced : Network → List Event → Tree → Type 0

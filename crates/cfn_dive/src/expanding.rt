@@ -1,6 +1,6 @@
 //! One leaf is expanded: it is closed, or split in two.
 
-ghost use Rattle.std.specs.Prelude.{◌≡◌, true, ◌+◌, ◌*◌, ◌<◌, ◌≤◌, ◌^◌, [], ◌∷◌, length, Some, IfOk, IfSome, OnOk};
+ghost use Rattle.std.specs.Prelude.{◌≡◌, true, false, ◌+◌, ◌*◌, ◌<◌, ◌≤◌, ◌^◌, [], ◌∷◌, length, Some, IfOk, IfSome, OnOk};
 ghost use Rattle.cfn_model.specs.Sums.{floor};
 ghost use Rattle.cfn_model.specs.Tree.{CanClose};
 ghost use Rattle.cfn_store.specs.Standing.{history};
@@ -15,6 +15,7 @@ ghost use Rattle.cfn_explore.specs.Falling.{HasFallen};
 ghost use Rattle.cfn_proof.specs.Nodes.{node_at, split_end};
 ghost use Rattle.cfn_proof.specs.declared.tree.End.TheVariants.{Shut};
 ghost use Rattle.cfn_dive.specs.Deciding.{IsSplitByRule};
+ghost use Rattle.cfn_dive.specs.Growing.{InGroups};
 ghost use Rattle.cfn_dive.specs.Diving.{IsOf, IsWaiting, IsDiving, IsExpanding, IsExpanded, IsClosing, IsSettledOrSpent, IsSameDive, place_of};
 
 use crate::growth::{Growth, Leaf};
@@ -26,7 +27,7 @@ use cfn_model::{Decision, Event};
 use cfn_nc::Settling;
 use cfn_net::Network;
 use cfn_node::{Around, Asked, enforce, since, take_values};
-use cfn_proof::{Block, NodeId, Tree};
+use cfn_proof::{Block, NodeId};
 use cfn_store::Mark;
 use cfn_trim::block_stays_tame;
 use std::alloc::{AllocError, Global};
@@ -95,6 +96,7 @@ impl<'n> Parts<'n> {
         requires few { growth.now.nodes + 1 < 2 ^ 64 }
         ensures expanding { OnOk result (IsExpanding self.old.store.network self.new growth.now leaf.id) }
         ensures finds { IfOk result (Finds self.new.store.network (history self.new.store) growth.now.threshold) }
+        ensures groups { OnOk result (InGroups self.new.store.network self.new.store.base self.new.store.block) }
         ensures spent { IfOk result (IsSpent (step_limit network.now) self.new.store) }
         ensures room { OnOk result (length network.now.sizes + 2 * length network.now.functions + 1 ≤ self.new.store.spare) }
         ensures begins { IsBegin self.old.store self.new.store }
@@ -110,7 +112,7 @@ impl<'n> Parts<'n> {
         };
         let around = Around {
             more: network.variables() as usize + 2 * network.functions() as usize + 1,
-            is_root: growth.at_root && leaf.id == Tree::ROOT,
+            is_root: leaf.is_root,
         };
         enforce(
             alloc,
@@ -164,6 +166,7 @@ impl<'n> Parts<'n> {
         requires expanding { IsExpanding self.old.store.network self.old growth.old leaf }
         requires splits { IsSplit self.old.store decision }
         requires settled { IsSettledOrSpent settled self.old.store growth.old.threshold }
+        requires groups { InGroups self.old.store.network self.old.store.base self.old.store.block }
         requires threshold { growth.old.threshold ≤ self.old.store.network.upper }
         requires room { 0 < self.old.store.spare }
         ensures split { OnOk result (node_at growth.new.tree leaf.number ≡ record (node_at growth.old.tree leaf.number) { block = self.old.store.block; end = split_end decision (length growth.old.tree) }) }
@@ -192,6 +195,7 @@ impl<'n> Parts<'n> {
             id: first,
             floor,
             since: since(settled, Event::Took(decision)),
+            is_root: false,
         });
         Ok(())
     }
@@ -284,6 +288,7 @@ impl<'n> Parts<'n> {
         ensures leaf { result.id ≡ waiting.entry.leaf }
         ensures floor { result.floor ≡ floor self.new.store.network self.new.store.base }
         ensures since { IfSome result.since (IsBehindSettled self.new.store) }
+        ensures below { result.is_root ≡ false }
     {
         self.store.undo(&waiting.mark);
         self.store.refuse(waiting.decision);
@@ -291,6 +296,7 @@ impl<'n> Parts<'n> {
             id: waiting.leaf,
             floor: waiting.floor,
             since: since(waiting.settled, Event::Refused(waiting.decision)),
+            is_root: false,
         }
     }
 }

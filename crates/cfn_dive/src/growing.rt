@@ -92,10 +92,10 @@ impl<'n> Parts<'n> {
             id: Tree::ROOT,
             floor: task.floor(),
             since: None,
+            is_root: task.path().is_empty(),
         };
         Ok(Growth {
             base: Snapshot::of(task.path()),
-            at_root: task.path().is_empty(),
             tree,
             current: Some(root),
             threshold,

@@ -15,6 +15,8 @@ pub struct Leaf {
     pub floor: u128,
     /// The side of a split by which the store stands behind a place where it was fully consistent, if it was.
     pub since: Option<Event>,
+    /// Whether it is the root of the whole tree: no event stands before it.
+    pub is_root: bool,
 }
 
 /// A tree behind a path, in the making.
@@ -22,8 +24,6 @@ pub struct Leaf {
 pub struct Growth {
     /// The path before the tree.
     pub base: Snapshot<Path>,
-    /// Whether that path is the root's.
-    pub at_root: bool,
     pub tree: Tree,
     /// The leaf that is expanded next. Where there is none, no leaf is open.
     pub current: Option<Leaf>,

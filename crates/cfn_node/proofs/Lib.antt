@@ -3,4 +3,5 @@ pub mod Alive
 pub mod Strict
 pub mod Sides
 pub mod Leaves
+mod Grouping
 pub mod CallerLemmas

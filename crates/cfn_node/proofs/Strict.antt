@@ -1,5 +1,5 @@
 -- A split on a live value of a variable that has another one is strict.
-use Rattle.std.proofs.Common.{◌≡◌, ◌≢◌, ℕ, zero, suc, ◌+◌, ◌<◌, ◌≤◌, inl, inr, Bool, true, false, List, refl, ap, eq-eqb, arith}
+use Rattle.std.proofs.Common.{◌≡◌, ◌≢◌, ℕ, zero, suc, ◌<◌, ◌≤◌, inl, inr, Bool, true, false, List, refl, ap, eq-eqb, arith}
 use Rattle.std.proofs.lemmas.Bool.{cases_Bool, cases_eq}
 use Rattle.std.specs.Prelude.{slice_index, ◌==◌, if◌then◌else◌, IsTrue, IsFalse}
 use Rattle.cfn_model.specs.declared.step.Decision.TheVariants.{Is}

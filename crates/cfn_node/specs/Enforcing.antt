@@ -10,6 +10,7 @@ use Rattle.cfn_consistency.specs.Consistency.{AreFullyConsistent}
 use Rattle.cfn_nc.specs.declared.settling.Settling.{Settling}
 use Rattle.cfn_nc.specs.declared.settling.Settling.TheVariants.{Settled, Dead, Spent}
 use Rattle.cfn_store.specs.Standing.{Standing, history}
+use Rattle.cfn_gain.specs.Gains.{Gained, IsOpen}
 
 -- Between two standings there are steps alone, which run at k.
 pub record GoesOn (before now : Standing) (k : ℕ) : Type 0 where
@@ -29,6 +30,13 @@ abbrev pub Finds : Network → List Event → ℕ → Settling → Type 0
 Finds P history k Settled = AreFullyConsistent P history k × (CanClose P history k → ⊥)
 Finds P history k Dead = CanClose P history k
 Finds P history k Spent = (CanClose P history k → ⊥) × (AreFullyConsistent P history k → ⊥)
+
+-- The steps that were added fall into groups, each of which gains something. Where the store is not fully consistent the last
+-- one may be unfinished.
+abbrev pub Groups : Standing → Standing → Settling → Type 0
+Groups before now Settled = Gained before now
+Groups before now Dead = IsOpen before now
+Groups before now Spent = IsOpen before now
 
 -- Where it is neither, the block has at least so many steps.
 abbrev pub IsSpent : ℕ → Standing → Settling → Type 0

@@ -6,7 +6,7 @@ ghost use Rattle.cfn_model.specs.Tree.{CanClose};
 ghost use Rattle.cfn_store.specs.Standing.{history};
 ghost use Rattle.cfn_gain.specs.Calls.{Adds};
 ghost use Rattle.cfn_edac.specs.Settling.{IsBehindSettled};
-ghost use Rattle.cfn_node.specs.Enforcing.{GoesOn, Finds, IsSpent, since_of};
+ghost use Rattle.cfn_node.specs.Enforcing.{GoesOn, Finds, Groups, IsSpent, since_of};
 
 use cfn_edac::Enforcer;
 use cfn_gain::Limits;
@@ -26,8 +26,8 @@ pub struct Asked {
 }
 
 /// Makes a store fully consistent at a threshold, as far as its steps go, and answers whether it is dead then, or
-/// consistent, or neither, and then by all its steps. There is room for so many steps more then. An `Err` is want of
-/// memory; of the store the contract says only that it has gone on by steps, if by any.
+/// consistent, or neither, and then by all its steps. Its steps fall into groups, each of which gains something. There is room for
+/// so many steps more then. An `Err` is want of memory; of the store the contract says only that it has gone on by steps, if by any.
 pub fn propagate(
     enforcer: &mut Enforcer<'_>,
     store: &mut Store<'_>,
@@ -43,6 +43,7 @@ pub fn propagate(
     requires since { IfSome asked.since (IsBehindSettled store.old) }
     ensures goes { GoesOn store.old store.new asked.threshold }
     ensures finds { IfOk result (Finds store.new.network (history store.new) asked.threshold) }
+    ensures gains { IfOk result (Groups store.old store.new) }
     ensures spent { IfOk result (IsSpent asked.steps store.new) }
     ensures room { OnOk result (more ≤ store.new.spare) }
     ensures same { enforcer.new ≡ enforcer.old }
@@ -57,7 +58,7 @@ pub fn propagate(
 }
 
 /// Settles a store within limits, and answers whether it is dead then, or fully consistent, or neither, and then its block is
-/// as long as it may be. It takes no memory.
+/// as long as it may be. Its steps fall into groups, each of which gains something. It takes no memory.
 pub fn settle(
     enforcer: &mut Enforcer<'_>,
     store: &mut Store<'_>,
@@ -72,6 +73,7 @@ pub fn settle(
     requires since { IfSome since (IsBehindSettled store.old) }
     ensures adds { Adds store.old store.new limits }
     ensures finds { Finds store.new.network (history store.new) limits.threshold result }
+    ensures gains { Groups store.old store.new result }
     ensures spent { IsSpent limits.steps store.new result }
     ensures same { enforcer.new ≡ enforcer.old }
 {

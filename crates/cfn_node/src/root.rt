@@ -1,11 +1,11 @@
 //! What is enforced at the root: full consistency, and then rounds of virtual arc consistency and full consistency, while the
 //! floor rises (Cooper et al. 2010). Each call in a round may make as many steps as one at a node.
 
-ghost use Rattle.std.specs.Prelude.{◌≡◌, ◌+◌, ◌*◌, ◌≤◌, ◌^◌, [], length, IfOk, IfSome, OnOk, None};
+ghost use Rattle.std.specs.Prelude.{◌≡◌, ◌+◌, ◌*◌, ◌≤◌, ◌^◌, false, [], length, IfOk, IfSome, OnOk, None};
 ghost use Rattle.cfn_model.specs.Tree.{CanClose};
 ghost use Rattle.cfn_store.specs.Standing.{history};
 ghost use Rattle.cfn_edac.specs.Settling.{IsBehindSettled};
-ghost use Rattle.cfn_node.specs.Enforcing.{GoesOn, Finds, IsSpent};
+ghost use Rattle.cfn_node.specs.Enforcing.{GoesOn, Finds, Groups, IsSpent};
 
 use crate::propagation::{Asked, propagate, settle};
 use cfn_clock::Halt;
@@ -28,8 +28,8 @@ pub struct Around {
 }
 
 /// Enforces at a node, with rounds at the root, and answers whether the store is dead then, or fully consistent, or
-/// neither, and then by all the steps that are asked for. An `Err` is want of memory; of the store the contract says
-/// only that it has gone on by steps, if by any.
+/// neither, and then by all the steps that are asked for. Below the root its steps fall into groups, each of which gains
+/// something. An `Err` is want of memory; of the store the contract says only that it has gone on by steps, if by any.
 pub fn enforce<H: Halt>(
     alloc: Global,
     enforcer: &mut Enforcer<'_>,
@@ -47,6 +47,7 @@ pub fn enforce<H: Halt>(
     requires since { IfSome asked.since (IsBehindSettled store.old) }
     ensures goes { GoesOn store.old store.new asked.threshold }
     ensures finds { IfOk result (Finds store.new.network (history store.new) asked.threshold) }
+    ensures gains { around.is_root ≡ false → IfOk result (Groups store.old store.new) }
     ensures spent { IfOk result (IsSpent asked.steps store.new) }
     ensures room { OnOk result (around.more ≤ store.new.spare) }
     ensures same { enforcer.new ≡ enforcer.old }

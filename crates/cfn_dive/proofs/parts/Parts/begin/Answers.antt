@@ -18,7 +18,7 @@ returns-clause-diving c =
     let m = c.in_ok-tree.tree in
     let now = c.replay.new.self in
     let tame = subst (λ Q. TameAlong Q path) c.requires.task c.kept.ensures.tame in
-    let begun : c.of.result.value ≡ path = c.of.ensures ∙ c.path-2.ensures in
+    let begun : c.of.result.value ≡ path = c.of.ensures ∙ c.path-3.ensures in
     let stands : now.base ≡ path = c.in_ok-replay.ensures.ok.0 ∙ c.path.ensures in
     record {
       kept = record {
@@ -32,5 +32,6 @@ returns-clause-diving c =
         block = c.in_ok-replay.ensures.ok.1;
         floor = c.floor.ensures ∙ c.kept.ensures.floor ∙ ap (λ Q. floor Q path) c.requires.task ∙ ap (floor P) (sym stands);
         since = tt;
+        root = λ e. stands ∙ sym c.path-2.ensures ∙ c.is_empty.ensures.0 e;
       };
     }

@@ -8,7 +8,7 @@ use Rattle.cfn_dive.specs.declared.parts.Parts.{Parts}
 use Rattle.cfn_dive.specs.Stack.{Stack}
 use Rattle.cfn_dive.specs.Diving.{place_of, places, AreWaiting, IsExpanded}
 use Rattle.cfn_dive.proofs.Stacks.{current_open}
-use Rattle.cfn_dive.proofs.States.{popped, closed_end, closed_back, still_of, none_waits}
+use Rattle.cfn_dive.proofs.States.{popped, closed_end, closed_back, still_of, none_waits, below_root}
 use Rattle.cfn_dive.proofs.parts.Parts.close.Goals as goal
 
 pub close-requires-clause-there : goal.close-requires-clause-there
@@ -69,6 +69,7 @@ returns-in-Some-clause-expanded c =
           block = is.block;
           floor = is.floor ∙ ap (λ Q. floor Q now.base) is.network;
           since = is.since;
+          root = below_root _ _ is.below;
         };
       };
       nodes = refl;

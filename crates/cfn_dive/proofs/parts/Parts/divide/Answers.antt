@@ -1,11 +1,10 @@
-use Rattle.std.proofs.Common.{◌≡◌, ℕ, ◌+◌, [], ◌∷◌, ◌++◌, length, refl, sym, ap, ◌∙◌, subst, arith}
+use Rattle.std.proofs.Common.{◌≡◌, ℕ, ◌+◌, [], ◌∷◌, ◌++◌, length, refl, sym, ap, ◌∙◌, subst, arith, false}
 use Rattle.std.specs.Prelude.{IfSome}
 use Rattle.cfn_model.specs.declared.step.Event.TheVariants.{Took}
 use Rattle.cfn_model.specs.Sums.{floor}
 use Rattle.cfn_store.specs.Standing.{Standing, history}
 use Rattle.cfn_edac.specs.Settling.{IsBehindSettled}
 use Rattle.cfn_node.proofs.CallerLemmas.{since_split, settled_moved}
-use Rattle.cfn_proof.specs.declared.tree.Node.{Node}
 use Rattle.cfn_proof.specs.Nodes.{node_at, split_end}
 use Rattle.cfn_proof.proofs.CallerLemmas.{split_behind_at-same}
 use Rattle.cfn_dive.specs.declared.parts.Waiting.{Waiting}
@@ -13,7 +12,7 @@ use Rattle.cfn_dive.specs.Stack.{Stack}
 use Rattle.cfn_dive.specs.Diving.{places, AreWaiting}
 use Rattle.cfn_dive.proofs.Splitting.{split_decision, split_strict}
 use Rattle.cfn_dive.proofs.Stacks.{current_open}
-use Rattle.cfn_dive.proofs.States.{divided, stack_divided, waiting_push, enforced_here, settled_here}
+use Rattle.cfn_dive.proofs.States.{divided, stack_divided, waiting_push, enforced_here, below_root, settled_here}
 use Rattle.cfn_dive.proofs.parts.Parts.divide.Goals as goal
 
 pub split_behind-requires-clause-there : goal.split_behind-requires-clause-there
@@ -53,7 +52,7 @@ returns-clause-expanded c =
             values = expanding.kept.of.values;
             offer = expanding.kept.of.offer;
           };
-          grown = divided P p g c.args.leaf c.in_ok-block.block d m c.linked.ensures.linked c.linked-2.ensures.linked is expanding c.in_ok-block.ensures decision (split_strict p.store d c.requires.splits) c.block_stays_tame.ensures (enforced_here P p.store g.threshold c.args.settled refl c.requires.threshold c.requires.settled);
+          grown = divided P p g c.args.leaf c.in_ok-block.block d m c.linked.ensures.linked c.linked-2.ensures.linked is expanding c.in_ok-block.ensures decision (split_strict p.store d c.requires.splits) c.block_stays_tame.ensures (enforced_here P p.store g.threshold c.args.settled refl c.requires.threshold c.requires.settled c.requires.groups);
           waiting = subst (AreWaiting P) (sym items) (waiting_push P p.waiting.items w expanding.kept.waiting (record {
             network = ap (λ (n : Standing). n.network) c.mark.ensures;
             decision = decision;
@@ -69,6 +68,7 @@ returns-clause-expanded c =
           since = subst (λ o. IfSome o (IsBehindSettled now)) (sym c.since.ensures)
               (since_split c.args.settled (Took d) now (history p.store) (ap history c.take.ensures)
               (λ is_settled. settled_moved P now.network (history c.mark.result) (history p.store) (sym network) (ap history c.mark.ensures) (settles is_settled)));
+          root = below_root false _ refl;
         };
       };
       nodes = refl;
