@@ -45,6 +45,11 @@ copy_spelled (Some r) (Some c) piece seen is spelled top low =
     let second = spelled.1.0 in
     (omega (arith, leaf, first), (omega (arith, grant, second), (omega (arith, threshold, top), (omega (arith, low), tt))))
 
+-- what holds where something is recorded
+pub where_recorded : {One Other : Type 0} (o : Option RecordingValue) → (One → Other) → IfSome o (λ r. One) → IfSome o (λ r. Other)
+where_recorded None on holds = tt
+where_recorded (Some r) on holds = on holds
+
 -- so have those of a leaf that was taken
 pub taken_spelled : (old new : Leaves) (view : View) (worker want : ℕ) (taken : Taken) → IsPool old.network (pool_of old view) → (pool_of old view).next ≤ 2 ^ 32 → want ≤ GREATEST → leaves.Takes old worker want taken new → IsSpelledTaken want taken
 taken_spelled old new view worker want (Given task) sound few most takes =

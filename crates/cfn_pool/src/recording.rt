@@ -67,7 +67,7 @@ impl Recording {
 
     /// Records that a leaf was taken, where one was. It takes no memory.
     pub(crate) fn took(&mut self, worker: u32, want: u64, taken: &Taken)
-        requires spelled { IsSpelledTaken want taken.now }
+        requires spelled { IfSome (value_of self.old) (λ r. IsSpelledTaken want taken.now) }
         requires room { HasRoom 3 self.old }
         ensures adds { AddsTaken (value_of self.old) worker want taken.now (value_of self.new) }
         ensures room { HasRoom 0 self.new }

@@ -32,12 +32,12 @@ pub enum Handed<M: Incumbent> {
 
 impl<M: Incumbent> Pool<M> {
     /// Hands out a free leaf of least floor, the one of least number among those, to a worker that wants to make at most
-    /// `want` nodes below it, at least 1 and at most 9,223,372,036,854,775,807. The grant is that, or less where the budget has less
-    /// left. Where it hands out nothing, nothing changes. Where a record is kept, want of memory may be for the record.
+    /// `want` nodes below it, at least 1. The grant is that, or less where the budget has less left. Where it hands out nothing,
+    /// nothing changes. Where a record is kept, `want` is at most 9,223,372,036,854,775,807, and want of memory may be for the record.
     pub fn take(&mut self, network: &Network, worker: u32, want: u64) -> Taken
         requires own { network.now ≡ M.network }
         requires wants { 1 ≤ want }
-        requires most { want ≤ GREATEST }
+        requires most { IfSome self.old.recorded (λ r. want ≤ GREATEST) }
         ensures takes { Takes M.network self.old worker want result self.new }
         ensures adds { AddsTaken self.old.recorded worker want result self.new.recorded }
     {

@@ -8,11 +8,12 @@ use Rattle.cfn_leaves.specs.declared.taking.Taken.{Taken}
 use Rattle.cfn_leaves.specs.declared.taking.Taken.TheVariants.{Given, Empty, Spent, Again, Memory}
 use Rattle.cfn_low.specs.Steps.{IsReached}
 use Rattle.cfn_pool.specs.declared.recording.Recording.{Recording}
-use Rattle.cfn_pool.specs.Recorded.{AddsTaken, RecordingValue, value_of}
+use Rattle.std.specs.Prelude.{IfSome}
+use Rattle.cfn_pool.specs.Recorded.{AddsTaken, IsSpelledTaken, RecordingValue, value_of}
 use Rattle.cfn_pool.specs.Views.{Held, view_of, IsHeld}
 use Rattle.cfn_pool.specs.Answers.{Takes}
 use Rattle.cfn_machine.specs.Laws.{IsPool}
-use Rattle.cfn_pool.proofs.Fitting.{taken_spelled}
+use Rattle.cfn_pool.proofs.Fitting.{taken_spelled, where_recorded}
 use Rattle.cfn_pool.proofs.Kept.{held, kept_by_step}
 use Rattle.cfn_pool.proofs.pool.Pool.take.Goals as goal
 
@@ -48,8 +49,11 @@ invariant_of-self g c = record {
 
 pub took-requires-clause-spelled : goal.took-requires-clause-spelled
 took-requires-clause-spelled g c =
-    taken_spelled c.self.inside.leaves c.take-taken.new.self (view_of c.self.inside.holder) c.args.worker c.args.want c.take-taken.result
-    (subst (λ (Q : Network). IsPool Q (pool_of c.self.inside.leaves (view_of c.self.inside.holder))) (sym c.self.invariant.held.own) c.self.invariant.held.pool_is) c.numbered.ensures c.requires.most c.take-taken.ensures.takes
+    let leaves = c.self.inside.leaves in
+    let told = ap (λ (h : Held). h.recorded) (ap (both c.self.inside.holder leaves) c.make_room.ensures.same ∙ c.self.view_is) in
+    let sound = subst (λ (Q : Network). IsPool Q (pool_of leaves (view_of c.self.inside.holder))) (sym c.self.invariant.held.own) c.self.invariant.held.pool_is in
+    subst (λ o. IfSome o (λ r. IsSpelledTaken c.args.want c.take-taken.result)) (sym told)
+    (where_recorded c.args.self.now.recorded (λ most. taken_spelled leaves c.take-taken.new.self (view_of c.self.inside.holder) c.args.worker c.args.want c.take-taken.result sound c.numbered.ensures most c.take-taken.ensures.takes) c.requires.most)
 
 pub invariant_of-self-2 : goal.invariant_of-self-2
 invariant_of-self-2 g c =
