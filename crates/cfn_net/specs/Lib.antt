@@ -1,4 +1,5 @@
 pub mod Building
+pub mod Capped
 pub mod Drafting
 pub mod Expanding
 pub mod Fitting

@@ -6,6 +6,7 @@
 //!   networks as `cfn_model` defines them. `Fit` is what it says of an assignment.
 //! - `Listed` is what a network keeps of a function of which few entries differ from its default, and `Tables` has all
 //!   entries of such functions, for those who go over them.
+//! - `Cost` is a number of cost units that is capped at a top, as the cost of an assignment is at the upper bound.
 //! - `Scored` holds one assignment with its cost.
 //!
 //! Inside, a function is kept as its scope, its default and the number of its table (`kept.rt`), and lent with the table
@@ -14,6 +15,7 @@
 #![tactic(auto)]
 
 mod builder;
+mod cost;
 mod draft;
 mod fit;
 mod function;
@@ -27,6 +29,7 @@ mod table;
 mod tables;
 
 pub use builder::{Builder, listing_law};
+pub use cost::Cost;
 pub use draft::Draft;
 pub use fit::Fit;
 pub use network::Network;

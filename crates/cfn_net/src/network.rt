@@ -9,12 +9,12 @@ ghost use Rattle.cfn_net.specs.Fitting.{IsFirstMisfit};
 ghost use Rattle.cfn_net.specs.Listed.{spread};
 ghost use Rattle.cfn_net.specs.Tables.{IsSparse};
 
+use crate::cost::Cost;
 use crate::fit::Fit;
 use crate::function::{Function, cell_of, cells_of};
 use crate::kept::Kept;
 use crate::sparse::Listed;
 use crate::table::Table;
-use cfn_cost::Cost;
 use smallvec::SmallVec;
 use std::alloc::{AllocError, Global};
 use std::marker::Model;

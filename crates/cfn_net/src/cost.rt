@@ -1,4 +1,5 @@
-//! `Cost`: one number with the top that it is capped at.
+//! `Cost`: one number with the top that it is capped at. The top stands for "forbidden": a sum that reaches it stays
+//! at it (Cooper et al. 2010, "Soft arc consistency revisited").
 ghost use Rattle.std.specs.Prelude.{◌≡◌, ◌+◌, ◌<◌, ◌≤◌, ◌↔◌, min, IsTrue};
 
 use std::marker::Model;
@@ -12,7 +13,7 @@ pub struct Cost {
 
 impl Model for Cost {
     ghost use Rattle.std.specs.Prelude.{◌≤◌, ◌<◌, ◌^◌};
-    ghost use Rattle.cfn_cost.specs.Capped.{Capped};
+    ghost use Rattle.cfn_net.specs.Capped.{Capped};
 
     ghost Value = { Capped };
 
@@ -44,14 +45,6 @@ impl Cost {
             value: (self.value + other.value).min(self.top),
             top: self.top,
         }
-    }
-
-    /// Whether this is the top, which stands for "forbidden".
-    pub fn is_top(&self) -> bool
-        ensures top { IsTrue result ↔ (self.now.value ≡ self.now.top) }
-        ensures capped { self.now.value ≤ self.now.top }
-    {
-        self.value == self.top
     }
 
     /// The value, from 0 to the top.
