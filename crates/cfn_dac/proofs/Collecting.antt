@@ -10,11 +10,10 @@ use Rattle.cfn_model.specs.Network.{Network, IsNetwork}
 use Rattle.cfn_model.specs.Sums.{unary, residual}
 use Rattle.cfn_model.specs.Steps.{IsPlace}
 use Rattle.cfn_model.proofs.CallerLemmas.{tuple_fewer}
-use Rattle.cfn_nc.proofs.CallerLemmas.{history_step}
+use Rattle.cfn_gain.proofs.CallerLemmas.{history_step, passing_adds, no_shorter}
 use Rattle.cfn_store.specs.Standing.{Standing, history, with_step, FitsProject}
 use Rattle.cfn_gain.specs.declared.limits.Limits.{Limits}
 use Rattle.cfn_gain.specs.Calls.{GoesOn, Does, Grows, Passing}
-use Rattle.cfn_gain.proofs.CallerLemmas.{passing_adds, no_shorter}
 use Rattle.cfn_dac.specs.declared.pair.Pair.{Pair}
 use Rattle.cfn_dac.specs.Full.{first_of}
 use Rattle.cfn_dac.specs.Moves.{AreWithin, AreLent, SomeFrom}

@@ -15,12 +15,11 @@ use Rattle.cfn_model.specs.Steps.{IsPlace}
 use Rattle.cfn_consistency.specs.Consistency.{HasFullSupport}
 use Rattle.cfn_consistency.specs.Groups.{IsNew, Closes, IsBegun, Repeats}
 use Rattle.cfn_consistency.proofs.CallerLemmas.{pair_kept}
-use Rattle.cfn_nc.proofs.CallerLemmas.{history_step}
+use Rattle.cfn_gain.proofs.CallerLemmas.{history_step, gained_none, leads_weaker, leads_shift, leads_close, opened}
 use Rattle.cfn_store.specs.Standing.{Standing, history, with_step}
 use Rattle.cfn_gain.specs.declared.limits.Halt.{Halt}
 use Rattle.cfn_gain.specs.Calls.{Grows}
 use Rattle.cfn_gain.specs.Gains.{Leads, Gained, IsOpen}
-use Rattle.cfn_gain.proofs.CallerLemmas.{gained_none, leads_weaker, leads_shift, leads_close, opened}
 use Rattle.cfn_dac.specs.declared.pair.Pair.{Pair}
 use Rattle.cfn_dac.specs.Full.{IsPair, AreFullBelow, first_of, second_of}
 use Rattle.cfn_dac.specs.Shifts.{SomeLacks, Shifts, AreStill, AreHeld, AreReached, LeadsThrough, IsIn, GoesThrough, GoThrough, IsThrough, IsDirected, SomeReached, Closed}

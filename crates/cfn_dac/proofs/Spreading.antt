@@ -10,7 +10,7 @@ use Rattle.cfn_model.specs.Network.{Network, IsNetwork, Fits, dims_at}
 use Rattle.cfn_model.specs.Sums.{unary, residual, is_live, is_live_tuple}
 use Rattle.cfn_model.specs.Steps.{IsPlace}
 use Rattle.cfn_model.proofs.CallerLemmas.{tuple_fewer}
-use Rattle.cfn_nc.proofs.CallerLemmas.{history_step}
+use Rattle.cfn_gain.proofs.CallerLemmas.{history_step, passing_adds}
 use Rattle.cfn_store.specs.Exact.{IsExactAlong}
 use Rattle.cfn_store.specs.declared.scan.Extreme.{Extreme}
 use Rattle.cfn_store.specs.Extremes.{IsPicked, NoneBetween, IsLeastBetween}
@@ -20,7 +20,6 @@ use Rattle.cfn_gain.specs.declared.limits.Limits.{Limits}
 use Rattle.cfn_store.specs.declared.line.Line.{Line}
 use Rattle.cfn_store.specs.Lines.{IsLine, IsAlong}
 use Rattle.cfn_gain.specs.Calls.{GoesOn, Does, Passing}
-use Rattle.cfn_gain.proofs.CallerLemmas.{passing_adds}
 use Rattle.cfn_dac.specs.declared.pair.Pair.{Pair}
 use Rattle.cfn_dac.specs.Full.{IsPair, first_of, second_of}
 use Rattle.cfn_dac.specs.Moves.{IsLiveTuple, Covers, AreWithin, AreForLive, AreLent, IsShare, IsLack, lack_of, Trims, CostBelow}

@@ -11,15 +11,13 @@ use Rattle.cfn_model.specs.declared.step.Event.TheVariants.{Did}
 use Rattle.cfn_model.specs.Sums.{floor, residual, is_live_tuple}
 use Rattle.cfn_model.proofs.CallerLemmas.{eqb_same, eqb_other}
 use Rattle.cfn_model.specs.Steps.{CanCutTuple, IsCell, IsPlace}
-use Rattle.cfn_nc.proofs.CallerLemmas.{history_step}
+use Rattle.cfn_gain.proofs.CallerLemmas.{history_step, passing_start, passing_adds, leads_close, new_cut_tuple, opened, tuple_kept}
 use Rattle.cfn_net.proofs.CallerLemmas.{Fits-length, cell-below, digit_at}
 use Rattle.cfn_store.specs.Standing.{Standing, history, with_step}
 use Rattle.cfn_gain.specs.declared.limits.Limits.{Limits}
 use Rattle.cfn_gain.specs.Calls.{GoesOn, Does, Passing}
-use Rattle.cfn_gain.proofs.CallerLemmas.{passing_start, passing_adds}
 use Rattle.cfn_consistency.specs.Groups.{IsBegun, MayBeOpen}
 use Rattle.cfn_gain.specs.Gains.{Gained, IsOpen}
-use Rattle.cfn_gain.proofs.CallerLemmas.{leads_close, new_cut_tuple, opened, tuple_kept}
 use Rattle.cfn_dac.specs.Moves.{Trims, KeepsCheap, CostBelow, IsCostly}
 use Rattle.cfn_dac.proofs.Costs.{trims_none, trims_cut}
 

@@ -12,8 +12,8 @@ use Rattle.cfn_proof.specs.Nodes.{tree_of}
 use Rattle.cfn_proof.proofs.CallerLemmas.{run_append}
 use Rattle.cfn_store.specs.Standing.{Standing, history}
 use Rattle.cfn_trim.specs.Trimming.{IsBegin}
-use Rattle.cfn_nc.specs.declared.settling.Settling.{Settling}
-use Rattle.cfn_nc.specs.declared.settling.Settling.TheVariants.{Settled, Spent}
+use Rattle.cfn_gain.specs.declared.settling.Settling.{Settling}
+use Rattle.cfn_gain.specs.declared.settling.Settling.TheVariants.{Settled, Spent}
 use Rattle.cfn_node.specs.Enforcing.{GoesOn, Finds, Groups, IsSpent}
 use Rattle.cfn_node.specs.Limit.{step_limit}
 use Rattle.cfn_node.proofs.CallerLemmas.{block_groups}

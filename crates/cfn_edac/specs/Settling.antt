@@ -2,8 +2,8 @@
 use Rattle.std.specs.Prelude.{◌≡◌, ℕ, ◌≤◌, List, ◌∷◌, length}
 use Rattle.cfn_model.specs.declared.step.Event.{Event}
 use Rattle.cfn_consistency.specs.Consistency.{IsDead, AreFullyConsistent}
-use Rattle.cfn_nc.specs.declared.settling.Settling.{Settling}
-use Rattle.cfn_nc.specs.declared.settling.Settling.TheVariants.{Settled, Dead, Spent}
+use Rattle.cfn_gain.specs.declared.settling.Settling.{Settling}
+use Rattle.cfn_gain.specs.declared.settling.Settling.TheVariants.{Settled, Dead, Spent}
 use Rattle.cfn_store.specs.Standing.{Standing, history}
 use Rattle.cfn_gain.specs.declared.limits.Limits.{Limits}
 use Rattle.cfn_gain.specs.Gains.{Gained, IsOpen, IsDue}

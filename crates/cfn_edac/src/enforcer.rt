@@ -9,10 +9,9 @@ ghost use Rattle.cfn_gain.specs.Calls.{Adds};
 ghost use Rattle.cfn_edac.specs.Settling.{Answers, HasGained, IsBehindSettled};
 
 use crate::reviser::Reviser;
-use cfn_gain::{Halt, Limits};
+use cfn_gain::{Halt, Limits, Settling};
 use cfn_incidence::Incidence;
 use cfn_model::Event;
-use cfn_nc::Settling;
 use cfn_net::Network;
 use cfn_store::Store;
 use std::alloc::{AllocError, Global};

@@ -4,9 +4,8 @@ ghost use Rattle.std.specs.Prelude.{◌≡◌, ◌≤◌};
 ghost use Rattle.cfn_store.specs.Standing.{at_root};
 
 use cfn_edac::Enforcer;
-use cfn_gain::Limits;
+use cfn_gain::{Limits, Settling};
 use cfn_incidence::Incidence;
-use cfn_nc::Settling;
 use cfn_net::{Builder, Network};
 use cfn_store::Store;
 use std::alloc::{AllocError, Global};

@@ -7,7 +7,7 @@ use Rattle.cfn_model.specs.declared.step.Event.TheVariants.{Did}
 use Rattle.cfn_model.specs.Network.{Network}
 use Rattle.cfn_model.specs.Sums.{floor}
 use Rattle.cfn_model.specs.Steps.{Allowed, Run, after}
-use Rattle.cfn_nc.proofs.CallerLemmas.{after_append, append_none}
+use Rattle.cfn_gain.proofs.Stepping.{after_append, append_none}
 use Rattle.cfn_store.specs.Standing.{Standing, history, with_step}
 use Rattle.cfn_gain.specs.declared.limits.Limits.{Limits}
 use Rattle.cfn_gain.specs.declared.limits.Halt.{Halt}

@@ -4,3 +4,6 @@ pub use Rattle.cfn_gain.proofs.Gaining.{led, gained_none, gained_same, leads_wea
 pub use Rattle.cfn_gain.proofs.Keeping.{tuple_kept, residual_taken}
 pub use Rattle.cfn_gain.proofs.Earning.{close_one, open_one, no_support, got_support, live_projected}
 pub use Rattle.cfn_gain.proofs.Places.{few_places}
+pub use Rattle.cfn_gain.proofs.Stepping.{after_append, history_step, run_push, append_none}
+pub use Rattle.cfn_gain.proofs.Lifting.{can_lift, at_least, lift_to_threshold, no_less, not_dead}
+pub use Rattle.cfn_gain.proofs.Reading.{has_live, value_at}

@@ -13,7 +13,7 @@ use Rattle.cfn_consistency.specs.Openness.{TakesPart}
 use Rattle.cfn_consistency.specs.Consistency.{HasSupport}
 use Rattle.cfn_consistency.specs.Groups.{Group, IsShift, IsNew, Closes, IsBegun, MayBeOpen}
 use Rattle.cfn_consistency.proofs.CallerLemmas.{part_after}
-use Rattle.cfn_nc.proofs.CallerLemmas.{history_step}
+use Rattle.cfn_gain.proofs.Stepping.{history_step}
 use Rattle.cfn_store.specs.declared.scan.Extreme.{Extreme}
 use Rattle.cfn_store.specs.declared.scan.Sense.TheVariants.{Least}
 use Rattle.cfn_store.specs.Extremes.{IsExtreme}

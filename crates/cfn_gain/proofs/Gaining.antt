@@ -13,8 +13,8 @@ use Rattle.cfn_consistency.specs.Openness.{TakesPart}
 use Rattle.cfn_consistency.specs.Consistency.{HasSupport}
 use Rattle.cfn_consistency.specs.Groups.{Group, begun, with_shift, IsShift, IsNew, Closes, LeadTo, IsBegun, MayBeOpen}
 use Rattle.cfn_consistency.proofs.CallerLemmas.{groups_lead_on, one_shift, one_close, lead_weaker, part_after}
-use Rattle.cfn_nc.specs.Passes.{IsLeast}
-use Rattle.cfn_nc.proofs.CallerLemmas.{after_append, append_none}
+use Rattle.cfn_gain.specs.Passes.{IsLeast}
+use Rattle.cfn_gain.proofs.Stepping.{after_append, append_none}
 use Rattle.cfn_store.specs.Standing.{Standing, history, with_step}
 use Rattle.cfn_gain.specs.declared.limits.Limits.{Limits}
 use Rattle.cfn_gain.specs.declared.limits.Halt.{Halt}

@@ -16,8 +16,8 @@ use Rattle.cfn_gain.specs.declared.limits.Halt.TheVariants.{Dead, Spent}
 use Rattle.cfn_gain.specs.Calls.{GoesOn, Adds, Does, Shows, Grows, Passing}
 use Rattle.cfn_live.specs.Sets.{AreLive}
 use Rattle.cfn_store.specs.Rooms.{sets_of}
-use Rattle.cfn_nc.specs.Passes.{IsLeast}
-use Rattle.cfn_nc.proofs.CallerLemmas.{append_none, history_step}
+use Rattle.cfn_gain.specs.Passes.{IsLeast}
+use Rattle.cfn_gain.proofs.Stepping.{append_none, history_step}
 use Rattle.cfn_gain.specs.Levels.{AreBelow, IsLevel, AreAllCostly, AddsCuts, AddsLift, LiftsFirst}
 use Rattle.cfn_gain.proofs.Adding.{passing_grown, passing_start, unchanged, adds_none, no_shorter, on_ok}
 use Rattle.cfn_gain.proofs.Moving.{same_floor, grows_step}

@@ -1,3 +1,7 @@
+pub mod Stepping
+pub mod Lifting
+pub mod Cutting
+pub mod Reading
 pub mod Adding
 pub mod Moving
 pub mod Leveling

@@ -9,8 +9,9 @@ use Rattle.cfn_model.specs.Network.{variable_at}
 use Rattle.cfn_model.specs.Sums.{floor, lifted, unary, when, is_live}
 use Rattle.cfn_model.specs.Steps.{Allowed, CanCutValue}
 use Rattle.cfn_model.proofs.CallerLemmas.{eqb_same}
-use Rattle.cfn_nc.specs.Passes.{IsLeast}
-use Rattle.cfn_nc.proofs.CallerLemmas.{can_lift, history_step, lift_to_threshold}
+use Rattle.cfn_gain.specs.Passes.{IsLeast}
+use Rattle.cfn_gain.proofs.Lifting.{can_lift, lift_to_threshold}
+use Rattle.cfn_gain.proofs.Stepping.{history_step}
 use Rattle.cfn_store.specs.Standing.{Standing, history, with_step}
 use Rattle.cfn_gain.specs.declared.limits.Limits.{Limits}
 use Rattle.cfn_gain.specs.declared.limits.Halt.TheVariants.{Dead}

@@ -6,7 +6,7 @@ use Rattle.cfn_model.specs.Network.{Network}
 use Rattle.cfn_model.specs.Sums.{floor, unary, is_live}
 use Rattle.cfn_model.specs.Steps.{IsValue}
 use Rattle.cfn_consistency.specs.Consistency.{IsFree}
-use Rattle.cfn_nc.specs.Passes.{HasLive}
+use Rattle.cfn_gain.specs.Passes.{HasLive}
 use Rattle.cfn_store.specs.Standing.{Standing, history}
 use Rattle.cfn_gain.specs.declared.limits.Limits.{Limits}
 use Rattle.cfn_gain.specs.declared.limits.Halt.{Halt}

@@ -1,3 +1,5 @@
+pub mod Settling
+pub mod Passes
 pub mod Calls
 pub mod Levels
 pub mod Supports

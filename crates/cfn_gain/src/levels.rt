@@ -1,7 +1,7 @@
 //! A variable's unary costs (Larrosa and Schiex, Solving weighted CSP by maintaining arc consistency, 2004).
 
 ghost use Rattle.std.specs.Prelude.{◌≡◌, ◌<◌, ℕ, length};
-ghost use Rattle.cfn_nc.specs.Passes.{IsLeast};
+ghost use Rattle.cfn_gain.specs.Passes.{IsLeast};
 ghost use Rattle.cfn_store.specs.Standing.{history};
 ghost use Rattle.cfn_gain.specs.Calls.{GoesOn, Does, Shows};
 ghost use Rattle.cfn_gain.specs.Gains.{Gains, GainsBehind, HasCostly};
@@ -9,7 +9,7 @@ ghost use Rattle.cfn_gain.specs.Levels.{AreBelow, IsLevel, AreAllCostly, AddsCut
 
 use crate::limits::{Halt, Limits};
 use crate::moves::{cut_value, lacking, lift};
-use cfn_nc::least;
+use crate::nodes::least;
 use cfn_store::Store;
 
 /// Lifts from a variable what its live values have in common, by one step, but no more than the floor lacks, and cuts those

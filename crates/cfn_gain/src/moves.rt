@@ -4,7 +4,7 @@ ghost use Rattle.std.specs.Prelude.{◌≡◌, ◌+◌, ◌-◌, ◌<◌, ◌≤
 ghost use Rattle.cfn_model.specs.declared.step.Step.TheVariants.{Project, Extend, Lift, CutValue, CutTuple};
 ghost use Rattle.cfn_model.specs.Sums.{floor, is_live};
 ghost use Rattle.cfn_model.specs.Steps.{IsValue, IsCell, CanCutValue, CanCutTuple};
-ghost use Rattle.cfn_nc.specs.Passes.{IsLeast};
+ghost use Rattle.cfn_gain.specs.Passes.{IsLeast};
 ghost use Rattle.cfn_store.specs.Standing.{history, with_step, FitsProject, FitsExtend};
 ghost use Rattle.cfn_gain.specs.Calls.{GoesOn, Does, Grows};
 ghost use Rattle.cfn_gain.specs.Gains.{GainsBehind};

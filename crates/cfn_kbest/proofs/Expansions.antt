@@ -16,9 +16,9 @@ use Rattle.cfn_store.specs.Standing.{Standing, history}
 use Rattle.cfn_branch.specs.Choosing.{AllDecided, IsChoice, IsSplit}
 use Rattle.cfn_close.specs.Leaves.{IsLeaf}
 use Rattle.cfn_consistency.specs.Consistency.{AreFullyConsistent}
-use Rattle.cfn_nc.specs.declared.settling.Settling.{Settling}
-use Rattle.cfn_nc.specs.declared.settling.Settling.TheVariants.{Settled}
-use Rattle.cfn_nc.proofs.CallerLemmas.{after_append}
+use Rattle.cfn_gain.specs.declared.settling.Settling.{Settling}
+use Rattle.cfn_gain.specs.declared.settling.Settling.TheVariants.{Settled}
+use Rattle.cfn_gain.proofs.CallerLemmas.{after_append}
 use Rattle.cfn_node.proofs.CallerLemmas.{choices_fit, is_leaf, only_choices}
 use Rattle.cfn_node.specs.Enforcing.{Finds, GoesOn, IsSettledAt, OnlyOf}
 use Rattle.cfn_dive.proofs.CallerLemmas.{runs_further, split_decision, split_strict}

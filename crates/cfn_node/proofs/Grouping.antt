@@ -5,8 +5,8 @@ use Rattle.cfn_consistency.specs.Groups.{AreOpenGroups}
 use Rattle.cfn_store.specs.Standing.{Standing, history}
 use Rattle.cfn_gain.specs.Gains.{IsOpen}
 use Rattle.cfn_gain.proofs.CallerLemmas.{opened}
-use Rattle.cfn_nc.specs.declared.settling.Settling.{Settling}
-use Rattle.cfn_nc.specs.declared.settling.Settling.TheVariants.{Settled, Dead, Spent}
+use Rattle.cfn_gain.specs.declared.settling.Settling.{Settling}
+use Rattle.cfn_gain.specs.declared.settling.Settling.TheVariants.{Settled, Dead, Spent}
 use Rattle.cfn_node.specs.Enforcing.{Groups}
 
 open_groups : (before now : Standing) (found : Settling) → Groups before now found → IsOpen before now

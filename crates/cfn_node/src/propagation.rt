@@ -9,10 +9,9 @@ ghost use Rattle.cfn_edac.specs.Settling.{IsBehindSettled};
 ghost use Rattle.cfn_node.specs.Enforcing.{GoesOn, Finds, Groups, IsSpent, since_of};
 
 use cfn_edac::Enforcer;
-use cfn_gain::Limits;
+use cfn_gain::{Limits, Settling, is_wiped};
 use cfn_incidence::Incidence;
 use cfn_model::Event;
-use cfn_nc::{Settling, is_wiped};
 use cfn_store::Store;
 use std::alloc::AllocError;
 

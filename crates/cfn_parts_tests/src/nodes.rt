@@ -2,7 +2,7 @@
 
 ghost use Rattle.std.specs.Prelude.{◌≡◌};
 
-use cfn_nc::{NodeConsistency, Settling};
+use cfn_gain::{NodeConsistency, Settling};
 use cfn_net::{Builder, Network};
 use cfn_store::Store;
 use std::alloc::{AllocError, Global};

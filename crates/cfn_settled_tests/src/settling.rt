@@ -5,10 +5,9 @@ ghost use Rattle.cfn_model.specs.Steps.{IsDecision};
 
 use crate::judging::{Answer, Fault, fault_of};
 use cfn_edac::Enforcer;
-use cfn_gain::Limits;
+use cfn_gain::{Limits, Settling};
 use cfn_incidence::Incidence;
 use cfn_model::{Decision, Event, Step};
-use cfn_nc::Settling;
 use cfn_net::Network;
 use cfn_store::Store;
 use cfn_testing::drawing::{DEAR, Dice, MOST, Shape, draw_shaped, file_of};

@@ -2,7 +2,7 @@
 use Rattle.std.proofs.Common.{◌≡◌, ℕ, ◌<◌, ◌≤◌, List, [], ◌∷◌, ◌++◌, length, length-append, append_assoc, refl, sym, ap, ◌∙◌, subst, arith}
 use Rattle.cfn_model.specs.declared.step.Step.{Step}
 use Rattle.cfn_model.specs.Steps.{InRange, Run, Allowed, after}
-use Rattle.cfn_nc.proofs.CallerLemmas.{run_push}
+use Rattle.cfn_gain.proofs.CallerLemmas.{run_push}
 use Rattle.cfn_store.specs.Standing.{Standing, history, with_step}
 use Rattle.cfn_trim.specs.Making.{CanMake, AreInRange}
 use Rattle.cfn_trim.specs.Trimming.{AreSome, IsBeside}

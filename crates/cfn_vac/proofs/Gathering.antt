@@ -12,7 +12,7 @@ use Rattle.cfn_model.specs.Network.{Network, IsNetwork, Fits, cell, arity, scope
 use Rattle.cfn_model.specs.Sums.{residual, is_live, is_live_tuple}
 use Rattle.cfn_model.specs.Steps.{IsPlace, IsValue, CanProject}
 use Rattle.cfn_net.proofs.CallerLemmas.{get_or-dims}
-use Rattle.cfn_nc.proofs.CallerLemmas.{history_step}
+use Rattle.cfn_gain.proofs.CallerLemmas.{history_step}
 use Rattle.cfn_store.specs.Standing.{Standing, history, with_step}
 use Rattle.cfn_store.proofs.CallerLemmas.{tuple_at}
 use Rattle.cfn_consistency.specs.declared.deletion.Deletion.{Deletion}

@@ -11,7 +11,7 @@ use Rattle.cfn_model.specs.declared.step.Event.TheVariants.{Did}
 use Rattle.cfn_model.specs.Network.{Network}
 use Rattle.cfn_model.specs.Sums.{floor, is_live}
 use Rattle.cfn_model.specs.Steps.{Allowed, Run, after}
-use Rattle.cfn_nc.proofs.CallerLemmas.{history_step}
+use Rattle.cfn_gain.proofs.CallerLemmas.{history_step, adds_none}
 use Rattle.cfn_store.specs.Standing.{Standing, history, with_step}
 use Rattle.cfn_consistency.specs.declared.deletion.Deletion.{Deletion}
 use Rattle.cfn_consistency.specs.declared.deletion.Reason.{Reason}
@@ -24,7 +24,6 @@ use Rattle.cfn_vac.specs.Running.{CanMake, CanMakeAll, with_steps, amount_of, Ar
 use Rattle.cfn_vac.specs.declared.run.Refusal.{Refusal}
 use Rattle.cfn_vac.specs.declared.lifter.Lifting.{Lifting}
 use Rattle.cfn_vac.specs.declared.lifter.Lifting.TheVariants.{Lifted, Closed, Blocked, Spent}
-use Rattle.cfn_gain.proofs.CallerLemmas.{adds_none}
 use Rattle.cfn_vac.specs.Lifts.{IsTried, IsLifted, lifts, RisesBy, TellsOf, Tells}
 use Rattle.cfn_vac.proofs.Running.{history_grown}
 

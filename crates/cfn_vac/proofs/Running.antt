@@ -12,7 +12,7 @@ use Rattle.cfn_model.specs.Network.{Network}
 use Rattle.cfn_model.specs.Steps.{after}
 use Rattle.cfn_consistency.specs.Virtual.{scaled}
 use Rattle.cfn_store.specs.Marking.{IsBehind, back_at}
-use Rattle.cfn_nc.proofs.CallerLemmas.{after_append}
+use Rattle.cfn_gain.proofs.CallerLemmas.{after_append}
 use Rattle.cfn_store.specs.Standing.{Standing, history, with_step, FitsProject, FitsExtend, FitsLift}
 use Rattle.cfn_store.specs.Rooms.{IsProjectRoom, IsExtendRoom, IsLiftRoom}
 use Rattle.cfn_vac.specs.declared.run.Refusal.{Refusal}

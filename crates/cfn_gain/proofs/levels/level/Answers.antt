@@ -1,6 +1,6 @@
 use Rattle.std.proofs.Common.{refl, subst, arith}
 use Rattle.cfn_store.specs.Standing.{history}
-use Rattle.cfn_nc.specs.Passes.{IsLeast}
+use Rattle.cfn_gain.specs.Passes.{IsLeast}
 use Rattle.cfn_gain.specs.Calls.{Does, Shows}
 use Rattle.cfn_gain.specs.Levels.{AreBelow, AddsCuts}
 use Rattle.cfn_gain.proofs.Adding.{does_then}

@@ -1,6 +1,6 @@
 use Rattle.std.proofs.Common.{ℕ, ◌<◌, length, subst, arith}
-use Rattle.cfn_nc.specs.Passes.{HasLive}
-use Rattle.cfn_nc.proofs.CallerLemmas.{not_dead}
+use Rattle.cfn_gain.specs.Passes.{HasLive}
+use Rattle.cfn_gain.proofs.CallerLemmas.{not_dead}
 use Rattle.cfn_store.specs.Standing.{history}
 use Rattle.cfn_node.proofs.propagation.is_dead.Goals as goal
 

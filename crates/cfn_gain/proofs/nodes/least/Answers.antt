@@ -1,6 +1,6 @@
 use Rattle.std.proofs.Common.{◌<◌, length, arith}
-use Rattle.cfn_nc.proofs.Reading.{next_least}
-use Rattle.cfn_nc.proofs.nodes.least.Goals as goal
+use Rattle.cfn_gain.proofs.Reading.{next_least}
+use Rattle.cfn_gain.proofs.nodes.least.Goals as goal
 
 pub loop-a-preserved : goal.loop-a-preserved
 loop-a-preserved c =

@@ -5,8 +5,8 @@ use Rattle.cfn_model.specs.Steps.{Run}
 use Rattle.cfn_consistency.specs.Consistency.{IsDead, IsNodeConsistent}
 use Rattle.cfn_consistency.specs.Groups.{GainAtNodes}
 use Rattle.cfn_store.specs.Standing.{Standing, history}
-use Rattle.cfn_nc.specs.declared.settling.Settling.{Settling}
-use Rattle.cfn_nc.specs.declared.settling.Settling.TheVariants.{Settled, Dead, Spent}
+use Rattle.cfn_gain.specs.declared.settling.Settling.{Settling}
+use Rattle.cfn_gain.specs.declared.settling.Settling.TheVariants.{Settled, Dead, Spent}
 
 -- Between two standings there are steps alone, which run at k, each a lift or a cut of a live value, and the block has
 -- at most so many steps, or none was added.

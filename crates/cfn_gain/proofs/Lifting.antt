@@ -12,9 +12,9 @@ use Rattle.cfn_model.specs.Steps.{IsValue, CanLift, Allowed}
 use Rattle.cfn_model.proofs.CallerLemmas.{when_true, when_false, eqb_same, eqb_other}
 use Rattle.cfn_consistency.specs.Consistency.{IsDead, IsFree, IsNodeConsistent}
 use Rattle.cfn_store.specs.Standing.{Standing, history, with_step, FitsLift}
-use Rattle.cfn_nc.specs.Settling.{AddsSteps}
-use Rattle.cfn_nc.specs.Passes.{HasLive, IsLeast, HasRoom, IsLifting}
-use Rattle.cfn_nc.proofs.Stepping.{history_step, adds_step}
+use Rattle.cfn_gain.specs.Settling.{AddsSteps}
+use Rattle.cfn_gain.specs.Passes.{HasLive, IsLeast, HasRoom, IsLifting}
+use Rattle.cfn_gain.proofs.Stepping.{history_step, adds_step}
 
 -- each live value has at least the least
 pub at_least : (a m : ℕ) (z : ℤ) → a ≤ m → pos m ≤ℤ z → pos a ≤ℤ z

@@ -1,8 +1,8 @@
 use Rattle.std.proofs.Common.{◌≡◌}
 use Rattle.cfn_store.specs.Standing.{Standing}
-use Rattle.cfn_nc.specs.Settling.{AddsSteps}
-use Rattle.cfn_nc.specs.Passes.{IsCutting}
-use Rattle.cfn_nc.proofs.nodes.cut.Given as goal
+use Rattle.cfn_gain.specs.Settling.{AddsSteps}
+use Rattle.cfn_gain.specs.Passes.{IsCutting}
+use Rattle.cfn_gain.proofs.nodes.cut.Given as goal
 
 abbrev pub invariant-loop-x : goal.invariant-loop-x
 invariant-loop-x l = record {

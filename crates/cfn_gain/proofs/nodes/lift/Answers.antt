@@ -3,11 +3,11 @@ use Rattle.cfn_model.specs.declared.step.Step.TheVariants.{Lift}
 use Rattle.cfn_model.specs.Sums.{floor}
 use Rattle.cfn_consistency.specs.Consistency.{IsDead}
 use Rattle.cfn_store.specs.Standing.{Standing, history, with_step}
-use Rattle.cfn_nc.specs.Settling.{AddsSteps}
-use Rattle.cfn_nc.specs.Passes.{IsLeast, IsLifting}
-use Rattle.cfn_nc.proofs.Lifting.{lift_none, lift_some, lift_due, lift_to_threshold, adds_lift}
-use Rattle.cfn_nc.proofs.nodes.lift.Goals.{then-least-gt0+else-is_full+else-least-lacks, else-least-gt0}
-use Rattle.cfn_nc.proofs.nodes.lift.Goals as goal
+use Rattle.cfn_gain.specs.Settling.{AddsSteps}
+use Rattle.cfn_gain.specs.Passes.{IsLeast, IsLifting}
+use Rattle.cfn_gain.proofs.Lifting.{lift_none, lift_some, lift_due, lift_to_threshold, adds_lift}
+use Rattle.cfn_gain.proofs.nodes.lift.Goals.{then-least-gt0+else-is_full+else-least-lacks, else-least-gt0}
+use Rattle.cfn_gain.proofs.nodes.lift.Goals as goal
 
 pub returns-then-is_full-clause-spent : goal.returns-then-is_full-clause-spent
 returns-then-is_full-clause-spent c = λ is.

@@ -1,6 +1,6 @@
 use Rattle.std.proofs.Common.{◌≡◌}
-use Rattle.cfn_nc.specs.Passes.{IsLifting}
-use Rattle.cfn_nc.proofs.nodes.lift.Given as goal
+use Rattle.cfn_gain.specs.Passes.{IsLifting}
+use Rattle.cfn_gain.proofs.nodes.lift.Given as goal
 
 abbrev pub invariant-loop-x : goal.invariant-loop-x
 invariant-loop-x l = record {

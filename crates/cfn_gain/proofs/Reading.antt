@@ -10,7 +10,7 @@ use Rattle.cfn_model.specs.Steps.{IsValue}
 use Rattle.cfn_live.specs.Sets.{AreLive}
 use Rattle.cfn_store.specs.Standing.{Standing, history}
 use Rattle.cfn_store.specs.Rooms.{sets_of}
-use Rattle.cfn_nc.specs.Passes.{HasLive, IsLeast}
+use Rattle.cfn_gain.specs.Passes.{HasLive, IsLeast}
 
 -- what the values at the places below i have in common
 pub record IsLeastTo (s : Standing) (x : ℕ) (values : List ℕ) (i least : ℕ) : Type 0 where

@@ -8,8 +8,8 @@ ghost use Rattle.std.specs.Prelude.{◌≡◌, ℕ, ◌+◌, ◌<◌, ◌≤◌,
 ghost use Rattle.cfn_model.specs.Sums.{floor};
 ghost use Rattle.cfn_model.specs.Tree.{IsWiped};
 ghost use Rattle.cfn_store.specs.Standing.{Standing, history};
-ghost use Rattle.cfn_nc.specs.Settling.{AddsSteps, Answers};
-ghost use Rattle.cfn_nc.specs.Passes.{HasLive, IsLeast, HasRoom, IsLifting, IsCutting};
+ghost use Rattle.cfn_gain.specs.Settling.{AddsSteps, Answers};
+ghost use Rattle.cfn_gain.specs.Passes.{HasLive, IsLeast, HasRoom, IsLifting, IsCutting};
 
 use crate::settling::Settling;
 use cfn_net::Network;

@@ -12,10 +12,10 @@ use Rattle.cfn_model.specs.Steps.{IsValue, Allowed}
 use Rattle.cfn_model.proofs.CallerLemmas.{eqb_same, eqb_other, fewer}
 use Rattle.cfn_consistency.specs.Consistency.{IsDead, IsFree, IsNodeConsistent}
 use Rattle.cfn_store.specs.Standing.{Standing, history, with_step}
-use Rattle.cfn_nc.specs.Settling.{AddsSteps}
-use Rattle.cfn_nc.specs.Passes.{HasLive, HasRoom, IsLifting, IsEarlier, IsCutting}
-use Rattle.cfn_nc.proofs.Stepping.{history_step, adds_step}
-use Rattle.cfn_nc.proofs.Lifting.{not_dead}
+use Rattle.cfn_gain.specs.Settling.{AddsSteps}
+use Rattle.cfn_gain.specs.Passes.{HasLive, HasRoom, IsLifting, IsEarlier, IsCutting}
+use Rattle.cfn_gain.proofs.Stepping.{history_step, adds_step}
+use Rattle.cfn_gain.proofs.Lifting.{not_dead}
 
 -- the pass begins where the lifts ended
 pub begin_cuts : (before s : Standing) (k limit lacks : ℕ) → IsLifting before s k limit (length s.network.sizes) → floor s.network (history s) + lacks ≡ k → IsCutting before s k limit lacks 0 0

@@ -7,7 +7,7 @@ use Rattle.cfn_model.specs.Network.{Network}
 use Rattle.cfn_model.specs.Steps.{Allowed, Run, after}
 use Rattle.cfn_consistency.specs.Groups.{GainsAtNode, GainAtNodes}
 use Rattle.cfn_store.specs.Standing.{Standing, history, with_step}
-use Rattle.cfn_nc.specs.Settling.{AddsSteps}
+use Rattle.cfn_gain.specs.Settling.{AddsSteps}
 
 pub after_append : (first second : List Step) (history : List Event) → after (first ++ second) history ≡ after second (after first history)
 after_append [] second history = refl

@@ -1,9 +1,9 @@
 use Rattle.std.proofs.Common.{◌≡◌, zero, suc, ◌<◌, false, nat_eq, length, inl, inr, sym, ◌∙◌, subst, arith}
 use Rattle.std.proofs.lemmas.Bool.{cases_eq}
 use Rattle.cfn_store.specs.Standing.{history}
-use Rattle.cfn_nc.specs.Passes.{HasLive}
-use Rattle.cfn_nc.proofs.Reading.{has_live}
-use Rattle.cfn_nc.proofs.nodes.is_wiped.Goals as goal
+use Rattle.cfn_gain.specs.Passes.{HasLive}
+use Rattle.cfn_gain.proofs.Reading.{has_live}
+use Rattle.cfn_gain.proofs.nodes.is_wiped.Goals as goal
 
 pub loop-x-preserved : goal.loop-x-preserved
 loop-x-preserved c = λ y h. elim (cases_eq y c.loop-x.x) [

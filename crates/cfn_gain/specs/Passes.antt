@@ -6,7 +6,7 @@ use Rattle.cfn_model.specs.Sums.{floor, unary, is_live}
 use Rattle.cfn_model.specs.Steps.{IsValue}
 use Rattle.cfn_consistency.specs.Consistency.{IsFree}
 use Rattle.cfn_store.specs.Standing.{Standing, history}
-use Rattle.cfn_nc.specs.Settling.{AddsSteps}
+use Rattle.cfn_gain.specs.Settling.{AddsSteps}
 
 -- The variable x has a live value.
 pub record HasLive (P : Network) (history : List Event) (x : ℕ) : Type 0 where

@@ -1,5 +1,0 @@
-pub mod Stepping
-pub mod Lifting
-pub mod Cutting
-pub mod Reading
-pub mod CallerLemmas
