@@ -3,3 +3,4 @@ pub use Rattle.cfn_due.proofs.Staying.{arc_goes_on, directed_goes_on, existing_g
 pub use Rattle.cfn_due.proofs.Noting.{goes_split, after_joined, step_in_range}
 pub use Rattle.cfn_due.proofs.Siding.{side_goes_on, side_goes_along}
 pub use Rattle.cfn_due.proofs.Upper.{pair_of_two}
+pub use Rattle.cfn_due.proofs.Asking.{two_take_part}

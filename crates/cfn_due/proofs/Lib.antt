@@ -7,3 +7,5 @@ pub mod Filling
 pub mod Noting
 pub mod CallerLemmas
 pub mod Siding
+pub mod Doubting
+pub mod Asking

@@ -11,17 +11,16 @@ ghost use Rattle.cfn_gain.specs.Gains.{Gains};
 ghost use Rattle.cfn_eac.specs.Arms.{AreArms, AreOfFunctions, HasGood, IsGood};
 ghost use Rattle.cfn_model.specs.Steps.{IsValue};
 ghost use Rattle.cfn_due.specs.Dues.{HasSizes, Holds};
-ghost use Rattle.cfn_rest.specs.Resting.{AreSure};
+ghost use Rattle.cfn_due.specs.Resting.{AreSure};
 ghost use Rattle.cfn_eac.specs.Owing.{IsAsked};
 
 use crate::arms::Arms;
 use crate::asking::asked;
 use crate::resting::is_at_rest;
 use cfn_dac::{Pair, full_supports};
-use cfn_due::Due;
+use cfn_due::{Due, Rests};
 use cfn_gain::{Halt, Limits, lacking, level};
 use cfn_incidence::Incidence;
-use cfn_rest::Rests;
 use cfn_store::Store;
 
 /// Makes a variable existential: where no step was made, a live value of unary cost 0 has a full support in each first

@@ -16,14 +16,13 @@ ghost use Rattle.cfn_live.specs.Sets.{live_count};
 ghost use Rattle.cfn_store.specs.Rooms.{sets_of};
 ghost use Rattle.cfn_store.specs.Standing.{history};
 ghost use Rattle.cfn_due.specs.Dues.{HasSizes, Holds};
-ghost use Rattle.cfn_rest.specs.Resting.{AreSure};
+ghost use Rattle.cfn_due.specs.Resting.{AreSure};
 ghost use Rattle.cfn_eac.specs.Resting.{RestsOn};
 
 use crate::arms::wide_arm_at;
 use cfn_dac::{Pair, least_total};
-use cfn_due::Due;
+use cfn_due::{Due, Rests};
 use cfn_incidence::{Incidence, Place};
-use cfn_rest::Rests;
 use cfn_store::Store;
 
 /// Whether the value that may rest is live, has the unary cost 0, and, where its variable is open, has a full support in each

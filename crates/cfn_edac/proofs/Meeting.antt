@@ -11,7 +11,7 @@ use Rattle.cfn_net.proofs.CallerLemmas.{get_or-dims}
 use Rattle.cfn_live.specs.Sets.{live_below}
 use Rattle.cfn_live.proofs.CallerLemmas.{live_below_two}
 use Rattle.cfn_consistency.proofs.CallerLemmas.{tuple_live_at}
-use Rattle.cfn_rest.specs.Siding.{HasSupports}
+use Rattle.cfn_due.specs.Siding.{HasSupports}
 
 abbrev one_if : Bool → ℕ
 one_if b = if b then 1 else 0

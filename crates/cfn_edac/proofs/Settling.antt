@@ -11,9 +11,8 @@ use Rattle.cfn_consistency.specs.Openness.{TakesPart}
 use Rattle.cfn_consistency.specs.Consistency.{HasSupport, IsNodeConsistent, IsArcConsistent, AreFullyConsistent}
 use Rattle.cfn_store.specs.Standing.{Standing, history}
 use Rattle.cfn_due.specs.Dues.{Dues, NothingWaits, waiting, without_first}
-use Rattle.cfn_due.proofs.CallerLemmas.{nothing_waits_is_full}
-use Rattle.cfn_rest.specs.Siding.{HasSupports}
-use Rattle.cfn_rest.proofs.CallerLemmas.{two_take_part}
+use Rattle.cfn_due.proofs.CallerLemmas.{nothing_waits_is_full, two_take_part}
+use Rattle.cfn_due.specs.Siding.{HasSupports}
 use Rattle.cfn_gain.specs.declared.limits.Limits.{Limits}
 use Rattle.cfn_gain.specs.Calls.{Adds, IsUnchanged, Grows}
 use Rattle.cfn_gain.proofs.CallerLemmas.{unchanged, no_shorter}

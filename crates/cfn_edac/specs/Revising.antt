@@ -3,8 +3,8 @@ use Rattle.std.specs.Prelude.{ℕ, ◌<◌, ◌⊎◌, length, Option, Some, Non
 use Rattle.cfn_model.specs.Network.{Network}
 use Rattle.cfn_store.specs.Standing.{Standing, history}
 use Rattle.cfn_due.specs.Dues.{Dues, NothingWaits, waiting, Holds}
-use Rattle.cfn_rest.specs.Resting.{Resting, AreSure}
-use Rattle.cfn_rest.specs.Siding.{Siding, AreSupported}
+use Rattle.cfn_due.specs.Resting.{Resting, AreSure}
+use Rattle.cfn_due.specs.Siding.{Siding, AreSupported}
 use Rattle.cfn_gain.specs.Calls.{IsUnchanged, Grows}
 
 -- A network, what is due in a store of it, and what is known of values that rest and of supports.

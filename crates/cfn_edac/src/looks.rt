@@ -9,11 +9,11 @@ ghost use Rattle.cfn_store.specs.Standing.{history};
 ghost use Rattle.cfn_gain.specs.Calls.{GoesOn, Does, Shows};
 ghost use Rattle.cfn_gain.specs.Gains.{Gains};
 ghost use Rattle.cfn_gain.specs.Levels.{IsLevel};
-ghost use Rattle.cfn_rest.specs.Siding.{HasSupports, AreSupported};
+ghost use Rattle.cfn_due.specs.Siding.{HasSupports, AreSupported};
 
 use cfn_dac::takes_part;
+use cfn_due::Sides;
 use cfn_gain::{Halt, Limits, lacking, level, support_all, support_at};
-use cfn_rest::Sides;
 use cfn_store::Store;
 
 /// Makes each variable level: those that are not known to be.

@@ -2,9 +2,9 @@
 
 ghost use Rattle.std.specs.Prelude.{◌≡◌};
 
+use cfn_due::Rests;
 use cfn_incidence::{Incidence, Place};
 use cfn_net::{Builder, Network};
-use cfn_rest::Rests;
 use std::alloc::{AllocError, Global};
 use std::test::*;
 

@@ -2,7 +2,7 @@ use Rattle.std.proofs.Common.{sym, ◌∙◌, subst}
 use Rattle.cfn_model.specs.Network.{IsNetwork}
 use Rattle.cfn_store.specs.Standing.{history}
 use Rattle.cfn_gain.proofs.CallerLemmas.{on_ok, gained_none}
-use Rattle.cfn_rest.specs.Resting.{AreSure}
+use Rattle.cfn_due.specs.Resting.{AreSure}
 use Rattle.cfn_eac.specs.Arms.{AreArms}
 use Rattle.cfn_eac.proofs.Existing.{existential_of}
 use Rattle.cfn_eac.proofs.raising.existential.Goals as goal

@@ -1,7 +1,7 @@
 use Rattle.std.proofs.Common.{◌≡◌, ℕ, ◌<◌}
 use Rattle.cfn_store.specs.Standing.{history}
 use Rattle.cfn_incidence.specs.Places.{place_at}
-use Rattle.cfn_rest.specs.Resting.{AreSure}
+use Rattle.cfn_due.specs.Resting.{AreSure}
 use Rattle.cfn_eac.specs.Resting.{RestsOn}
 use Rattle.cfn_eac.proofs.resting.is_at_rest.Given as goal
 

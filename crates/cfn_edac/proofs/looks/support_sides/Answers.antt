@@ -2,7 +2,7 @@ use Rattle.std.proofs.Common.{sym, ap, ◌∙◌, subst, length}
 use Rattle.cfn_model.specs.Network.{Network, scope_at}
 use Rattle.cfn_store.specs.Standing.{history}
 use Rattle.cfn_gain.proofs.CallerLemmas.{does_then, shows_after, gains_then}
-use Rattle.cfn_rest.specs.Siding.{HasSupports}
+use Rattle.cfn_due.specs.Siding.{HasSupports}
 use Rattle.cfn_edac.proofs.Settling.{two_sides}
 use Rattle.cfn_edac.proofs.looks.support_sides.Goals as goal
 

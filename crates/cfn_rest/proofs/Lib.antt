@@ -1,3 +1,0 @@
-pub mod Doubting
-pub mod Siding
-pub mod CallerLemmas

@@ -1,3 +1,0 @@
-pub mod Marking
-pub mod Resting
-pub mod Siding
