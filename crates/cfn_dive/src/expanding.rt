@@ -21,7 +21,6 @@ ghost use Rattle.cfn_dive.specs.Diving.{IsOf, IsWaiting, IsDiving, IsExpanding, 
 use crate::growth::{Growth, Leaf};
 use crate::parts::{Parts, Waiting};
 use cfn_clock::Halt;
-use cfn_close::shut;
 use cfn_gain::Settling;
 use cfn_low::{Holder, Incumbent, Low};
 use cfn_model::{Decision, Event};
@@ -29,7 +28,7 @@ use cfn_net::Network;
 use cfn_node::{Around, Asked, enforce, since, take_values};
 use cfn_proof::{Block, NodeId};
 use cfn_store::Mark;
-use cfn_trim::block_stays_tame;
+use cfn_trim::{block_stays_tame, shut};
 use std::alloc::{AllocError, Global};
 
 impl<'n> Parts<'n> {

@@ -14,7 +14,7 @@ use Rattle.cfn_model.specs.declared.step.Event.TheVariants.{Did}
 use Rattle.cfn_model.proofs.CallerLemmas.{fewer}
 use Rattle.cfn_store.specs.Standing.{Standing, history}
 use Rattle.cfn_branch.specs.Choosing.{AllDecided, IsChoice, IsSplit}
-use Rattle.cfn_close.specs.Leaves.{IsLeaf}
+use Rattle.cfn_trim.specs.Leaves.{IsLeaf}
 use Rattle.cfn_consistency.specs.Consistency.{AreFullyConsistent}
 use Rattle.cfn_gain.specs.declared.settling.Settling.{Settling}
 use Rattle.cfn_gain.specs.declared.settling.Settling.TheVariants.{Settled}

@@ -12,7 +12,6 @@ ghost use Rattle.cfn_dive.specs.Diving.{IsOf};
 ghost use Rattle.cfn_kbest.specs.Expanding.{IsExpanded};
 
 use cfn_clock::Halt;
-use cfn_close::shut;
 use cfn_dive::Parts;
 use cfn_gain::Settling;
 use cfn_model::{Decision, Event};
@@ -20,7 +19,7 @@ use cfn_net::{Network, Scored};
 use cfn_node::{Around, Asked, enforce, take_values};
 use cfn_proof::Block;
 use cfn_store::Mark;
-use cfn_trim::block_stays_tame;
+use cfn_trim::{block_stays_tame, shut};
 use std::alloc::{AllocError, Global};
 
 /// What becomes of a leaf.

@@ -3,7 +3,7 @@ use Rattle.std.proofs.Common.{◌≡◌, ℕ, ◌<◌, ◌≤◌, List, length, 
 use Rattle.cfn_model.specs.Network.{Network, Fits, cost}
 use Rattle.cfn_model.specs.Steps.{IsValue}
 use Rattle.cfn_store.specs.Standing.{Standing, history}
-use Rattle.cfn_close.specs.Leaves.{IsLeaf, AddsShifts}
+use Rattle.cfn_trim.specs.Leaves.{IsLeaf, AddsShifts}
 use Rattle.cfn_node.specs.Enforcing.{GoesOn, OnlyOf}
 
 -- the leaf of one assignment

@@ -5,3 +5,6 @@ pub mod Running
 pub mod Marks
 pub mod Closing
 pub mod Small
+pub mod Steps
+pub mod Ending
+pub mod Emptying

@@ -1,3 +1,5 @@
 pub mod Trimming
 pub mod Making
 pub mod Tables
+pub mod Leaves
+pub mod Shifting

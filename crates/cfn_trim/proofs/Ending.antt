@@ -10,7 +10,7 @@ use Rattle.cfn_model.specs.Steps.{AllInRange}
 use Rattle.cfn_model.specs.Laws.{Equivalence, sum_below}
 use Rattle.cfn_store.specs.Exact.{AllInPlace, IsExact, IsExactAlong}
 use Rattle.cfn_store.specs.Standing.{Standing, history}
-use Rattle.cfn_close.specs.Shifting.{IsShutting}
+use Rattle.cfn_trim.specs.Shifting.{IsShutting}
 
 sum_none : (f : ℕ → ℤ) (n : ℕ) → ((i : ℕ) → i < n → f i ≡ pos 0) → sum_below f n ≡ pos 0
 sum_none f zero none = refl

@@ -5,10 +5,10 @@ use Rattle.cfn_store.specs.Standing.{history}
 use Rattle.cfn_model.specs.declared.step.Step.TheVariants.{Project}
 use Rattle.cfn_model.specs.Sums.{floor}
 use Rattle.cfn_model.specs.Steps.{IsValue}
-use Rattle.cfn_close.proofs.Emptying.{shift_more, shift_none, shift_empty, place_of, live_kept, made_network}
-use Rattle.cfn_close.proofs.Ending.{range_of}
-use Rattle.cfn_close.proofs.shutting.shift_at.Goals.{then-is_empty-via-then-is_empty, then-is_empty-via-else-is_empty+then-lacks-eq0}
-use Rattle.cfn_close.proofs.shutting.shift_at.Goals as goal
+use Rattle.cfn_trim.proofs.Emptying.{shift_more, shift_none, shift_empty, place_of, live_kept, made_network}
+use Rattle.cfn_trim.proofs.Ending.{range_of}
+use Rattle.cfn_trim.proofs.shutting.shift_at.Goals.{then-is_empty-via-then-is_empty, then-is_empty-via-else-is_empty+then-lacks-eq0}
+use Rattle.cfn_trim.proofs.shutting.shift_at.Goals as goal
 
 pub returns-then-is_empty : goal.returns-then-is_empty
 returns-then-is_empty c = λ before values old. elim c.then-is_empty.branch [

@@ -1,8 +1,8 @@
 use Rattle.std.proofs.Common.{◌<◌, length, ap, ◌∙◌, arith}
 use Rattle.cfn_model.specs.Network.{Network}
-use Rattle.cfn_close.proofs.Emptying.{lift_more, made_network}
+use Rattle.cfn_trim.proofs.Emptying.{lift_more, made_network}
 use Rattle.cfn_model.specs.declared.step.Step.TheVariants.{Lift}
-use Rattle.cfn_close.proofs.shutting.lift_all.Goals as goal
+use Rattle.cfn_trim.proofs.shutting.lift_all.Goals as goal
 
 pub loop-x-preserved : goal.loop-x-preserved
 loop-x-preserved c =

@@ -9,7 +9,7 @@ use Rattle.cfn_model.specs.Sums.{lifted, floor, unary_by, unary, residual_by, re
 use Rattle.cfn_model.specs.Steps.{CanProject, CanLift}
 use Rattle.cfn_store.specs.Standing.{Standing, history, with_step}
 use Rattle.cfn_store.specs.Extremes.{IsPicked}
-use Rattle.cfn_close.specs.Leaves.{IsLeaf, AddsShifts}
+use Rattle.cfn_trim.specs.Leaves.{IsLeaf, AddsShifts}
 
 -- Where the floor is still below k, the unary costs of the assignment's values at the variables below x are 0, and so are
 -- the residual costs of its tuples at the functions below f. There is room for a lift of each variable from x on and two

@@ -10,8 +10,8 @@ ghost use Rattle.cfn_model.specs.Network.{arity, variable_at};
 ghost use Rattle.cfn_model.specs.Sums.{floor, unary, is_live};
 ghost use Rattle.cfn_model.specs.Steps.{IsValue, IsPlace};
 ghost use Rattle.cfn_store.specs.Standing.{Standing, history};
-ghost use Rattle.cfn_close.specs.Leaves.{IsLeaf, AddsShifts};
-ghost use Rattle.cfn_close.specs.Shifting.{IsShutting, IsLifted, IsAmount, IsProjected};
+ghost use Rattle.cfn_trim.specs.Leaves.{IsLeaf, AddsShifts};
+ghost use Rattle.cfn_trim.specs.Shifting.{IsShutting, IsLifted, IsAmount, IsProjected};
 
 use cfn_model::laws::equivalence;
 use cfn_store::Store;

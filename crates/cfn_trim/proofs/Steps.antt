@@ -10,8 +10,8 @@ use Rattle.cfn_model.specs.Network.{Network, variable_at}
 use Rattle.cfn_model.specs.Sums.{when, floor, unary, residual, is_live}
 use Rattle.cfn_model.specs.Steps.{Allowed, Run, after}
 use Rattle.cfn_store.specs.Standing.{Standing, history, with_step}
-use Rattle.cfn_close.specs.Leaves.{IsPlain, ArePlain, AddsShifts}
-use Rattle.cfn_close.specs.Shifting.{IsMade, Shifts}
+use Rattle.cfn_trim.specs.Leaves.{IsPlain, ArePlain, AddsShifts}
+use Rattle.cfn_trim.specs.Shifting.{IsMade, Shifts}
 
 after_append : (first second : List Step) (history : List Event) → after (first ++ second) history ≡ after second (after first history)
 after_append [] second history = refl

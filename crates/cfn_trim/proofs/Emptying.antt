@@ -13,12 +13,12 @@ use Rattle.cfn_model.specs.Steps.{IsPlace, IsValue, AllInRange}
 use Rattle.cfn_model.proofs.CallerLemmas.{eqb_same, eqb_other, fits_at}
 use Rattle.cfn_store.specs.Standing.{Standing, history}
 use Rattle.cfn_store.specs.Extremes.{IsPicked}
-use Rattle.cfn_close.specs.Leaves.{IsLeaf}
-use Rattle.cfn_close.specs.Shifting.{IsShutting, IsLifted, IsProjected, IsMade}
+use Rattle.cfn_trim.specs.Leaves.{IsLeaf}
+use Rattle.cfn_trim.specs.Shifting.{IsShutting, IsLifted, IsProjected, IsMade}
 use Rattle.cfn_live.specs.Sets.{AreLive}
 use Rattle.cfn_store.specs.Rooms.{sets_of}
 use Rattle.cfn_net.proofs.CallerLemmas.{get_or-dims}
-use Rattle.cfn_close.proofs.Steps.{history_step, adds_none, lift_shifts, project_shifts}
+use Rattle.cfn_trim.proofs.Steps.{history_step, adds_none, lift_shifts, project_shifts}
 
 -- where the same is live, a leaf stays one
 leaf_kept : (s t : Standing) (values : List ℕ) (k : ℕ) → t.network ≡ s.network → ((y b : ℕ) → is_live (history t) y b ≡ is_live (history s) y b) → IsLeaf s values k → IsLeaf t values k

@@ -1,5 +1,5 @@
-use Rattle.cfn_close.proofs.Emptying.{some_live, first_is, first_value, first_live}
-use Rattle.cfn_close.proofs.shutting.value_of.Goals as goal
+use Rattle.cfn_trim.proofs.Emptying.{some_live, first_is, first_value, first_live}
+use Rattle.cfn_trim.proofs.shutting.value_of.Goals as goal
 
 pub bounds-live-0 : goal.bounds-live-0
 bounds-live-0 c = some_live c.args.store.now c.requires.leaf.0 c.args.k c.args.x c.live.result.now c.requires.variable c.requires.leaf.1 c.live.ensures

@@ -1,8 +1,8 @@
 use Rattle.std.proofs.Common.{◌≡◌, ◌+◌, ℕ, List, length, sym, ap, subst, ◌∙◌, arith}
 use Rattle.cfn_model.specs.Network.{Network}
 use Rattle.cfn_store.specs.Standing.{Standing}
-use Rattle.cfn_close.specs.Shifting.{IsShutting}
-use Rattle.cfn_close.proofs.shutting.shift_all.Goals as goal
+use Rattle.cfn_trim.specs.Shifting.{IsShutting}
+use Rattle.cfn_trim.proofs.shutting.shift_all.Goals as goal
 
 -- the sizes that the function was called with
 width : (c : goal.After-shift_at) → length c.loop-f.store.network.sizes ≡ length c.args.store.now.network.sizes

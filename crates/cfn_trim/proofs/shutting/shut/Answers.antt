@@ -1,11 +1,11 @@
 use Rattle.std.proofs.Common.{◌≤◌, length, sym, subst, ◌∙◌}
 use Rattle.cfn_model.specs.Network.{Network, IsNetwork}
 use Rattle.cfn_store.specs.Standing.{history}
-use Rattle.cfn_close.specs.Shifting.{IsShutting}
+use Rattle.cfn_trim.specs.Shifting.{IsShutting}
 use Rattle.cfn_model.specs.Sums.{floor}
-use Rattle.cfn_close.proofs.Emptying.{none_yet}
-use Rattle.cfn_close.proofs.Ending.{all_shut, reached}
-use Rattle.cfn_close.proofs.shutting.shut.Goals as goal
+use Rattle.cfn_trim.proofs.Emptying.{none_yet}
+use Rattle.cfn_trim.proofs.Ending.{all_shut, reached}
+use Rattle.cfn_trim.proofs.shutting.shut.Goals as goal
 
 pub lift_all-requires-clause-start : goal.lift_all-requires-clause-start
 lift_all-requires-clause-start c = (c.requires.leaf.0, none_yet c.args.store.now c.requires.leaf.0 c.args.k c.requires.leaf.1 c.requires.room)
