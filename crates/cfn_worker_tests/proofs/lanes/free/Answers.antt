@@ -1,5 +1,5 @@
 use Rattle.std.proofs.Common.{◌⊎◌, inl, inr, Bool, true, false, IsTrue, IsFalse, refl}
-use Rattle.cfn_worker.proofs.CallerLemmas.{goes_back}
+use Rattle.cfn_search.proofs.CallerLemmas.{goes_back}
 use Rattle.cfn_worker_tests.proofs.lanes.free.Goals as goal
 
 -- what is freed, by the answer

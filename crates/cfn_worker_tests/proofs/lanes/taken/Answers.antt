@@ -1,5 +1,5 @@
 use Rattle.cfn_pool.specs.Views.{pool}
-use Rattle.cfn_worker.proofs.CallerLemmas.{goes_taken}
+use Rattle.cfn_search.proofs.CallerLemmas.{goes_taken}
 use Rattle.cfn_worker_tests.proofs.lanes.taken.Goals as goal
 
 pub returns-in-Given-clause-goes : goal.returns-in-Given-clause-goes
