@@ -1,7 +1,7 @@
 use Rattle.std.proofs.Common.{sym, ◌∙◌, subst}
 use Rattle.cfn_store.specs.Standing.{history}
 use Rattle.cfn_derivation.specs.Derived.{AllAlive}
-use Rattle.cfn_lifting_tests.proofs.derivations.derived.Goals as goal
+use Rattle.cfn_enforcing_tests.proofs.derivations.derived.Goals as goal
 
 pub derive-requires-clause-alive : goal.derive-requires-clause-alive
 derive-requires-clause-alive c =

@@ -2,7 +2,7 @@
 use Rattle.std.proofs.Common.{◌<◌, length, eqb-true, inr, sym, ap, ◌∙◌, arith}
 use Rattle.cfn_live.proofs.CallerLemmas.{live_below_none}
 use Rattle.cfn_store.specs.Standing.{history}
-use Rattle.cfn_trim_tests.proofs.trimming.closes.Goals as goal
+use Rattle.cfn_enforcing_tests.proofs.trimming.closes.Goals as goal
 
 pub returns-then-variables-gt0 : goal.returns-then-variables-gt0
 returns-then-variables-gt0 c zero =

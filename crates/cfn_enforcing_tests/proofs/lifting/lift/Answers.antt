@@ -2,7 +2,7 @@ use Rattle.std.proofs.Common.{sym, ap, ◌∙◌, subst, arith}
 use Rattle.cfn_model.specs.Network.{Network}
 use Rattle.cfn_store.specs.Standing.{history}
 use Rattle.cfn_derivation.specs.Derived.{AllAlive, value_count}
-use Rattle.cfn_lifting_tests.proofs.lifting.lift.Goals as goal
+use Rattle.cfn_enforcing_tests.proofs.lifting.lift.Goals as goal
 
 pub lift_once-requires-clause-ready : goal.lift_once-requires-clause-ready
 lift_once-requires-clause-ready c =

@@ -1,5 +1,5 @@
 use Rattle.std.proofs.Common.{◌≡◌, ◌+◌, ◌≤◌, length, take}
-use Rattle.cfn_trim_tests.proofs.making.make_all.Given as goal
+use Rattle.cfn_enforcing_tests.proofs.making.make_all.Given as goal
 
 -- the steps so far are the block, and there is room for the rest
 abbrev pub invariant-loop-step : goal.invariant-loop-step
