@@ -2,26 +2,15 @@
 
 ghost use Rattle.std.specs.Prelude.{IfOk};
 ghost use Rattle.cfn_model.specs.Text.{IsSpelledBest};
-ghost use Rattle.cfn_desk.specs.Outside.{IsWriting};
 ghost use Rattle.cfn_proof.specs.Certificates.{solution_of};
 
-use cfn_desk::{Desk, Failed, MemoryDesk};
+use crate::given::{split_tree, writing_desk};
+use cfn_desk::Failed;
 use cfn_history::{Happened, History};
-use cfn_proof::{Certificate, Decision, Tree};
+use cfn_proof::{Certificate, Tree};
 use cfn_recordwrite::write;
 use std::alloc::{AllocError, Global};
 use std::test::Fail;
-
-/// The split by the value 0 of a network of one variable, with two open leaves.
-fn split_tree(alloc: Global) -> Result<Tree, AllocError> {
-    let decision = Decision::Is {
-        variable: 0,
-        value: 0,
-    };
-    let mut tree = Tree::new(alloc)?;
-    tree.split(Tree::ROOT, decision)?;
-    Ok(tree)
-}
 
 /// One thing of each kind, the first of them in room that was reserved.
 fn history(alloc: Global) -> Result<History, AllocError> {
@@ -68,21 +57,10 @@ fn certificate(alloc: Global) -> Result<Certificate, AllocError>
 const RECORD: &[u8] = b"wcsprecord 1\nnetwork 1 5 10\nbudget 100\ntake 0 2 0 1\ngive 0 0 1 9 8\n\
     split 0 0\nopen\nopen\nback 3 2 64\nrecall\nsweep 7\nbest none\nend\n";
 
-/// A desk that is writing a file.
-fn writing_desk(rt: &HostRuntime) -> Result<MemoryDesk, Fail>
-    ensures { IfOk result (λ desk. IsWriting desk.calls) }
-{
-    let mut desk = MemoryDesk::make(rt.alloc(), &[], 4096, 0, &[])?;
-    match desk.open_out("record") {
-        Ok(()) => Ok(desk),
-        Err(Failed) => Err(Fail::new("the file did not open")),
-    }
-}
-
 /// What becomes of the record, and whether the file has its bytes then.
 fn written(rt: &HostRuntime, history: &History) -> Result<(Result<(), Failed>, bool), Fail> {
     let certificate = certificate(rt.alloc())?;
-    let mut desk = writing_desk(rt)?;
+    let mut desk = writing_desk(rt, &[])?;
     let answer = write(history, &certificate, &mut desk);
     Ok((answer, desk.out_bytes() == RECORD))
 }

@@ -1,9 +1,9 @@
 //! Tests of lists that are written into a file and said on the screen.
 
-ghost use Rattle.std.specs.Prelude.{◌<◌, ◌≤◌, IfOk};
+ghost use Rattle.std.specs.Prelude.{◌<◌, ◌≤◌};
 ghost use Rattle.cfn_model.specs.declared.limits.TheConstants.{GREATEST};
-ghost use Rattle.cfn_desk.specs.Outside.{IsWriting};
 
+use crate::given::{split_tree, writing_desk};
 use cfn_best::ListFault;
 use cfn_bestwrite::{write_best, write_list_refused, write_list_report, write_list_verified};
 use cfn_desk::{Desk, Failed, MemoryDesk};
@@ -19,17 +19,6 @@ fn listed(alloc: Global, cost: u64, value: u32) -> Result<Listed, AllocError>
 {
     let values = vec![in alloc; value]?;
     Ok(Listed { cost, values })
-}
-
-/// The split by the value 0 of a network of one variable, with two open leaves.
-fn split_tree(alloc: Global) -> Result<Tree, AllocError> {
-    let decision = Decision::Is {
-        variable: 0,
-        value: 0,
-    };
-    let mut tree = Tree::new(alloc)?;
-    tree.split(Tree::ROOT, decision)?;
-    Ok(tree)
 }
 
 /// The list of both assignments.
@@ -53,17 +42,6 @@ const BOTH: &[u8] =
 
 /// The words of that text.
 const BOTH_WORDS: u64 = 27;
-
-/// A desk that is writing a file, where these calls fail. The opening is call 1.
-fn writing_desk(rt: &HostRuntime, failing: &[u64]) -> Result<MemoryDesk, Fail>
-    ensures { IfOk result (λ desk. IsWriting desk.calls) }
-{
-    let mut desk = MemoryDesk::make(rt.alloc(), &[], 4096, 0, failing)?;
-    match desk.open_out("best") {
-        Ok(()) => Ok(desk),
-        Err(Failed) => Err(Fail::new("the file did not open")),
-    }
-}
 
 /// What becomes of a list that is written where these calls fail, and whether the file has these bytes then.
 fn write_into_file(
