@@ -1,5 +1,6 @@
 //! Tests of what the checker of lists answers to whole texts.
 
+use crate::networks::TINY;
 use cfn_best::ListFault::{Certificate, Listed};
 use cfn_bestcheck::{BestCheck, check_best};
 use cfn_fault::FaultKind;
@@ -7,10 +8,7 @@ use cfn_wcsp::read;
 use std::alloc::Global;
 use std::test::Fail;
 
-/// One variable of 2 values, and one function over it: it costs 3, and 1 where the value is 1.
-pub(crate) const TINY: &[u8] = b"tiny 1 2 1 10\n2\n1 0 3 1\n1 1\n";
-
-/// Texts of lists of that network, and what the checker answers to each.
+/// Texts of lists of `TINY`, and what the checker answers to each.
 const TEXTS: [(&[u8], BestCheck); 14] = [
     (
         b"wcspbest 1\nnetwork 1 1 10\ncount 2\nlower 3\nbest 2\nvalues 1 1\nvalues 3 0\ntree\nsplit 0 0\nlisted 1\nlisted 0\nend\n",

@@ -1,6 +1,7 @@
 //! Tests of what the checker of lists answers to texts of hostile content.
 
-use crate::judging::{TINY, answer};
+use crate::lists::answer;
+use crate::networks::{HARD, TINY};
 use cfn_best::ListFault::{Certificate, Listed};
 use cfn_bestcheck::BestCheck;
 use cfn_fault::FaultKind;
@@ -44,9 +45,7 @@ const SUMS: [(&[u8], BestCheck); 2] = [
     ),
 ];
 
-/// A network without a solution, and a good list of it whose sums go beyond 2^64.
-const HARD: &[u8] = b"hard 2 2 1 5\n2 2\n2 0 1 5 0\n";
-
+/// A good list of `HARD`, a network without a solution, whose sums go beyond 2^64.
 const LARGE: &[u8] = b"wcspbest 1\nnetwork 2 1 5\ncount 1\nlower 5\nbest 0\ntree\n\
     p 0 0 0 9223372036854775807\np 0 0 0 9223372036854775807\np 0 0 0 9223372036854775807\n\
     p 0 0 1 9223372036854775807\np 0 0 1 9223372036854775807\np 0 0 1 9223372036854775807\n\
