@@ -1,3 +1,9 @@
+pub mod Rounds
+pub mod Alive
+pub mod Strict
+pub mod Sides
+pub mod Leaves
+mod Grouping
 mod Both
 pub mod Stacks
 pub mod Going

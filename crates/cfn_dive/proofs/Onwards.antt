@@ -14,9 +14,9 @@ use Rattle.cfn_store.specs.Standing.{Standing, history}
 use Rattle.cfn_trim.specs.Trimming.{IsBegin}
 use Rattle.cfn_gain.specs.declared.settling.Settling.{Settling}
 use Rattle.cfn_gain.specs.declared.settling.Settling.TheVariants.{Settled, Spent}
-use Rattle.cfn_node.specs.Enforcing.{GoesOn, Finds, Groups, IsSpent}
-use Rattle.cfn_node.specs.Limit.{step_limit}
-use Rattle.cfn_node.proofs.CallerLemmas.{block_groups}
+use Rattle.cfn_dive.specs.Enforcing.{GoesOn, Finds, Groups, IsSpent}
+use Rattle.cfn_dive.specs.Limit.{step_limit}
+use Rattle.cfn_dive.proofs.Grouping.{block_groups}
 use Rattle.cfn_dive.specs.declared.parts.Parts.{Parts}
 use Rattle.cfn_dive.specs.declared.growth.Growth.{Growth}
 use Rattle.cfn_dive.specs.declared.growth.Leaf.{Leaf}

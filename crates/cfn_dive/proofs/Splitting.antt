@@ -8,7 +8,7 @@ use Rattle.cfn_model.specs.Steps.{IsDecision}
 use Rattle.cfn_model.specs.Tree.{IsStrictSplit}
 use Rattle.cfn_store.specs.Standing.{Standing, history}
 use Rattle.cfn_branch.specs.Choosing.{IsSplit}
-use Rattle.cfn_node.proofs.CallerLemmas.{strict_here}
+use Rattle.cfn_dive.proofs.Strict.{strict_here}
 
 at_most : (a v : ℕ) → a ≤ v → IsTrue (nat_le a v)
 at_most a v h = grind (arith, nat_tests)

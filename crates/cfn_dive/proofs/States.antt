@@ -23,8 +23,8 @@ use Rattle.cfn_dive.specs.Stack.{Place, Stack}
 use Rattle.cfn_dive.specs.Growing.{InGroups, IsEnforced, IsGrown}
 use Rattle.cfn_consistency.specs.Consistency.{AreFullyConsistent}
 use Rattle.cfn_consistency.proofs.CallerLemmas.{fulls_rise}
-use Rattle.cfn_node.specs.Enforcing.{GoesOn, IsSettledAt}
-use Rattle.cfn_node.specs.Limit.{step_limit}
+use Rattle.cfn_dive.specs.Enforcing.{GoesOn, IsSettledAt}
+use Rattle.cfn_dive.specs.Limit.{step_limit}
 use Rattle.cfn_dive.specs.Diving.{IsOf, place_of, places, IsWaiting, AreWaiting, IsExpanding, IsClosing, IsSettledOrSpent}
 use Rattle.cfn_dive.proofs.Stacks.{after_later, current_open, newest_beside}
 use Rattle.cfn_dive.proofs.Going.{stack_split, all_closed}

@@ -14,7 +14,7 @@ use Rattle.cfn_branch.specs.declared.rule.Rule.{Rule}
 use Rattle.cfn_branch.specs.declared.rule.Rule.TheVariants.{Degrees, Fewest}
 use Rattle.cfn_branch.specs.Choosing.{IsChosen}
 use Rattle.cfn_branch.specs.Fewest.{IsFewestSplit}
-use Rattle.cfn_node.specs.Values.{IsFirstValue}
+use Rattle.cfn_dive.specs.Values.{IsFirstValue}
 
 -- A variable that the weights choose is the value that a split tries first.
 abbrev pub IsByDegrees : Standing → List ℕ → Option Solution → Decision → Type 0

@@ -13,8 +13,8 @@ use Rattle.cfn_proof.specs.declared.tree.NodeId.{NodeId}
 use Rattle.cfn_proof.specs.Nodes.{tree_of}
 use Rattle.cfn_store.specs.Standing.{Standing, history}
 use Rattle.cfn_edac.specs.Settling.{IsBehindSettled}
-use Rattle.cfn_node.specs.Enforcing.{IsSettledAt}
-use Rattle.cfn_node.specs.Limit.{step_limit}
+use Rattle.cfn_dive.specs.Enforcing.{IsSettledAt}
+use Rattle.cfn_dive.specs.Limit.{step_limit}
 use Rattle.cfn_dive.specs.declared.parts.Parts.{Parts}
 use Rattle.cfn_dive.specs.declared.parts.Waiting.{Waiting}
 use Rattle.cfn_dive.specs.declared.growth.Growth.{Growth}

@@ -11,7 +11,7 @@ use Rattle.cfn_consistency.specs.Consistency.{AreFullyConsistent}
 use Rattle.cfn_consistency.specs.Groups.{AreOpenGroups}
 use Rattle.cfn_proof.specs.declared.tree.Node.{Node}
 use Rattle.cfn_proof.specs.Nodes.{tree_of}
-use Rattle.cfn_node.specs.Limit.{step_limit}
+use Rattle.cfn_dive.specs.Limit.{step_limit}
 use Rattle.cfn_explore.specs.Backtracks.{backtracks}
 
 -- The steps of a block fall into groups, each of which gains something; the last one may be unfinished. At the root of the whole

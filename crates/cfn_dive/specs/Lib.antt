@@ -1,3 +1,6 @@
+pub mod Limit
+pub mod Enforcing
+pub mod Values
 pub mod Stack
 pub mod Growing
 pub mod Diving

@@ -6,10 +6,10 @@ ghost use Rattle.cfn_dive.specs.Deciding.{IsByDegrees, IsByRule};
 ghost use Rattle.cfn_dive.specs.Diving.{IsOf};
 
 use crate::parts::Parts;
+use crate::values::first_value;
 use cfn_branch::{Rule, choose, split_fewest};
 use cfn_model::Decision;
 use cfn_net::Scored;
-use cfn_node::first_value;
 
 impl<'n> Parts<'n> {
     /// The decision that splits the store, as the rule names it. `None` exactly where each variable has at most one live value.

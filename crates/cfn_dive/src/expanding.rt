@@ -8,8 +8,8 @@ ghost use Rattle.cfn_store.specs.Marking.{IsBehind};
 ghost use Rattle.cfn_trim.specs.Trimming.{IsBegin};
 ghost use Rattle.cfn_branch.specs.Choosing.{AllDecided, IsSplit};
 ghost use Rattle.cfn_edac.specs.Settling.{IsBehindSettled};
-ghost use Rattle.cfn_node.specs.Limit.{step_limit};
-ghost use Rattle.cfn_node.specs.Enforcing.{Finds, IsSpent};
+ghost use Rattle.cfn_dive.specs.Limit.{step_limit};
+ghost use Rattle.cfn_dive.specs.Enforcing.{Finds, IsSpent};
 ghost use Rattle.cfn_low.specs.Holding.{price_of};
 ghost use Rattle.cfn_explore.specs.Falling.{HasFallen};
 ghost use Rattle.cfn_proof.specs.Nodes.{node_at, split_end};
@@ -20,12 +20,14 @@ ghost use Rattle.cfn_dive.specs.Diving.{IsOf, IsWaiting, IsDiving, IsExpanding, 
 
 use crate::growth::{Growth, Leaf};
 use crate::parts::{Parts, Waiting};
+use crate::propagation::{Asked, since};
+use crate::root::{Around, enforce};
+use crate::values::take_values;
 use cfn_clock::Halt;
 use cfn_gain::Settling;
 use cfn_low::{Holder, Incumbent, Low};
 use cfn_model::{Decision, Event};
 use cfn_net::Network;
-use cfn_node::{Around, Asked, enforce, since, take_values};
 use cfn_proof::{Block, NodeId};
 use cfn_store::Mark;
 use cfn_trim::{block_stays_tame, shut};

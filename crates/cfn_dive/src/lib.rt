@@ -8,6 +8,11 @@
 //! - `parts.rt`: what a diver is made of, and the leaves that wait;
 //! - `growth.rt`: the tree that a dive makes.
 //!
+//! What a search does at one node, with the store at the leaf that it expands:
+//!
+//! - `propagation.rt`: what is enforced at a node, `root.rt`: what besides at the root, and `limit.rt`: by how many steps;
+//! - `values.rt`: the value that a split tries first, and assignments.
+//!
 //! A search knows divers by `cfn_explore`'s traits alone. `Parts` are there for other searches too, which expand one leaf after
 //! another.
 //!
@@ -25,8 +30,16 @@ mod divers;
 mod expanding;
 mod growing;
 mod growth;
+mod limit;
 mod parts;
+mod propagation;
+mod root;
+mod values;
 
 pub use diver::Diver;
 pub use divers::Divers;
+pub use limit::{MOST_STEPS, step_limit};
 pub use parts::Parts;
+pub use propagation::{Asked, is_dead, propagate, settle, since};
+pub use root::{Around, enforce};
+pub use values::{first_value, held, offer, take_values};

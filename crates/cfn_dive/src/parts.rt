@@ -3,12 +3,12 @@
 ghost use Rattle.std.specs.Prelude.{◌≡◌, length, None, IfOk, IsOkAnd};
 ghost use Rattle.cfn_dive.specs.Diving.{IsOf};
 
+use crate::limit::step_limit;
 use cfn_branch::{Rule, Weights};
 use cfn_edac::Enforcer;
 use cfn_incidence::Incidence;
 use cfn_model::Decision;
 use cfn_net::{Network, Scored, Tables};
-use cfn_node::step_limit;
 use cfn_proof::NodeId;
 use cfn_store::{Mark, Store};
 use cfn_trim::Trimmer;

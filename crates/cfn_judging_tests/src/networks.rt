@@ -23,9 +23,9 @@ pub(crate) enum Which {
     Wide,
 }
 
-const TINY: &[u8] = b"tiny 1 2 1 10\n2\n1 0 3 1\n1 1\n";
+pub(crate) const TINY: &[u8] = b"tiny 1 2 1 10\n2\n1 0 3 1\n1 1\n";
 
-const HARD: &[u8] = b"hard 2 2 1 5\n2 2\n2 0 1 5 0\n";
+pub(crate) const HARD: &[u8] = b"hard 2 2 1 5\n2 2\n2 0 1 5 0\n";
 
 const TRI: &[u8] =
     b"tri 3 2 3 10\n2 2 2\n2 0 1 0 2\n0 0 1\n1 1 1\n2 0 2 0 2\n0 0 1\n1 1 1\n2 1 2 0 2\n0 0 1\n1 1 1\n";

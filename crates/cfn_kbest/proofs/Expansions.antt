@@ -19,9 +19,8 @@ use Rattle.cfn_consistency.specs.Consistency.{AreFullyConsistent}
 use Rattle.cfn_gain.specs.declared.settling.Settling.{Settling}
 use Rattle.cfn_gain.specs.declared.settling.Settling.TheVariants.{Settled}
 use Rattle.cfn_gain.proofs.CallerLemmas.{after_append}
-use Rattle.cfn_node.proofs.CallerLemmas.{choices_fit, is_leaf, only_choices}
-use Rattle.cfn_node.specs.Enforcing.{Finds, GoesOn, IsSettledAt, OnlyOf}
-use Rattle.cfn_dive.proofs.CallerLemmas.{runs_further, split_decision, split_strict}
+use Rattle.cfn_dive.specs.Enforcing.{Finds, GoesOn, IsSettledAt, OnlyOf}
+use Rattle.cfn_dive.proofs.CallerLemmas.{choices_fit, is_leaf, only_choices, runs_further, split_decision, split_strict}
 use Rattle.cfn_ranking.specs.Changes.{CanDivide, Leaves, MayClose}
 
 -- where enforcing found a store fully consistent, it was so, and where it did not, that is not said

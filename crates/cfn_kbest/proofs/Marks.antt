@@ -15,7 +15,7 @@ use Rattle.cfn_proof.specs.Nodes.{Before, close_at, split_behind_at}
 use Rattle.cfn_proof.proofs.CallerLemmas.{before_close, before_split_behind, length-close_at, length-split_behind_at}
 use Rattle.cfn_store.specs.Standing.{Standing, history}
 use Rattle.cfn_edac.specs.Settling.{IsBehindSettled}
-use Rattle.cfn_node.specs.Enforcing.{IsSettledAt}
+use Rattle.cfn_dive.specs.Enforcing.{IsSettledAt}
 use Rattle.cfn_dive.specs.declared.parts.Parts.{Parts}
 use Rattle.cfn_ranking.specs.Ranked.{Ranked, IsRanked, Waits}
 use Rattle.cfn_ranking.specs.Changes.{KeepsPaths}

@@ -3,7 +3,7 @@ use Rattle.std.specs.Prelude.{◌≡◌, true, ℕ, ◌<◌, List}
 use Rattle.cfn_model.specs.declared.step.Event.{Event}
 use Rattle.cfn_model.specs.Network.{Network}
 use Rattle.cfn_store.specs.Standing.{history}
-use Rattle.cfn_node.specs.Enforcing.{IsSettledAt}
+use Rattle.cfn_dive.specs.Enforcing.{IsSettledAt}
 use Rattle.cfn_dive.specs.declared.parts.Parts.{Parts}
 use Rattle.cfn_ranking.specs.Changes.{CanDivide, Leaves, MayClose}
 use Rattle.cfn_kbest.specs.declared.expanding.Expanded.{Expanded}

@@ -8,7 +8,7 @@ use Rattle.cfn_proof.specs.declared.tree.Node.{Node}
 use Rattle.cfn_proof.specs.Nodes.{Before}
 use Rattle.cfn_store.specs.Standing.{Standing, history}
 use Rattle.cfn_edac.specs.Settling.{IsBehindSettled}
-use Rattle.cfn_node.specs.Enforcing.{IsSettledAt}
+use Rattle.cfn_dive.specs.Enforcing.{IsSettledAt}
 use Rattle.cfn_dive.specs.declared.parts.Parts.{Parts}
 use Rattle.cfn_ranking.specs.Ranked.{Ranked, Waits}
 use Rattle.cfn_kbest.specs.declared.steps.Child.{Child}

@@ -11,11 +11,10 @@ ghost use Rattle.cfn_kbest.specs.Steps.{AreMarked, EndsBehindPlace, IsAt, IsChil
 use crate::dive::Dive;
 use crate::expanding::{Expanded, Stand, expand};
 use cfn_clock::Halt;
-use cfn_dive::Parts;
+use cfn_dive::{Parts, since};
 use cfn_leaves::path_to;
 use cfn_model::{Decision, Event};
 use cfn_net::{Network, Scored};
-use cfn_node::since;
 use cfn_proof::laws::same_before;
 use cfn_proof::{End, NodeId, Path, Side, Tree};
 use cfn_ranking::Ranking;

@@ -17,7 +17,7 @@ use Rattle.cfn_machine.specs.Pool.{IsKept, Pool, PoolTree, dealt, numbered, open
 use Rattle.cfn_machine.specs.Pool.{tree_of as tree_at}
 use Rattle.cfn_machine.specs.Laws.{CountsOthers, SetsAside}
 use Rattle.cfn_machine.proofs.CallerLemmas.{dealt_is, numbered_is, opening_small}
-use Rattle.cfn_worker.specs.Searching.{IsSearch}
+use Rattle.cfn_search.specs.Searching.{IsSearch}
 use Rattle.cfn_low.specs.Holding.{kept}
 use Rattle.cfn_pool.specs.Views.{values_of}
 use Rattle.cfn_search.specs.declared.begin.Begin.{Begin}

@@ -1,5 +1,9 @@
 pub mod Crossing
+pub mod Noted
+pub mod Keeping
+pub mod Laying
 pub mod Beginnings
 pub mod Finished
 pub mod Recorded
 pub mod Telling
+pub mod CallerLemmas

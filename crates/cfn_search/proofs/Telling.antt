@@ -2,7 +2,7 @@
 use Rattle.std.proofs.Common.{◌≡◌, ℕ, ◌≤◌, List, [], ◌∷◌, ◌++◌, map, reverse, length, sym, ap, ◌∙◌, subst, append_assoc, All, arith}
 use Rattle.std.proofs.lemmas.List.{reverse-append, reverse-reverse, map_push, nil_from_length}
 use Rattle.std.proofs.lemmas.List.Elements.{All-push, All-weaker}
-use Rattle.cfn_worker.specs.Accounts.{WorkerValue, least_of}
+use Rattle.cfn_search.specs.Accounts.{WorkerValue, least_of}
 
 -- one more is told by the last worker
 pub told_step : (crew left others : List WorkerValue) (w : WorkerValue) (told more : List ℕ) (k : ℕ) (all : List ℕ) → crew ≡ left ++ w ∷ [] → map least_of others ≡ map least_of left → more ≡ told ++ k ∷ [] → k ≡ w.least →

@@ -9,7 +9,7 @@ ghost use Rattle.cfn_outcome.specs.Outcome.{IsOutcome, timed_nodes};
 ghost use Rattle.cfn_machine.specs.Word.{all_shares};
 ghost use Rattle.cfn_pool.specs.Recorded.{HasSpare, IsExactRecordOf};
 ghost use Rattle.cfn_pool.specs.Views.{pool};
-ghost use Rattle.cfn_worker.specs.Searching.{IsSearch};
+ghost use Rattle.cfn_search.specs.Searching.{IsSearch};
 ghost use Rattle.cfn_search.specs.Recording.{IsRecorded};
 ghost use Rattle.cfn_search.specs.Stopping.{IsEnded, IsLast, IsStop};
 

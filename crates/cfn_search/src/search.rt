@@ -13,13 +13,17 @@ ghost use Rattle.cfn_machine.specs.Pool.{IsKept, opening_pool, price, row_of};
 ghost use Rattle.cfn_machine.specs.Word.{all_shares};
 ghost use Rattle.cfn_pool.specs.Recorded.{HasSpare};
 ghost use Rattle.cfn_pool.specs.Views.{pool, values_of};
-ghost use Rattle.cfn_worker.specs.Searching.{IsSearch, GoesOn, HasMore, StaysReady};
-ghost use Rattle.cfn_worker.specs.Granting.{IsLimit};
+ghost use Rattle.cfn_search.specs.Searching.{IsSearch, GoesOn, HasMore, StaysReady};
+ghost use Rattle.cfn_search.specs.Granting.{IsLimit};
 ghost use Rattle.cfn_search.specs.Beginning.{MayBegin, start_of};
 ghost use Rattle.cfn_search.specs.Recording.{IsRecorded};
 
+use crate::account::{Account, Threshold};
 use crate::begin::Begin;
+use crate::grants::{FEWEST_BACKTRACKS, wanted};
+use crate::hand::Unplaced;
 use crate::outcome::{conclude, meet, wind_up};
+use crate::steps::{Asked, hand_in, news, sweep, take};
 use cfn_clock::{Halt, Never};
 use cfn_explore::{Explore, Explorers, Problem};
 use cfn_gate::{Gate, OpenGate};
@@ -31,9 +35,6 @@ use cfn_net::{Network, Scored};
 use cfn_outcome::Outcome;
 use cfn_pool::Pool;
 use cfn_proof::Tree;
-use cfn_worker::{
-    Account, Asked, FEWEST_BACKTRACKS, Threshold, Unplaced, hand_in, news, sweep, take, wanted,
-};
 use std::alloc::{AllocError, Global};
 use std::marker::Brand;
 

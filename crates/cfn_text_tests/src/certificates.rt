@@ -1,25 +1,11 @@
 //! Tests of certificates that are written into a file.
 
-ghost use Rattle.std.specs.Prelude.{IfOk};
-ghost use Rattle.cfn_desk.specs.Outside.{IsWriting};
-
-use crate::given::{best, network};
+use crate::given::{best, network, writing_desk};
 use cfn_certwrite::write;
-use cfn_desk::{Desk, Failed, MemoryDesk};
+use cfn_desk::{Desk, Failed};
 use cfn_proof::{Block, Certificate, Decision, Step, Tree};
 use std::alloc::AllocError;
 use std::test::Fail;
-
-/// A desk that is writing a file, where these calls fail. The opening is call 1.
-fn writing_desk(rt: &HostRuntime, failing: &[u64]) -> Result<MemoryDesk, Fail>
-    ensures { IfOk result (λ desk. IsWriting desk.calls) }
-{
-    let mut desk = MemoryDesk::make(rt.alloc(), &[], 4096, 0, failing)?;
-    match desk.open_out("cert") {
-        Ok(()) => Ok(desk),
-        Err(Failed) => Err(Fail::new("the file did not open")),
-    }
-}
 
 /// A certificate of one open root.
 fn bare_certificate(rt: &HostRuntime) -> Result<Certificate, AllocError> {

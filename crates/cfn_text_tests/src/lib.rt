@@ -3,7 +3,10 @@
 //! - `splitting` has the words of a text, and the numbers that words are.
 //! - `wcsp` and `wcnf` have files that are read, and files that are refused.
 //! - `lines` writes lines of words, and `instances` networks.
-//! - `certificates` writes certificates, and `reports` says reports and messages; `given` has what both are of.
+//! - `certificates` writes certificates, and `texts` reads them. `reports` says reports and messages.
+//! - `records` writes records of searches, and `saying` says what is said of records that are replayed.
+//! - `lists` writes lists of the cheapest assignments, and says what is said of them.
+//! - `given` has what several of these are of.
 #![tactic(auto)]
 
 #[cfg(test)]
@@ -15,9 +18,17 @@ mod instances;
 #[cfg(test)]
 mod lines;
 #[cfg(test)]
+mod lists;
+#[cfg(test)]
+mod records;
+#[cfg(test)]
 mod reports;
 #[cfg(test)]
+mod saying;
+#[cfg(test)]
 mod splitting;
+#[cfg(test)]
+mod texts;
 #[cfg(test)]
 mod wcnf;
 #[cfg(test)]

@@ -1,25 +1,14 @@
 //! Tests of lines of words.
 
-ghost use Rattle.std.specs.Prelude.{◌≡◌, ◌≤◌, [], ◌∷◌, IfOk};
-ghost use Rattle.cfn_desk.specs.Outside.{IsWriting};
+ghost use Rattle.std.specs.Prelude.{◌≡◌, ◌≤◌, [], ◌∷◌};
 
-use cfn_desk::{Desk, Failed, MemoryDesk};
+use crate::given::writing_desk;
+use cfn_desk::{Failed, MemoryDesk};
 use cfn_line::{Channel, Word, send, write_line, write_list};
 use std::alloc::{AllocError, Global};
 use std::test::Fail;
 
 const LONG: &str = "a-word-that-is-longer-than-a-piece";
-
-/// A desk that is writing a file, where these calls fail. The opening is call 1.
-fn writing_desk(rt: &HostRuntime, failing: &[u64]) -> Result<MemoryDesk, Fail>
-    ensures { IfOk result (λ desk. IsWriting desk.calls) }
-{
-    let mut desk = MemoryDesk::make(rt.alloc(), &[], 8192, 8192, failing)?;
-    match desk.open_out("file") {
-        Ok(()) => Ok(desk),
-        Err(Failed) => Err(Fail::new("the file did not open")),
-    }
-}
 
 /// What becomes of a line that is written into a file where these calls fail, and whether the file has these bytes then.
 fn write_into_file(

@@ -3,7 +3,7 @@ use Rattle.std.proofs.lemmas.List.{with_items_is}
 use Rattle.cfn_model.specs.Network.{Network, Fits, cost}
 use Rattle.cfn_model.specs.Tree.{CanClose}
 use Rattle.cfn_store.specs.Standing.{history}
-use Rattle.cfn_node.proofs.CallerLemmas.{goes_by_shifts, only_choices, some_choice}
+use Rattle.cfn_dive.proofs.CallerLemmas.{goes_by_shifts, only_choices, some_choice}
 use Rattle.cfn_ranking.specs.Changes.{Leaves}
 use Rattle.cfn_kbest.proofs.Expansions.{is_closed, is_found, taken_fit, taken_leaf}
 use Rattle.cfn_kbest.proofs.expanding.conclude.Goals as goal

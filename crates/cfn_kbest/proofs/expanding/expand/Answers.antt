@@ -1,7 +1,7 @@
 use Rattle.std.proofs.Common.{◌≡◌, true, sym, subst}
 use Rattle.cfn_model.specs.Tree.{CanClose}
 use Rattle.cfn_store.specs.Standing.{history}
-use Rattle.cfn_node.specs.Enforcing.{Finds, IsSettledAt}
+use Rattle.cfn_dive.specs.Enforcing.{Finds, IsSettledAt}
 use Rattle.cfn_dive.specs.declared.parts.Parts.{Parts}
 use Rattle.cfn_dive.proofs.CallerLemmas.{settled_alive, spent_alive}
 use Rattle.cfn_kbest.proofs.Expansions.{settled_here, unsettled_here}

@@ -3,8 +3,8 @@ use Rattle.cfn_machine.specs.Pool.{Task}
 use Rattle.cfn_machine.specs.Steps.{IsOut}
 use Rattle.cfn_machine.proofs.CallerLemmas.{takes_out}
 use Rattle.cfn_pool.specs.Views.{pool}
-use Rattle.cfn_worker.specs.declared.hand.Unplaced.{Unplaced}
-use Rattle.cfn_worker.specs.Searching.{IsUnplaced}
+use Rattle.cfn_search.specs.declared.hand.Unplaced.{Unplaced}
+use Rattle.cfn_search.specs.Searching.{IsUnplaced}
 use Rattle.cfn_search.proofs.search.dive.Goals as goal
 
 -- no piece comes too late: its leaf was taken, and no other worker gives it back

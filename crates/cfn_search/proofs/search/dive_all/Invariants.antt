@@ -1,7 +1,7 @@
 use Rattle.std.proofs.Common.{◌≡◌, ◌-◌, ◌≤◌}
 use Rattle.cfn_pool.specs.Views.{pool}
-use Rattle.cfn_worker.specs.Searching.{GoesOn, StaysReady}
-use Rattle.cfn_worker.specs.Granting.{IsLimit}
+use Rattle.cfn_search.specs.Searching.{GoesOn, StaysReady}
+use Rattle.cfn_search.specs.Granting.{IsLimit}
 use Rattle.cfn_search.proofs.search.dive_all.Given as goal
 
 abbrev pub invariant-loop-next : goal.invariant-loop-next

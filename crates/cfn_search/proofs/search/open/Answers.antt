@@ -2,7 +2,7 @@ use Rattle.std.proofs.Common.{sym, ap, subst, ◌∙◌}
 use Rattle.cfn_proof.specs.Nodes.{tree_of}
 use Rattle.cfn_machine.specs.Pool.{Pool}
 use Rattle.cfn_pool.specs.Views.{pool, values_of}
-use Rattle.cfn_worker.specs.Searching.{IsSearch}
+use Rattle.cfn_search.specs.Searching.{IsSearch}
 use Rattle.cfn_search.proofs.Beginnings.{fresh_opening, opened_others, opening_search}
 use Rattle.cfn_search.proofs.search.open.Goals as goal
 

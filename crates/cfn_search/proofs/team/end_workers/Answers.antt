@@ -2,9 +2,9 @@ use Rattle.std.proofs.Common.{rules, ◌++◌, [], ◌∷◌, ap, ◌∙◌, sub
 use Rattle.std.proofs.lemmas.List.{length_push, with_items_is}
 use Rattle.cfn_pool.specs.Views.{pool}
 use Rattle.cfn_rota.specs.Values.{AreAll}
-use Rattle.cfn_worker.specs.Accounts.{least_of, reach}
+use Rattle.cfn_search.specs.Accounts.{least_of, reach}
 use Rattle.cfn_rota.proofs.CallerLemmas.{all_but_last}
-use Rattle.cfn_worker.proofs.CallerLemmas.{stays}
+use Rattle.cfn_search.proofs.Keeping.{stays}
 use Rattle.cfn_search.proofs.Telling.{told_step, told_all, most_step, least_step}
 use Rattle.cfn_search.proofs.team.end_workers.Goals as goal
 

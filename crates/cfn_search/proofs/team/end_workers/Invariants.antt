@@ -2,8 +2,8 @@ use Rattle.std.proofs.Common.{◌≡◌, ◌+◌, ◌≤◌, ◌++◌, length, m
 use Rattle.cfn_machine.specs.Word.{all_shares}
 use Rattle.cfn_pool.specs.Views.{pool}
 use Rattle.cfn_rota.specs.Values.{AreAll}
-use Rattle.cfn_worker.specs.Accounts.{least_of, reach}
-use Rattle.cfn_worker.specs.Searching.{IsSearch, StaysReady}
+use Rattle.cfn_search.specs.Accounts.{least_of, reach}
+use Rattle.cfn_search.specs.Searching.{IsSearch, StaysReady}
 use Rattle.cfn_search.proofs.team.end_workers.Given as goal
 
 abbrev pub invariant-loop-worker : goal.invariant-loop-worker

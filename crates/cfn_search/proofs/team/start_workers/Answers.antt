@@ -1,6 +1,6 @@
 use Rattle.std.proofs.Common.{rules, ◌≡◌, ◌∙◌, ap}
 use Rattle.cfn_rota.specs.Values.{access}
-use Rattle.cfn_worker.specs.Accounts.{reach}
+use Rattle.cfn_search.specs.Accounts.{reach}
 use Rattle.cfn_rota.proofs.CallerLemmas.{all_before, in_turn}
 use Rattle.cfn_search.proofs.team.start_workers.Goals as goal
 

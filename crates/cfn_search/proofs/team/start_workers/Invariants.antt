@@ -1,6 +1,6 @@
 use Rattle.std.proofs.Common.{◌≡◌, ◌+◌, ◌++◌, ◌≤◌, length, map, reverse, All, vec_capacity}
 use Rattle.cfn_rota.specs.Values.{access}
-use Rattle.cfn_worker.specs.Accounts.{reach}
+use Rattle.cfn_search.specs.Accounts.{reach}
 use Rattle.cfn_search.proofs.team.start_workers.Given as goal
 
 -- the workers so far have the first ends, and each part that is left has one share

@@ -2,10 +2,9 @@ use denote.Exit.{no}
 use denote.Param.{param}
 use Rattle.std.proofs.Crossing as std
 use denote.Param.Send.{sendable, param_sync, arg_sync, shr_sync}
-use Rattle.cfn_worker.proofs.CallerLemmas.{worker_send, shared_sync}
-use Rattle.cfn_search.proofs.Crossing.{captures_sync}
+use Rattle.cfn_search.proofs.Crossing.{captures_sync, worker_send, shared_sync}
 use Rattle.std.proofs.Common.{rules, arith}
-use Rattle.cfn_worker.specs.Accounts.{reach}
+use Rattle.cfn_search.specs.Accounts.{reach}
 use Rattle.cfn_rota.proofs.CallerLemmas.{same_access}
 use Rattle.cfn_search.proofs.team.work_each.Goals as goal
 

@@ -3,7 +3,8 @@ use Rattle.std.specs.Vec.{with_items}
 use Rattle.std.proofs.lemmas.List.{with_items_is}
 use Rattle.cfn_model.specs.Network.{Network, Fits, cost}
 use Rattle.cfn_net.specs.Scoring.{Scoring}
-use Rattle.cfn_node.proofs.CallerLemmas.{some_choice, only_choices, choices_fit, is_leaf, goes_by_shifts}
+use Rattle.cfn_dive.proofs.Alive.{some_choice, only_choices, choices_fit}
+use Rattle.cfn_dive.proofs.Leaves.{is_leaf, goes_by_shifts}
 use Rattle.cfn_dive.proofs.States.{seen_dear, concluded}
 use Rattle.cfn_dive.proofs.parts.Parts.conclude.Goals as goal
 

@@ -4,7 +4,7 @@ use Rattle.cfn_model.specs.declared.step.Event.TheVariants.{Took}
 use Rattle.cfn_model.specs.Sums.{floor}
 use Rattle.cfn_store.specs.Standing.{Standing, history}
 use Rattle.cfn_edac.specs.Settling.{IsBehindSettled}
-use Rattle.cfn_node.proofs.CallerLemmas.{since_split, settled_moved}
+use Rattle.cfn_dive.proofs.Sides.{since_split, settled_moved}
 use Rattle.cfn_proof.specs.Nodes.{node_at, split_end}
 use Rattle.cfn_proof.proofs.CallerLemmas.{split_behind_at-same}
 use Rattle.cfn_dive.specs.declared.parts.Waiting.{Waiting}

@@ -1,7 +1,7 @@
 use Rattle.std.proofs.Common.{sym, ap, ◌∙◌, subst}
 use Rattle.std.specs.Prelude.{IfOk}
-use Rattle.cfn_node.specs.Limit.{step_limit}
-use Rattle.cfn_node.specs.Enforcing.{IsSpent}
+use Rattle.cfn_dive.specs.Limit.{step_limit}
+use Rattle.cfn_dive.specs.Enforcing.{IsSpent}
 use Rattle.cfn_dive.proofs.Onwards.{current_at, groups_made}
 use Rattle.cfn_dive.proofs.parts.Parts.enforce.Goals as goal
 

@@ -3,7 +3,7 @@ use Rattle.std.specs.Prelude.{IfSome}
 use Rattle.cfn_model.specs.declared.step.Event.TheVariants.{Refused}
 use Rattle.cfn_store.specs.Standing.{Standing, history}
 use Rattle.cfn_edac.specs.Settling.{IsBehindSettled}
-use Rattle.cfn_node.proofs.CallerLemmas.{since_split, settled_moved}
+use Rattle.cfn_dive.proofs.Sides.{since_split, settled_moved}
 use Rattle.cfn_dive.proofs.parts.Parts.go_back.Goals as goal
 
 pub returns-clause-since : goal.returns-clause-since

@@ -1,5 +1,0 @@
-use Rattle.cfn_outcome.specs.Outcome.{fresh}
-use Rattle.cfn_dive_tests.proofs.dives.dive_with.Given as goal
-
-abbrev pub ghosts-dive : goal.ghosts-dive
-ghosts-dive a = record { table = a.unnamed.table; network = a.unnamed.network; start = fresh a.unnamed.network }

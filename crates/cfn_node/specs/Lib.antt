@@ -1,3 +1,0 @@
-pub mod Limit
-pub mod Enforcing
-pub mod Values

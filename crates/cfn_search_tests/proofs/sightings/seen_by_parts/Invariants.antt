@@ -1,0 +1,5 @@
+use Rattle.cfn_outcome.specs.Outcome.{fresh}
+use Rattle.cfn_search_tests.proofs.sightings.seen_by_parts.Given as goal
+
+abbrev pub ghosts-lower_and_look : goal.ghosts-lower_and_look
+ghosts-lower_and_look a = record { table = a.unnamed.table; network = a.unnamed.network; start = fresh a.unnamed.network }

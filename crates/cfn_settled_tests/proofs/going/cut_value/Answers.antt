@@ -1,0 +1,5 @@
+use Rattle.cfn_settled_tests.proofs.Behind.{behind_step}
+use Rattle.cfn_settled_tests.proofs.going.cut_value.Goals as goal
+
+pub returns : goal.returns
+returns c = behind_step c.args.store.now c.cut_value.new.self _ c.cut_value.ensures

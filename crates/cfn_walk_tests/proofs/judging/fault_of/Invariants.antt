@@ -1,6 +1,0 @@
-use Rattle.std.proofs.Common.{◌≡◌}
-use Rattle.cfn_walk_tests.proofs.judging.fault_of.Given as goal
-
--- the store stands where it stood
-abbrev pub invariant-loop-f : goal.invariant-loop-f
-invariant-loop-f l = l.store ≡ l.initial.store

@@ -1,4 +1,0 @@
-pub mod Searching
-pub mod Granting
-pub mod Boards
-pub mod Accounts
