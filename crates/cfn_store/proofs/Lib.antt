@@ -7,6 +7,7 @@ pub mod Moving
 pub mod Along
 pub mod Roots
 pub mod Scans
+pub mod Threes
 pub mod Lanes
 pub mod Peaking
 pub mod Entering

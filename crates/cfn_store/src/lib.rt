@@ -27,6 +27,7 @@ mod state;
 mod store;
 mod sums;
 mod supports;
+mod three;
 mod unaries;
 
 pub use line::{Line, Side};

@@ -6,8 +6,9 @@
 //! the places behind it are one step, the same for each of its values, so that a row of a table is read in one plain loop.
 //! The depth is that of the other open variables, of which there are at most 21. What is dead is never gone into.
 
-ghost use Rattle.std.specs.Prelude.{◌≡◌, ℕ, ◌+◌, ◌<◌, ◌≤◌, true, List, [], ◌∷◌, length, slice_index, drop, Option, MatchOption, IfSome, IsSomeAnd};
+ghost use Rattle.std.specs.Prelude.{◌≡◌, ℕ, ◌+◌, ◌<◌, ◌≤◌, true, List, [], ◌∷◌, length, slice_index, drop, Option, None, MatchOption, IfSome, IsSomeAnd};
 ghost use Rattle.cfn_model.specs.Network.{Fits, cells, dims};
+ghost use Rattle.cfn_store.specs.declared.scan.Sense.{Sense as ScanSense};
 ghost use Rattle.cfn_store.specs.Scanning.{AsksNone, HasDigits, IsAt, IsSpot, IsInner, AreChoices, NoneMet, IsFound, IsSooner, gone_on, agrees, ended, key, found_in, IsBest, IsTail, IsLane};
 
 use cfn_lanes::{Row, least_open};
@@ -45,6 +46,21 @@ pub(crate) struct Tail {
 pub(crate) struct Best {
     pub(crate) key: u64,
     pub(crate) cell: Option<u32>,
+}
+
+impl Best {
+    /// Nothing yet.
+    #[inline(always)]
+    pub(crate) fn none() -> Best
+        ensures best { IsBest result }
+        ensures some { 0 < result.key }
+        ensures none { (sense : ScanSense) → found_in sense result ≡ None }
+    {
+        Best {
+            key: u64::MAX,
+            cell: None,
+        }
+    }
 }
 
 /// A residual cost, below 2^64, and the number of a tuple that has it.
@@ -124,10 +140,7 @@ impl<'a> Scan<'a> {
         if self.is_lane(scope, spot) {
             return self.lane(x, spot);
         }
-        let mut best = Best {
-            key: u64::MAX,
-            cell: None,
-        };
+        let mut best = Best::none();
         for value in self.choices(x, spot.place) {
             let end = self.ended(self.gone_on(spot, x, *value), tail);
             best = self.better(best, end);
@@ -140,7 +153,7 @@ impl<'a> Scan<'a> {
 
     /// Whether the values of a scope's one variable are all to be looked at, for the least cost: then they lie together in the
     /// table, and in the function's row.
-    fn is_lane(&self, scope: &[u32], spot: Spot) -> bool
+    pub(crate) fn is_lane(&self, scope: &[u32], spot: Spot) -> bool
         requires some { 0 < length scope.now }
         requires spot { IsSpot self.now scope.now spot }
         ensures { result ≡ true → IsLane self.now scope.now spot }
@@ -157,7 +170,7 @@ impl<'a> Scan<'a> {
     }
 
     /// What stands first of them.
-    fn lane(&self, x: u32, spot: Spot) -> Option<Extreme>
+    pub(crate) fn lane(&self, x: u32, spot: Spot) -> Option<Extreme>
         requires spot { IsSpot self.now (x ∷ []) spot }
         requires lane { IsLane self.now (x ∷ []) spot }
         ensures { MatchOption result (NoneMet self.now (x ∷ []) spot) (IsFound self.now (x ∷ []) spot) }
@@ -179,15 +192,26 @@ impl<'a> Scan<'a> {
         })
     }
 
-    /// The tuple that is complete, where it is met and what was found so far does not stand before it.
-    fn better(&self, best: Best, end: Spot) -> Best
+    /// What stands first of what was found so far and the tuple that is complete, where that is met.
+    #[inline(always)]
+    pub(crate) fn better(&self, best: Best, end: Spot) -> Best
         requires spot { IsSpot self.now [] end }
         requires best { IsBest best }
         ensures best { IsBest result }
         ensures sooner { (other : Option Extreme) × MatchOption other (NoneMet self.now [] end) (IsFound self.now [] end)
             × IsSooner self.now.sense (found_in self.now.sense best) other (found_in self.now.sense result) }
     {
-        let Some(found) = self.here(end) else {
+        self.better_of(best, self.here(end))
+    }
+
+    /// What stands first of what was found so far and another one, which is taken where both stand alike.
+    #[inline(always)]
+    pub(crate) fn better_of(&self, best: Best, other: Option<Extreme>) -> Best
+        requires best { IsBest best }
+        ensures best { IsBest result }
+        ensures sooner { IsSooner self.now.sense (found_in self.now.sense best) other (found_in self.now.sense result) }
+    {
+        let Some(found) = other else {
             return best;
         };
         let key = self.key(found.cost);
@@ -211,7 +235,7 @@ impl<'a> Scan<'a> {
     }
 
     /// What was found.
-    fn found_in(&self, best: Best) -> Option<Extreme>
+    pub(crate) fn found_in(&self, best: Best) -> Option<Extreme>
         ensures { result ≡ found_in self.now.sense best }
     {
         let cell = best.cell?;
@@ -284,7 +308,7 @@ impl<'a> Scan<'a> {
 
     /// The values that may stand at a place.
     #[inline(always)]
-    fn choices(&self, x: u32, place: usize) -> &[u32]
+    pub(crate) fn choices(&self, x: u32, place: usize) -> &[u32]
         requires variable { x < length self.now.live.now.sizes }
         requires sizes { self.now.live.now.sizes ≡ self.now.sizes.now }
         requires one { place ≡ self.now.one.place → self.now.one.value < slice_index self.now.sizes.now x }

@@ -91,13 +91,17 @@ impl State {
             (IsExtremeBetween network.now (history_of self.now) f one.place one.value two.place two.value sense) }
     {
         let scan = self.scan(network, shelf, f, one, two, sense);
+        let scope = network.scope(f);
+        if scope.len() == 3 {
+            return scan.first_of_three(scope);
+        }
         let start = Spot {
             cell: 0,
             shift: 0,
             offset: 0,
             place: 0,
         };
-        scan.first(network.scope(f), start)
+        scan.first(scope, start)
     }
 
     /// The tuple of `f` with a number, where it is live.

@@ -1,11 +1,14 @@
-use Rattle.std.proofs.Common.{refl, ◌+◌, [], slice_index, drop, MatchOption, subst, sym, ap, ◌∙◌, arith}
+use Rattle.std.proofs.Common.{◌+◌, [], slice_index, drop, MatchOption, subst, sym, ap, ◌∙◌, arith}
 use Rattle.std.proofs.lemmas.List.{drop_more}
 use Rattle.cfn_store.specs.Scanning.{IsSpot, NoneMet, IsFound, ended, found_in}
-use Rattle.cfn_store.proofs.Scans.{first_of_none, next_choice, all_choices, row_spot, row_match, at_once}
+use Rattle.cfn_store.proofs.Scans.{FirstOf, first_of_none, next_choice, all_choices, row_spot, row_match, at_once}
 use Rattle.cfn_store.proofs.scan.Scan.row.Goals as goal
 
 pub loop-value-init : goal.loop-value-init
-loop-value-init c = (λ e. refl, first_of_none c.args.self.now (slice_index c.args.scope.now 0) (drop 1 c.args.scope.now) c.args.spot c.choices-value-items.result.now)
+loop-value-init c = (
+  c.none-best.ensures.best,
+  subst (FirstOf c.args.self.now (slice_index c.args.scope.now 0) (drop 1 c.args.scope.now) c.args.spot c.choices-value-items.result.now 0) (sym (c.none-best.ensures.none c.args.self.now.sense)) (first_of_none c.args.self.now (slice_index c.args.scope.now 0) (drop 1 c.args.scope.now) c.args.spot c.choices-value-items.result.now),
+)
 
 pub gone_on-requires : goal.gone_on-requires
 gone_on-requires c = record {

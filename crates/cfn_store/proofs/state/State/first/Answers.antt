@@ -1,6 +1,14 @@
-use Rattle.std.proofs.Common.{subst, MatchOption}
+use Rattle.std.proofs.Common.{◌≡◌, ℕ, List, subst, MatchOption, Option}
+use Rattle.cfn_model.specs.Network.{Network, scope_at}
+use Rattle.cfn_model.specs.Steps.{IsPlace}
+use Rattle.cfn_store.specs.declared.scan.Extreme.{Extreme}
+use Rattle.cfn_store.specs.declared.scan.Pin.{Pin}
+use Rattle.cfn_store.specs.declared.scan.Scan.{Scan}
+use Rattle.cfn_store.specs.declared.scan.Sense.{Sense}
+use Rattle.cfn_store.specs.declared.state.State.{State}
+use Rattle.cfn_store.specs.Exact.{IsExact}
 use Rattle.cfn_store.specs.State.{history_of}
-use Rattle.cfn_store.specs.Reading.{start}
+use Rattle.cfn_store.specs.Reading.{Reads, start}
 use Rattle.cfn_store.specs.Scanning.{NoneMet, IsFound}
 use Rattle.cfn_store.specs.Extremes.{NoneBetween, IsExtremeBetween}
 use Rattle.cfn_store.proofs.Along.{exact_here}
@@ -8,10 +16,16 @@ use Rattle.cfn_store.proofs.Extremes.{extreme}
 use Rattle.cfn_store.proofs.Scans.{small_word}
 use Rattle.cfn_store.proofs.state.State.first.Goals as goal
 
+-- what a scan found is what is asked for
+told : (P : Network) (s : State) (f : ℕ) (one two : Pin) (sense : Sense) (scan : Scan) (scope : List ℕ) (first : Option Extreme) → Reads P (history_of s) f scan → scan.one ≡ one → scan.two ≡ two → scan.sense ≡ sense → IsExact P (history_of s) → IsPlace P f one.place one.value → IsPlace P f two.place two.value → scope ≡ scope_at P f → MatchOption first (NoneMet scan scope start) (IsFound scan scope start)
+    → MatchOption first (NoneBetween P (history_of s) f one.place one.value two.place two.value) (IsExtremeBetween P (history_of s) f one.place one.value two.place two.value sense)
+told P s f one two sense scan scope first reads is_one is_two is_sense exact at_one at_two same found =
+    let is = extreme P (history_of s) f one two scan first reads is_one is_two exact at_one.place at_two.place (λ rest. small_word scan _ start rest)
+    (subst (λ l. MatchOption first (NoneMet scan l start) (IsFound scan l start)) same found) in
+    subst (λ k. MatchOption first (NoneBetween P (history_of s) f one.place one.value two.place two.value) (IsExtremeBetween P (history_of s) f one.place one.value two.place two.value k)) is_sense is
+
 pub returns : goal.returns
-returns c =
-    let P = c.args.network.now in let h = history_of c.args.self.now in
-    let found = extreme P h c.args.f c.args.one c.args.two c.scan-scan.result c.first.result
-    c.scan-scan.ensures.reads c.scan-scan.ensures.one c.scan-scan.ensures.two (exact_here P h c.requires.state.exact) c.requires.one.place c.requires.two.place (λ rest. small_word c.scan-scan.result _ start rest)
-    (subst (λ scope. MatchOption c.first.result (NoneMet c.scan-scan.result scope start) (IsFound c.scan-scan.result scope start)) c.scope.ensures c.first.ensures) in
-    subst (λ sense. MatchOption c.first.result (NoneBetween P h c.args.f c.args.one.place c.args.one.value c.args.two.place c.args.two.value) (IsExtremeBetween P h c.args.f c.args.one.place c.args.one.value c.args.two.place c.args.two.value sense)) c.scan-scan.ensures.sense found
+returns c = told c.args.network.now c.args.self.now c.args.f c.args.one c.args.two c.args.sense c.scan-scan.result c.scope-scope.result.now c.first.result c.scan-scan.ensures.reads c.scan-scan.ensures.one c.scan-scan.ensures.two c.scan-scan.ensures.sense (exact_here c.args.network.now (history_of c.args.self.now) c.requires.state.exact) c.requires.one c.requires.two c.scope-scope.ensures c.first.ensures
+
+pub returns-then-scope-eq3 : goal.returns-then-scope-eq3
+returns-then-scope-eq3 c = told c.args.network.now c.args.self.now c.args.f c.args.one c.args.two c.args.sense c.scan-scan.result c.scope-scope.result.now c.first_of_three.result c.scan-scan.ensures.reads c.scan-scan.ensures.one c.scan-scan.ensures.two c.scan-scan.ensures.sense (exact_here c.args.network.now (history_of c.args.self.now) c.requires.state.exact) c.requires.one c.requires.two c.scope-scope.ensures c.first_of_three.ensures
