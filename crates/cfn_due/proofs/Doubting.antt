@@ -2,68 +2,76 @@
 use Rattle.std.proofs.Common.{◌≡◌, ◌⊎◌, ℕ, ◌+◌, ◌-◌, ◌*◌, ◌<◌, ◌≤◌, inl, inr, false, true≢false, List, [], ◌∷◌, ◌++◌, length, take, drop, slice_index, slice_index_or, slice_set, get_or-drop, get_or-set_other, refl, sym, ap, ◌∙◌, subst, arith}
 use Rattle.std.proofs.lemmas.Bool.{cases_eq}
 use Rattle.std.proofs.lemmas.List.{take_more, take-append-drop, length-drop}
-use Rattle.std.specs.Prelude.{IsTrue}
+use Rattle.std.specs.Prelude.{Bool, true, IsTrue}
 use Rattle.cfn_model.specs.declared.step.Step.{Step}
 use Rattle.cfn_model.specs.declared.step.Event.{Event}
 use Rattle.cfn_model.specs.declared.step.Event.TheVariants.{Did}
-use Rattle.cfn_model.specs.Network.{Network, IsNetwork, arity, variable_at}
+use Rattle.cfn_model.specs.Network.{Network, IsNetwork, variable_at}
 use Rattle.cfn_model.specs.Steps.{after}
-use Rattle.cfn_consistency.specs.Consistency.{HasFullSupport}
+use Rattle.cfn_consistency.specs.Openness.{is_open}
+use Rattle.cfn_consistency.proofs.CallerLemmas.{later_open}
 use Rattle.cfn_incidence.specs.declared.incidence.Place.{Place}
 use Rattle.cfn_incidence.specs.Places.{ArePlaces, place_at}
-use Rattle.cfn_incidence.proofs.CallerLemmas.{is_function, place_found}
+use Rattle.cfn_incidence.proofs.CallerLemmas.{place_found}
 use Rattle.cfn_store.specs.Exact.{IsExactAlong}
 use Rattle.cfn_due.specs.Going.{IsOn, GoesFull, GoesWithOne}
 use Rattle.cfn_due.proofs.Staying.{full_goes_along}
 use Rattle.cfn_due.proofs.Noting.{goes_split, after_joined}
 use Rattle.cfn_due.specs.Marking.{is_marked, IsElseSame}
-use Rattle.cfn_due.specs.Resting.{Resting, is_sure, Rests, AreSure, AreDoubted}
+use Rattle.cfn_due.specs.Resting.{Resting, RestsAt, is_sure, AreSure, AreDoubted}
 
 -- nothing is sure
 pub none_sure : (P : Network) (history : List Event) (r : Resting) → ((k : ℕ) → is_marked r.sure k ≡ false) → AreSure P history r
-none_sure P history r none = record { rests = λ f i l sure. absurd (true≢false (sym sure ∙ none (2 * f + i))) }
+none_sure P history r none = record { rests = λ f i l sure. absurd (true≢false (sym sure ∙ none (3 * f + i))) }
 
 -- one more is sure
-pub more_sure : (P : Network) (history : List Event) (old new : Resting) (f i : ℕ) → AreSure P history old → new.values ≡ old.values → IsElseSame old.sure new.sure (2 * f + i) → i < 2 → arity P f ≡ 2 → HasFullSupport P history f i (1 - i) (slice_index old.values (variable_at P f i)) → AreSure P history new
-more_sure P history old new f i sure values same l two full = record { rests = each }
+pub more_sure : (P : Network) (history : List Event) (old new : Resting) (f i : ℕ) → AreSure P history old → new.values ≡ old.values → IsElseSame old.sure new.sure (3 * f + i) → i < 3 → RestsAt P history f i (slice_index old.values (variable_at P f i)) → AreSure P history new
+more_sure P history old new f i sure values same l is = record { rests = each }
   where
-    here : Rests P history new f i
-    here = record { two = two; full = subst (λ v. HasFullSupport P history f i (1 - i) (slice_index v (variable_at P f i))) (sym values) full }
-
-    each : (g j : ℕ) → j < 2 → IsTrue (is_sure new g j) → Rests P history new g j
-    each g j m now = elim (cases_eq (2 * g + j) (2 * f + i)) [
+    each : (g j : ℕ) → j < 3 → IsTrue (is_sure new g j) → RestsAt P history g j (slice_index new.values (variable_at P g j))
+    each g j m now = elim (cases_eq (3 * g + j) (3 * f + i)) [
       | inl e ↦ (let function : g ≡ f = omega (arith, e, l, m) in
           let place : j ≡ i = omega (arith, e, l, m) in
-          subst (λ h. Rests P history new h j) (sym function) (subst (Rests P history new f) (sym place) here))
-      | inr other ↦ (let was = sure.rests g j m (sym (same (2 * g + j) other) ∙ now) in
-          record { two = was.two; full = subst (λ v. HasFullSupport P history g j (1 - j) (slice_index v (variable_at P g j))) (sym values) was.full })
+          let here = subst (λ v. RestsAt P history f i (slice_index v (variable_at P f i))) (sym values) is in
+          subst (λ h. RestsAt P history h j (slice_index new.values (variable_at P h j))) (sym function) (subst (λ k. RestsAt P history f k (slice_index new.values (variable_at P f k))) (sym place) here))
+      | inr other ↦ (let was = sure.rests g j m (sym (same (3 * g + j) other) ∙ now) in
+          subst (λ v. RestsAt P history g j (slice_index v (variable_at P g j))) (sym values) was)
     ]
 
--- both places of a function are in doubt
-pub unmarked_twice : (old middle new : Resting) (f : ℕ) → new.values ≡ old.values → is_marked middle.sure (2 * f + 0) ≡ false → IsElseSame old.sure middle.sure (2 * f + 0) → is_marked new.sure (2 * f + 1) ≡ false → IsElseSame middle.sure new.sure (2 * f + 1) → AreDoubted old new (λ g. f ≡ g)
-unmarked_twice old middle new f values first first_same second second_same = record {
+-- all three places of a function are in doubt
+pub unmarked_all : (old first second new : Resting) (f : ℕ) → new.values ≡ old.values → is_marked first.sure (3 * f + 0) ≡ false → IsElseSame old.sure first.sure (3 * f + 0) → is_marked second.sure (3 * f + 1) ≡ false → IsElseSame first.sure second.sure (3 * f + 1) → is_marked new.sure (3 * f + 2) ≡ false → IsElseSame second.sure new.sure (3 * f + 2) → AreDoubted old new (λ g. f ≡ g)
+unmarked_all old first second new f values none none_else one one_else two two_else = record {
   values = values;
-  fewer = λ g i l sure. sym (first_same (2 * g + i) (not_first g i sure)) ∙ back g i sure;
+  fewer = λ g i l sure. sym (none_else (3 * g + i) (not_none g i sure)) ∙ back_one g i sure;
   doubted = gone;
 }
   where
-    not_second : (g i : ℕ) → IsTrue (is_sure new g i) → 2 * g + i ≡ 2 * f + 1 → ⊥
-    not_second g i sure e = true≢false (sym sure ∙ ap (is_marked new.sure) e ∙ second)
+    not_two : (g i : ℕ) → IsTrue (is_sure new g i) → 3 * g + i ≡ 3 * f + 2 → ⊥
+    not_two g i sure e = true≢false (sym sure ∙ ap (is_marked new.sure) e ∙ two)
 
-    back : (g i : ℕ) → IsTrue (is_sure new g i) → IsTrue (is_sure middle g i)
-    back g i sure = sym (second_same (2 * g + i) (not_second g i sure)) ∙ sure
+    back_two : (g i : ℕ) → IsTrue (is_sure new g i) → IsTrue (is_sure second g i)
+    back_two g i sure = sym (two_else (3 * g + i) (not_two g i sure)) ∙ sure
 
-    not_first : (g i : ℕ) → IsTrue (is_sure new g i) → 2 * g + i ≡ 2 * f + 0 → ⊥
-    not_first g i sure e = true≢false (sym (back g i sure) ∙ ap (is_marked middle.sure) e ∙ first)
+    not_one : (g i : ℕ) → IsTrue (is_sure new g i) → 3 * g + i ≡ 3 * f + 1 → ⊥
+    not_one g i sure e = true≢false (sym (back_two g i sure) ∙ ap (is_marked second.sure) e ∙ one)
 
-    gone : (g i : ℕ) → i < 2 → f ≡ g → IsTrue (is_sure new g i) → ⊥
+    back_one : (g i : ℕ) → IsTrue (is_sure new g i) → IsTrue (is_sure first g i)
+    back_one g i sure = sym (one_else (3 * g + i) (not_one g i sure)) ∙ back_two g i sure
+
+    not_none : (g i : ℕ) → IsTrue (is_sure new g i) → 3 * g + i ≡ 3 * f + 0 → ⊥
+    not_none g i sure e = true≢false (sym (back_one g i sure) ∙ ap (is_marked first.sure) e ∙ none)
+
+    gone : (g i : ℕ) → i < 3 → f ≡ g → IsTrue (is_sure new g i) → ⊥
     gone g i l e sure = elim (cases_eq i 0) [
-      | inl none ↦ not_first g i sure (omega (arith, e, none))
-      | inr later ↦ not_second g i sure (omega (arith, e, l, later))
+      | inl zero ↦ not_none g i sure (omega (arith, e, zero))
+      | inr more ↦ (elim (cases_eq i 1) [
+        | inl unit ↦ not_one g i sure (omega (arith, e, unit))
+        | inr last ↦ not_two g i sure (omega (arith, e, l, more, last))
+      ])
     ]
 
 -- doubts one after another
-pub doubted_none : (r : Resting) (Goes : ℕ → Type 0) → ((f i : ℕ) → i < 2 → Goes f → IsTrue (is_sure r f i) → ⊥) → AreDoubted r r Goes
+pub doubted_none : (r : Resting) (Goes : ℕ → Type 0) → ((f i : ℕ) → i < 3 → Goes f → IsTrue (is_sure r f i) → ⊥) → AreDoubted r r Goes
 doubted_none r Goes none = record { values = refl; fewer = λ f i l sure. sure; doubted = none }
 
 pub doubted_then : (old middle new : Resting) (First Second Goes : ℕ → Type 0) → AreDoubted old middle First → AreDoubted middle new Second → ((f : ℕ) → Goes f → First f ⊎ Second f) → AreDoubted old new Goes
@@ -98,40 +106,50 @@ on_among P x places n are whole f on =
 pub kept_sure : (P : Network) (history : List Event) (old middle : Resting) (x value : ℕ) → AreDoubted old middle (IsOn P x) → AreSure P history old → AreSure P history (record middle { values = slice_set middle.values x value })
 kept_sure P history old middle x value doubts sure = record { rests = each }
   where
-    each : (f i : ℕ) → i < 2 → IsTrue (is_sure (record middle { values = slice_set middle.values x value }) f i) → Rests P history (record middle { values = slice_set middle.values x value }) f i
+    each : (f i : ℕ) → i < 3 → IsTrue (is_sure (record middle { values = slice_set middle.values x value }) f i) → RestsAt P history f i (slice_index (slice_set middle.values x value) (variable_at P f i))
     each f i l now =
         let was = sure.rests f i l (doubts.fewer f i l now) in
-        let two = was.two in
-        let other : x ≡ variable_at P f i → ⊥ = λ e. doubts.doubted f i l (i, omega (arith, two, l), sym e) now in
+        let other : x ≡ variable_at P f i → ⊥ = λ e. doubts.doubted f i l (i, was.place, sym e) now in
         let same : slice_index (slice_set middle.values x value) (variable_at P f i) ≡ slice_index old.values (variable_at P f i) =
         get_or-set_other middle.values x (variable_at P f i) value 0 (λ e. other (sym e)) ∙ ap (λ values. slice_index values (variable_at P f i)) doubts.values in
-        record { two = was.two; full = subst (HasFullSupport P history f i (1 - i)) (sym same) was.full }
+        subst (RestsAt P history f i) (sym same) was
 
 pub doubted_sure : (P : Network) (history : List Event) (old new : Resting) (Goes : ℕ → Type 0) → AreDoubted old new Goes → AreSure P history old → AreSure P history new
-doubted_sure P history old new Goes doubts sure = record { rests = each }
+doubted_sure P history old new Goes doubts sure = record {
+  rests = λ f i l now. subst (λ values. RestsAt P history f i (slice_index values (variable_at P f i))) (sym doubts.values) (sure.rests f i l (doubts.fewer f i l now));
+}
+
+-- what is not open does not become so
+closed_after : (P : Network) (history : List Event) (steps : List Step) (x : ℕ) → is_open P history x ≡ false → is_open P (after steps history) x ≡ false
+closed_after P history [] x closed = closed
+closed_after P history (step ∷ steps) x closed = closed_after P (Did step ∷ history) steps x (not_open (is_open P (Did step ∷ history) x) refl)
   where
-    each : (f i : ℕ) → i < 2 → IsTrue (is_sure new f i) → Rests P history new f i
-    each f i l now =
-        let was = sure.rests f i l (doubts.fewer f i l now) in
-        record { two = was.two; full = subst (λ values. HasFullSupport P history f i (1 - i) (slice_index values (variable_at P f i))) (sym doubts.values) was.full }
+    not_open : (b : Bool) → is_open P (Did step ∷ history) x ≡ b → is_open P (Did step ∷ history) x ≡ false
+    not_open false is = is
+    not_open true is = absurd (true≢false (sym (later_open P history (Did step) x is) ∙ closed))
 
 -- what no step of a block put in doubt stays so behind it
 pub sure_along : (P : Network) (block : List Step) (base : List Event) (start : ℕ) (old new : Resting) → IsNetwork P → IsExactAlong P (after block base) → AreDoubted old new (GoesWithOne (GoesFull P) (drop start block)) → AreSure P (after (take start block) base) old → AreSure P (after block base) new
 sure_along P block base start old new net exact doubts sure = record { rests = each }
   where
-    each : (f i : ℕ) → i < 2 → IsTrue (is_sure new f i) → Rests P (after block base) new f i
+    whole : after block base ≡ after (drop start block) (after (take start block) base)
+    whole = ap (λ steps. after steps base) (sym (take-append-drop start block)) ∙ after_joined (take start block) (drop start block) base
+
+    along : (f i a : ℕ) → (GoesWithOne (GoesFull P) (drop start block) f → ⊥) → RestsAt P (after (take start block) base) f i a → RestsAt P (after (drop start block) (after (take start block) base)) f i a
+    along f i a stays was = record {
+      function = was.function;
+      place = was.place;
+      other = was.other;
+      other_place = was.other_place;
+      full = full_goes_along P (after (take start block) base) (drop start block) f i was.other a net was.function was.other_place (subst (IsExactAlong P) whole exact) stays was.full;
+      alone = λ k l not_one not_other. closed_after P (after (take start block) base) (drop start block) (variable_at P f k) (was.alone k l not_one not_other);
+    }
+
+    each : (f i : ℕ) → i < 3 → IsTrue (is_sure new f i) → RestsAt P (after block base) f i (slice_index new.values (variable_at P f i))
     each f i l now =
-        let was = sure.rests f i l (doubts.fewer f i l now) in
-        let two = was.two in
-        let whole : after block base ≡ after (drop start block) (after (take start block) base) =
-        ap (λ steps. after steps base) (sym (take-append-drop start block)) ∙ after_joined (take start block) (drop start block) base in
-        let goes_on = full_goes_along P (after (take start block) base) (drop start block) f i (1 - i) (slice_index old.values (variable_at P f i)) net (is_function P f 0 (omega (arith, two))) (omega (arith, two)) (subst (IsExactAlong P) whole exact)
-        (λ goes. doubts.doubted f i l goes now) was.full in
-        record {
-          two = was.two;
-          full = subst (λ values. HasFullSupport P (after block base) f i (1 - i) (slice_index values (variable_at P f i))) (sym doubts.values)
-              (subst (λ h. HasFullSupport P h f i (1 - i) (slice_index old.values (variable_at P f i))) (sym whole) goes_on);
-        }
+        subst (λ values. RestsAt P (after block base) f i (slice_index values (variable_at P f i))) (sym doubts.values)
+        (subst (λ h. RestsAt P h f i (slice_index old.values (variable_at P f i))) (sym whole)
+        (along f i (slice_index old.values (variable_at P f i)) (λ goes. doubts.doubted f i l goes now) (sure.rests f i l (doubts.fewer f i l now))))
 
 -- along the steps of a block, one after another
 pub steps_none : (P : Network) (r : Resting) (steps : List Step) (n : ℕ) → n ≡ 0 → AreDoubted r r (GoesWithOne (GoesFull P) (take n steps))

@@ -9,12 +9,11 @@ ghost use Rattle.cfn_model.specs.declared.step.Event.{Event};
 ghost use Rattle.cfn_model.specs.declared.step.Event.TheVariants.{Did};
 ghost use Rattle.cfn_model.specs.Network.{Network as CostNetwork, arity, variable_at};
 ghost use Rattle.cfn_model.specs.Steps.{InRange, after};
-ghost use Rattle.cfn_consistency.specs.Consistency.{HasFullSupport};
 ghost use Rattle.cfn_store.specs.Standing.{history};
 ghost use Rattle.cfn_due.specs.Going.{IsOn, GoesFull};
-ghost use Rattle.cfn_due.specs.Resting.{is_sure, AreSure, AreDoubted, IsDoubted};
+ghost use Rattle.cfn_due.specs.Resting.{RestsAt, is_sure, AreSure, AreDoubted, IsDoubted};
 
-use crate::marks::{Marks, number_of};
+use crate::marks::Marks;
 use cfn_incidence::{Incidence, Place};
 use cfn_model::Step;
 use cfn_net::Network;
@@ -22,13 +21,14 @@ use cfn_store::Store;
 use std::alloc::{AllocError, Global};
 use std::marker::Model;
 
-/// For each variable a value, and in which functions of two variables it is known to have a full support. Only `make` takes
+/// For each variable a value, and in which functions it is known to rest: to have a full support with regard to the other open
+/// variable, where there is one other. What is seen at a function's fourth place and behind is not remembered. Only `make` takes
 /// memory.
 #[derive(Drop)]
 pub struct Rests {
     /// For each variable the value.
     values: Vec<u32>,
-    /// At which of the two places of each function the value of its variable is known to have a full support.
+    /// At which of the first three places of each function the value of its variable is known to rest.
     sure: Marks,
 }
 
@@ -47,7 +47,7 @@ impl Rests {
     {
         Ok(Rests {
             values: vec![in alloc; 0; network.variables() as usize]?,
-            sure: Marks::make(alloc, 2 * network.functions() as usize)?,
+            sure: Marks::make(alloc, 3 * network.functions() as usize)?,
         })
     }
 
@@ -68,24 +68,26 @@ impl Rests {
         }
     }
 
-    /// Whether the value of the variable at a place is known to have a full support there.
+    /// Whether the value of the variable at a place is known to rest there.
     pub fn is_sure(&self, place: Place) -> bool
-        ensures { result ≡ true → (place.place < 2) × IsTrue (is_sure self.now place.function place.place) }
+        ensures { result ≡ true → (place.place < 3) × IsTrue (is_sure self.now place.function place.place) }
     {
-        if place.place > 1 {
+        if place.place > 2 {
             return false;
         }
         self.sure.has(number_of(place.function, place.place))
     }
 
-    /// Remembers that the value of the variable at a place of a function of two variables has a full support there.
+    /// Remembers that the value of the variable at a place rests there.
     pub fn rely(&mut self, place: Place)
-        ensures sure { (P : CostNetwork) (history : List Event) → AreSure P history self.old → arity P place.function ≡ 2 → place.place < 2
-            → HasFullSupport P history place.function place.place (1 - place.place) (slice_index self.old.values (variable_at P place.function place.place))
+        ensures sure { (P : CostNetwork) (history : List Event) → AreSure P history self.old
+            → RestsAt P history place.function place.place (slice_index self.old.values (variable_at P place.function place.place))
             → AreSure P history self.new }
         ensures values { self.new.values ≡ self.old.values }
     {
-        self.sure.mark(number_of(place.function, place.place));
+        if place.place < 3 {
+            self.sure.mark(number_of(place.function, place.place));
+        }
     }
 
     /// Keeps another value for a variable, which puts all functions on it in doubt.
@@ -177,5 +179,13 @@ impl Rests {
     {
         self.sure.unmark(number_of(f, 0));
         self.sure.unmark(number_of(f, 1));
+        self.sure.unmark(number_of(f, 2));
     }
+}
+
+/// The number of one of the first three places of a function.
+fn number_of(f: u32, place: u32) -> usize
+    ensures { result ≡ 3 * f + place }
+{
+    3 * f as usize + place as usize
 }

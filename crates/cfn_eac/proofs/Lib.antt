@@ -4,3 +4,4 @@ pub mod Amounts
 pub mod Owing
 pub mod Supporting
 pub mod Beside
+pub mod Sure

@@ -60,7 +60,7 @@ pub(crate) fn is_at_rest(
 }
 
 /// Whether the live value of the open variable `x` at a place has a full support in the place's function with regard to the other
-/// open variable, where there is one other. What is seen of a function of two variables is remembered.
+/// open variable, where there is one other. What is seen is remembered.
 fn rests_on(
     rests: &mut Rests,
     due: &Due,
@@ -83,7 +83,7 @@ fn rests_on(
 {
     store.network().limits();
     if place.other == x {
-        return rests_on_wide(store, place, value);
+        return rests_on_wide(rests, store, place, x, value);
     }
     if store.count(place.other) < 2 || rests.is_sure(place) {
         return true;
@@ -95,18 +95,29 @@ fn rests_on(
     true
 }
 
-/// The same of a function of one variable, or of three or more, which is looked at each time: it asks nothing where it has no
-/// other open variable, or more than one.
-fn rests_on_wide(store: &Store<'_>, place: Place, value: u32) -> bool
-    requires stands { StandsAt store.now.network (variable_at store.now.network place.function place.place) place }
+/// The same of a function of one variable, or of three or more: it asks nothing where it has no other open variable, or more than
+/// one.
+fn rests_on_wide(rests: &mut Rests, store: &Store<'_>, place: Place, x: u32, value: u32) -> bool
+    requires stands { StandsAt store.now.network x place }
     requires place { IsPlace store.now.network place.function place.place value }
-    requires live { IsTrue (is_live (history store.now) (variable_at store.now.network place.function place.place) value) }
-    ensures { result ≡ true → RestsOn store.now.network (history store.now) place value }
+    requires live { IsTrue (is_live (history store.now) x value) }
+    requires value { value ≡ slice_index rests.old.values x }
+    requires sure { AreSure store.now.network (history store.now) rests.old }
+    ensures rests { result ≡ true → RestsOn store.now.network (history store.now) place value }
+    ensures sure { AreSure store.now.network (history store.now) rests.new }
+    ensures values { rests.new.values ≡ rests.old.values }
 {
-    match wide_arm_at(store, place) {
-        Some(pair) => has_full_support_at(store, place, pair.other, value),
-        None => true,
+    if rests.is_sure(place) {
+        return true;
     }
+    let Some(pair) = wide_arm_at(store, place) else {
+        return true;
+    };
+    if !has_full_support_at(store, place, pair.other, value) {
+        return false;
+    }
+    rests.rely(place);
+    true
 }
 
 /// Whether a live value of `x` is seen to have a full support with regard to the other variable: each value of the lower one has

@@ -11,7 +11,9 @@ use Rattle.cfn_incidence.specs.declared.incidence.Place.{Place}
 use Rattle.cfn_incidence.specs.Places.{StandsAt}
 use Rattle.cfn_incidence.proofs.CallerLemmas.{two_there}
 use Rattle.cfn_eac.specs.Resting.{RestsOn}
+use Rattle.cfn_due.specs.Resting.{RestsAt}
 use Rattle.cfn_eac.proofs.Beside.{both_open, other_closed}
+use Rattle.cfn_eac.proofs.Sure.{sure_rests, rests_at}
 use Rattle.cfn_eac.proofs.resting.rests_on.Goals.{then-count-lt2-via-then-count-lt2, then-count-lt2-via-else-count-lt2+then-is_sure}
 use Rattle.cfn_eac.proofs.resting.rests_on.Goals as goal
 
@@ -37,9 +39,8 @@ returns-then-count-lt2-clause-rests c = λ yes.
     elim c.then-count-lt2.branch [
       | then-count-lt2-via-then-count-lt2 w ↦ closed_rests s c.args.x c.args.value c.count.result p c.requires.stands c.requires.open c.count.ensures w.if-count-lt2.true
       | then-count-lt2-via-else-count-lt2+then-is_sure w ↦ (let sure = w.is_sure.ensures w.if-is_sure.true in
-          let was = c.requires.sure.rests p.function p.place sure.0 sure.1 in
           let is = c.requires.value ∙ sym (ap (slice_index c.args.rests.now.values) c.requires.stands.is) in
-          of_two s.network (history s) p c.args.value was.two (λ now. subst (HasFullSupport s.network (history s) p.function p.place (1 - p.place)) (sym is) was.full))
+          sure_rests s.network (history s) p c.args.value (subst (RestsAt s.network (history s) p.function p.place) (sym is) (c.requires.sure.rests p.function p.place sure.0 sure.1)))
     ])
 
 pub has_full_support-requires-clause-open : goal.has_full_support-requires-clause-open
@@ -54,10 +55,10 @@ returns-clause-rests c = λ yes.
 
 pub returns-clause-sure : goal.returns-clause-sure
 returns-clause-sure c =
-    let s = c.args.store.now in let p = c.args.place in let at = c.requires.stands in
-    let both = two_there s.network c.args.x p at c.if-place-x.false in
-    let within = at.place in
-    let is = c.requires.value ∙ sym (ap (slice_index c.args.rests.now.values) at.is) in
-    c.rely.ensures.sure s.network (history s) c.requires.sure both (omega (arith, within, both))
-    (subst (HasFullSupport s.network (history s) p.function p.place (1 - p.place)) is
-    (c.has_full_support.ensures c.if-not-has_full_support.false))
+    let s = c.args.store.now in let p = c.args.place in
+    let many = c.if-count-lt2.false in
+    let is = c.requires.value ∙ sym (ap (slice_index c.args.rests.now.values) c.requires.stands.is) in
+    c.rely.ensures.sure s.network (history s) c.requires.sure
+    (subst (RestsAt s.network (history s) p.function p.place) is
+    (rests_at s.network (history s) p c.args.value (1 - p.place) (both_open s c.args.x c.count.result p c.requires.stands c.if-place-x.false c.requires.open c.count.ensures (omega (arith, many)))
+    (c.has_full_support.ensures c.if-not-has_full_support.false)))
