@@ -65,7 +65,7 @@ fn tree(
     ensures ok { IfOk result (IsChecked network.now lines.old.text) }
     ensures stop { IfErr result (IsStop network.now lines.old.text) }
 {
-    network.limits();
+    network.law_limits();
     let threshold = threshold(network, opening, list);
     let mut walk = Walk::make(alloc, network, threshold)?;
     nodes(network, lines, &mut walk, opening, list)?;

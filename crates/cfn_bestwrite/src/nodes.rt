@@ -20,7 +20,7 @@ pub fn put_tree<D: Desk>(tree: &Tree, numbers: &[Option<u32>], desk: &mut D) -> 
     ensures { Appends File (D.outside desk.old)
         (text_of (lines_of_tree (listed_of tree.now numbers.now))) result (D.outside desk.new) }
 {
-    tree.linked();
+    tree.law_linked();
     let mut next = Some(Tree::ROOT);
     while let Some(id) = next {
         put_node(tree.node(id), number_of(numbers, id), desk)?;

@@ -59,7 +59,7 @@ pub fn choose(weights: &Weights, incidence: &Incidence, store: &Store<'_>) -> Op
     requires weights { length weights.now ≡ length store.now.network.functions }
     ensures { MatchOption result (AllDecided store.now) (IsChosen store.now weights.now) }
 {
-    store.network().limits();
+    store.network().law_limits();
     let mut best: Option<Candidate> = None;
     for x in 0..store.network().variables() {
         if store.count(x) >= 2 {
@@ -118,7 +118,7 @@ fn weighted_degree(weights: &Weights, incidence: &Incidence, store: &Store<'_>, 
     requires open { IsOpen store.now x }
     ensures { result ≡ degree store.now weights.now x }
 {
-    store.network().limits();
+    store.network().law_limits();
     let mut sum = 1;
     for place in incidence.places(x) {
         if is_counted(store, *place, x) {
@@ -135,7 +135,7 @@ fn is_counted(store: &Store<'_>, place: Place, x: u32) -> bool
     requires open { IsOpen store.now x }
     ensures { result ≡ nat_le 2 (open_count store.now.network (history store.now) place.function) }
 {
-    store.network().limits();
+    store.network().law_limits();
     if place.other == x {
         has_two_open(store, place.function)
     } else {
@@ -148,7 +148,7 @@ fn has_two_open(store: &Store<'_>, f: u32) -> bool
     requires { f < length store.now.network.functions }
     ensures { result ≡ nat_le 2 (open_count store.now.network (history store.now) f) }
 {
-    store.network().limits();
+    store.network().law_limits();
     let mut found = false;
     for x in store.network().scope(f) {
         if store.count(*x) >= 2 {

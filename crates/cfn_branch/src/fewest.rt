@@ -36,7 +36,7 @@ pub fn split_fewest(store: &Store<'_>) -> Option<Decision>
 pub fn choose_fewest(store: &Store<'_>) -> Option<u32>
     ensures { MatchOption result (AllDecided store.now) (IsFewest store.now) }
 {
-    store.network().limits();
+    store.network().law_limits();
     let mut best: Option<u32> = None;
     for x in 0..store.network().variables() {
         if store.count(x) >= 2 {
@@ -63,7 +63,7 @@ pub fn middle(store: &Store<'_>, x: u32) -> u32
     requires { IsOpen store.now x }
     ensures { IsMiddle store.now x result }
 {
-    store.network().limits();
+    store.network().law_limits();
     let count = store.count(x);
     let mut value = 0;
     let mut rest = count / 2 - u32::from(store.is_live(x, value));

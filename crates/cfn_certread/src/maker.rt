@@ -147,7 +147,7 @@ impl Maker {
         ensures tree { result ≡ self.nodes }
         ensures linked { IsTree result }
     {
-        self.tree.linked();
+        self.tree.law_linked();
         self.tree
     }
 }

@@ -18,7 +18,7 @@ pub fn put_tree<D: Desk>(tree: &Tree, desk: &mut D) -> Result<(), Failed>
     ensures { Appends File (D.outside desk.old)
         (text (tree_lines (tree_of tree.now))) result (D.outside desk.new) }
 {
-    tree.linked();
+    tree.law_linked();
     let mut next = Some(Tree::ROOT);
     while let Some(id) = next {
         put_node(tree.node(id), desk)?;
@@ -34,7 +34,7 @@ pub fn next_node(tree: &Tree, id: NodeId) -> Option<NodeId>
     ensures there { IfSome result (λ next. next.number < length tree.now) }
     ensures order { order_from tree.now id.number ≡ id.number ∷ order_left tree.now result }
 {
-    tree.linked();
+    tree.law_linked();
     match tree.node(id).end {
         End::Free | End::Shut => next_second(tree, id),
         End::Split { first, .. } => Some(first),
@@ -48,7 +48,7 @@ fn next_second(tree: &Tree, id: NodeId) -> Option<NodeId>
     ensures there { IfSome result (λ next. next.number < length tree.now) }
     ensures order { order_behind tree.now id.number ≡ order_left tree.now result }
 {
-    tree.linked();
+    tree.law_linked();
     let mut done = id;
     while let Some(parent) = tree.node(done).parent {
         let sibling = second_behind(tree.node(parent).end, done);

@@ -48,7 +48,7 @@ fn can_extend_at(
     requires place { IsPlace network.now f place value }
     ensures { IsTrue result ↔ CanExtend network.now ledger.now.history (variable_at network.now f place) value amount }
 {
-    network.limits();
+    network.law_limits();
     can_extend(ledger, network.scope(f)[place as usize], value, amount)
 }
 

@@ -141,7 +141,7 @@ fn is_place(network: &Network, f: u64, place: u64, value: u64) -> bool
     ensures answer { IsTrue result ↔ IsPlace network.now f place value }
     ensures small { IsTrue result → (f < 4294967296) × (place < 4294967296) × (value < 4294967296) }
 {
-    network.limits();
+    network.law_limits();
     has_value(network, f, place, value)
 }
 
@@ -152,7 +152,7 @@ fn has_value(network: &Network, f: u64, place: u64, value: u64) -> bool
     if f >= network.functions() as u64 {
         return false;
     }
-    network.limits();
+    network.law_limits();
     match network.scope(f as u32).get(place as usize) {
         Some(x) => value < network.size(*x) as u64,
         None => false,

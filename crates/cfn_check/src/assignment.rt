@@ -34,7 +34,7 @@ impl Assignment {
         if !self.possible {
             return Ok(());
         }
-        network.limits();
+        network.law_limits();
         let room = self.values.len() < network.variables() as usize;
         if room && value < 4096 {
             self.values.push(value as u32)?;

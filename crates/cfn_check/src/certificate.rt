@@ -77,7 +77,7 @@ fn tree(
     ensures ok { IfOk result (IsChecked network.now reader.old.text) }
     ensures stop { IfErr result (IsStop network.now reader.old.text) }
 {
-    network.limits();
+    network.law_limits();
     let threshold = threshold_of(network, opening.best);
     let mut walk = Walk::make(alloc, network, threshold)?;
     nodes(network, reader, &mut walk)?;

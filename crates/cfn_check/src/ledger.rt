@@ -180,7 +180,7 @@ impl Ledger {
     }
 
     /// Nothing: its contract tells a caller that the residual cost of a tuple is its entry less what was shifted along it.
-    pub(crate) fn differences(&self)
+    pub(crate) fn law_differences(&self)
         ensures { (f : ℕ) (tuple : List ℕ) → Fits (dims_at self.now.network f) tuple
             → residual self.now.network self.now.history f tuple ≡ (residual self.now.network [] f tuple
             +ℤ neg_ℤ (along (λ n. shifted self.now.network self.now.history f n) 0 (dims_at self.now.network f) tuple)) }
@@ -197,8 +197,8 @@ impl Ledger {
             → cell (dims_at network.now f) tuple ≡ number
             → result ≡ residual network.now self.now.history f tuple }
     {
-        network.limits();
-        self.differences();
+        network.law_limits();
+        self.law_differences();
         let scope = network.scope(f);
         let mut residual = original(network, f, number);
         let mut slot = slots(network, scope);
@@ -234,7 +234,7 @@ impl Ledger {
         ensures ok { OnOk result (self.new ≡ with_event event self.old) }
         ensures err { OnErr result (self.new ≡ self.old) }
     {
-        network.limits();
+        network.law_limits();
         if self.trail.len() >= Ledger::MOST {
             return Err(AllocError);
         }
@@ -262,7 +262,7 @@ impl Ledger {
         requires some { 0 < length self.old.history }
         ensures { self.new ≡ without 1 self.old }
     {
-        network.limits();
+        network.law_limits();
         if let Some(entry) = self.trail.pop() {
             self.costs.revert(network, entry.event, entry.fresh);
         }

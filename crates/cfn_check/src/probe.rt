@@ -45,8 +45,8 @@ pub(crate) fn can_project(
     requires place { IsPlace network.now f place value }
     ensures { IsTrue result ↔ CanProject network.now ledger.now.history f place value amount }
 {
-    network.limits();
-    ledger.differences();
+    network.law_limits();
+    ledger.law_differences();
     let asked = Asked {
         function: f,
         variable: network.scope(f)[place as usize],
@@ -71,7 +71,7 @@ fn lacks(ledger: &Ledger, network: &Network, asked: Asked, spot: Spot) -> bool
     let Some(spot) = open_place(ledger, network, asked, spot) else {
         return false;
     };
-    network.limits();
+    network.law_limits();
     let scope = network.scope(asked.function);
     let left = scope.len() - spot.place as usize;
     if left == 0 {
@@ -101,7 +101,7 @@ fn row_lacks(ledger: &Ledger, network: &Network, asked: Asked, spot: Spot) -> bo
     requires open { variable_at network.now asked.function spot.place ≢ asked.variable }
     ensures { IsTrue result ↔ Lacks network.now ledger.now.history asked spot }
 {
-    network.limits();
+    network.law_limits();
     let x = network.scope(asked.function)[spot.place as usize];
     for value in 0..network.size(x) {
         let next = behind(ledger, network, asked.function, spot, value);
@@ -122,7 +122,7 @@ fn open_place(ledger: &Ledger, network: &Network, asked: Asked, spot: Spot) -> O
     requires spot { IsSpot network.now asked.function spot }
     ensures { MatchOption result (Lacks network.now ledger.now.history asked spot → ⊥) (IsOpen network.now ledger.now.history asked spot) }
 {
-    network.limits();
+    network.law_limits();
     let scope = network.scope(asked.function);
     let mut spot = spot;
     while (spot.place as usize) < scope.len() {
@@ -163,7 +163,7 @@ fn behind(ledger: &Ledger, network: &Network, f: u32, spot: Spot, value: u32) ->
     ensures behind { result ≡ spot_behind network.now ledger.now.history f spot value }
     ensures spot { IsSpot network.now f result }
 {
-    network.limits();
+    network.law_limits();
     let size = network.size(network.scope(f)[spot.place as usize]);
     Spot {
         place: spot.place + 1,

@@ -4,7 +4,7 @@ ghost use Rattle.cfn_consistency.specs.Laws.{NodesRise, ArcsRise, DirectionalsRi
 
 /// What is consistent at a threshold is so at every greater one, and what is dead is so at every smaller one. Nothing is
 /// node consistent and dead at once.
-pub fn thresholds()
+pub fn law_thresholds()
     ensures nodes { NodesRise }
     ensures arcs { ArcsRise }
     ensures directional { DirectionalsRise }
@@ -15,7 +15,7 @@ pub fn thresholds()
 {}
 
 /// Where two histories agree on what a consistency looks at, it holds after one exactly where it holds after the other.
-pub fn local()
+pub fn law_local()
     ensures part { PartIsLocal }
     ensures arc { ArcIsLocal }
     ensures directional { DirectionalIsLocal }
@@ -25,18 +25,18 @@ pub fn local()
 
 /// Steps that gain at nodes are groups, each of one step, and groups behind groups are groups,
 /// the last of which may be unfinished.
-pub fn groups()
+pub fn law_groups()
     ensures nodes { NodesGroup }
     ensures join { GroupsJoin }
     ensures open { OpenGroupsJoin }
 {}
 
 /// Where propagation ended in a closed family, none under the same bans empties a variable.
-pub fn families()
+pub fn law_families()
     ensures closed { ClosedStaysClosed }
 {}
 
 /// A source that is needed behind the cuts of others is none of them.
-pub fn sources()
+pub fn law_sources()
     ensures { SourcesDiffer }
 {}

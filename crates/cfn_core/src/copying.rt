@@ -15,7 +15,7 @@ pub(crate) fn piece_copy(
     requires { piece.now.network ≡ network.now }
     ensures { IfOk result (λ copy. copy ≡ piece.now) }
 {
-    piece.kept();
+    piece.law_kept();
     let task = task_copy(alloc, network, piece.task())?;
     let tree = piece.tree().copy(alloc)?;
     Ok(Piece::of(task, tree, piece.threshold()))
@@ -26,7 +26,7 @@ fn task_copy(alloc: Global, network: &Network, task: &Task) -> Result<Task, Allo
     requires { task.now.network ≡ network.now }
     ensures { IfOk result (λ copy. copy ≡ task.now) }
 {
-    task.kept();
+    task.law_kept();
     let path = task.path().copy(alloc)?;
     Ok(Task::of(
         network,

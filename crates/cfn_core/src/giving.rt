@@ -41,7 +41,7 @@ impl World<'_> {
         ensures of { IfOk result (IsReplyOf self.old.network) }
         ensures err { OnErr result (self.new ≡ self.old) }
     {
-        piece.kept();
+        piece.law_kept();
         let given = piece_copy(*self.notes.allocator(), self.network, piece)?;
         match self.leaves.give(given) {
             Handed::Done => {

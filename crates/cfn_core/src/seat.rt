@@ -25,8 +25,8 @@ pub(crate) fn keep_cheaper(best: &mut Scored, offer: &Scored)
     ensures network { best.new.network ≡ best.old.network }
     ensures found { found_of best.new.held ≡ cheaper best.old.network (found_of best.old.held) (found_of offer.now.held) }
 {
-    best.priced();
-    offer.priced();
+    best.law_priced();
+    offer.law_priced();
     if offer.price() < best.price() {
         best.take_over(offer);
     }

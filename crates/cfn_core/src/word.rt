@@ -35,7 +35,7 @@ impl World<'_> {
         if !is_there(self.seats.as_slice(), worker) {
             return Reply::Idle;
         }
-        found.priced();
+        found.law_priced();
         let word = self.word.min(found.price());
         self.word = word;
         offer(&mut self.seats, worker, found, word);

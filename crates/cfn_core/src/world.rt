@@ -89,7 +89,7 @@ impl<'n> World<'n> {
         ensures world { IfOk result (λ world. world_of world ≡ opening network.now workers budget) }
         ensures out { IfOk result (λ world. AreOut (world_of world)) }
     {
-        network.limits();
+        network.law_limits();
         let tree = Tree::new(alloc)?;
         let leaves = Leaves::start(alloc, network, tree, None, network.ub(), budget)?;
         Ok(World {
@@ -107,7 +107,7 @@ impl<'n> World<'n> {
 
     /// Nothing: its contract tells a caller what holds in every world. The pool is sound, every assignment is covered, the
     /// word keeps its rule, the tree is valid at the word, and the task of each leaf that is out is in hand.
-    pub fn kept(&self)
+    pub fn law_kept(&self)
         ensures { Always self.now.network (world_of self.now) }
     {
         let _ = &self.word;
@@ -127,7 +127,7 @@ impl<'n> World<'n> {
         ensures stays_out { OnOk result (AreOut (world_of self.old) → IsNoRecall (action_of action.now) → AreOut (world_of self.new)) }
     {
         let reply = self.act(action);
-        self.kept();
+        self.law_kept();
         reply
     }
 
@@ -146,7 +146,7 @@ impl<'n> World<'n> {
             → AreKept self.old.network (world_of self.old) (map action_of actions.now) (map reply_of replies.items)) }
         ensures stays_out { OnOk result (AreOut (world_of self.old) → AllByRecursion IsNoRecall (map action_of actions.now) → AreOut (world_of self.new)) }
     {
-        self.kept();
+        self.law_kept();
         let mut replies = Vec::new(self.alloc());
         if replies.reserve(actions.len()).is_err() {
             return Err(RunMemory { done: 0 });

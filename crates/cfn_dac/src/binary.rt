@@ -39,7 +39,7 @@ impl<'a> Binary<'a> {
         requires { IsPair store.now.network pair }
         ensures { IfSome result (IsBinary store.now pair) }
     {
-        store.network().limits();
+        store.network().law_limits();
         let side = store.side(pair.function, pair.place)?;
         let second = side.other();
         Some(Binary {
@@ -59,8 +59,8 @@ impl<'a> Binary<'a> {
         requires live { IsTrue (is_live (history store.now) (first_of store.now.network pair) value) }
         ensures { IsLeastTotal store.now.network (history store.now) pair value result }
     {
-        store.network().limits();
-        store.exact();
+        store.network().law_limits();
+        store.law_exact();
         let line = self.side.line(value);
         if self.costs_nothing_still(store, pair, value, &line) {
             return 0;
@@ -82,7 +82,7 @@ impl<'a> Binary<'a> {
         requires line { IsLine store.now.network (history store.now) pair.function pair.place value pair.other line.now }
         ensures { result ≡ true → (other : ℕ) × IsTotalBetween store.now.network (history store.now) pair value other 0 }
     {
-        store.network().limits();
+        store.network().law_limits();
         let Some(other) = self.last.get(value as usize) else {
             return false;
         };
@@ -100,8 +100,8 @@ impl<'a> Binary<'a> {
         requires line { IsLine store.now.network (history store.now) pair.function pair.place value pair.other line.now }
         ensures { IsLeastTotal store.now.network (history store.now) pair value result }
     {
-        store.network().limits();
-        store.exact();
+        store.network().law_limits();
+        store.law_exact();
         let mut least = u64::MAX;
         for other in store.live(self.second) {
             let total = total_along(line, &self.theirs, *other);
@@ -137,8 +137,8 @@ fn least_apart(store: &Store<'_>, pair: Pair, value: u32) -> u64
     requires value { IsPlace store.now.network pair.function pair.place value }
     ensures { IsLeastTotal store.now.network (history store.now) pair value result }
 {
-    store.network().limits();
-    store.exact();
+    store.network().law_limits();
+    store.law_exact();
     let y = store.network().scope(pair.function)[pair.other as usize];
     let mut least = u64::MAX;
     for other in store.live(y) {

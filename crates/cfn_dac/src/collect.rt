@@ -32,7 +32,7 @@ pub(crate) fn collect(
     ensures spent { result ≡ Err Halt.Dead → ⊥ }
     ensures grows { OnOk result (Grows store.old store.new) }
 {
-    store.network().limits();
+    store.network().law_limits();
     let x = store.network().scope(pair.function)[pair.place as usize];
     for value in 0..store.network().size(x) {
         let amount = moves[value as usize];

@@ -32,7 +32,7 @@ pub fn directional(
     ensures directional { Shows store.old store.new result (IsDirectional store.old.network (history store.old) f) }
     ensures same { length moves.new ≡ length moves.old }
 {
-    store.network().limits();
+    store.network().law_limits();
     let Some(pair) = open_pair(store, f) else {
         return Ok(());
     };
@@ -47,7 +47,7 @@ pub fn open_pair(store: &Store<'_>, f: u32) -> Option<Pair>
     requires { f < length store.now.network.functions }
     ensures { MatchOption result (NoOpenPair store.now.network (history store.now) f) (IsLowerPair store.now.network (history store.now) f) }
 {
-    store.network().limits();
+    store.network().law_limits();
     let Opens::Two { place, other } = open_places(store, f) else {
         return None;
     };

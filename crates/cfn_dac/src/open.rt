@@ -26,7 +26,7 @@ pub fn open_places(store: &Store<'_>, f: u32) -> Opens
     requires { f < length store.now.network.functions }
     ensures { HasOpens store.now.network (history store.now) f result }
 {
-    store.network().limits();
+    store.network().law_limits();
     let Some(place) = next_open(store, f, 0) else {
         return Opens::Few;
     };
@@ -45,7 +45,7 @@ fn next_open(store: &Store<'_>, f: u32, from: u32) -> Option<u32>
     requires from { from ≤ arity store.now.network f }
     ensures { MatchOption result (NoneOpenFrom store.now.network (history store.now) f from) (IsNextOpen store.now.network (history store.now) f from) }
 {
-    store.network().limits();
+    store.network().law_limits();
     let scope = store.network().scope(f);
     for place in from..scope.len() as u32 {
         if store.count(scope[place as usize]) >= 2 {

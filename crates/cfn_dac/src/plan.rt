@@ -31,7 +31,7 @@ impl<'a> View<'a> {
         requires { IsPair store.now.network pair }
         ensures { IsView store.now pair result }
     {
-        store.network().limits();
+        store.network().law_limits();
         let first = store.network().scope(pair.function)[pair.place as usize];
         View {
             first,
@@ -54,7 +54,7 @@ pub(crate) fn plan(store: &Store<'_>, pair: Pair, alpha: u64, moves: &mut [u64])
     ensures some { result ≡ true → SomeFrom store.now.network pair moves.new 0 }
     ensures none { result ≡ false → AreFullBelow store.now.network (history store.now) pair alpha }
 {
-    store.network().limits();
+    store.network().law_limits();
     let view = View::of(store, pair);
     let mut some = false;
     for value in 0..store.network().size(view.first) {
@@ -75,8 +75,8 @@ fn amount(store: &Store<'_>, pair: Pair, view: &View<'_>, alpha: u64, value: u32
     requires value { IsPlace store.now.network pair.function pair.place value }
     ensures { IsAmount store.now.network (history store.now) pair alpha value result }
 {
-    store.network().limits();
-    store.exact();
+    store.network().law_limits();
+    store.law_exact();
     if !store.is_live(view.first, value) {
         return 0;
     }

@@ -36,7 +36,7 @@ pub(crate) fn spread(
     ensures lent { OnOk result (AreLent store.new.network (history store.new) pair moves.now 0) }
     ensures within { OnOk result (AreWithin store.new.network (history store.new) pair limits.threshold moves.now 0) }
 {
-    store.network().limits();
+    store.network().law_limits();
     let y = store.network().scope(pair.function)[pair.other as usize];
     for value in 0..store.network().size(y) {
         fill(store, limits, pair, moves, value)?;
@@ -65,8 +65,8 @@ fn fill(
     ensures covers { OnOk result (Covers store.new.network (history store.new) pair moves.now (value + 1)) }
     ensures within { OnOk result (AreWithin store.new.network (history store.new) pair limits.threshold moves.now 0) }
 {
-    store.network().limits();
-    store.exact();
+    store.network().law_limits();
+    store.law_exact();
     let share = share(store, pair, moves, value);
     if share == 0 {
         return Ok(());
@@ -83,7 +83,7 @@ fn share(store: &Store<'_>, pair: Pair, moves: &[u64], value: u32) -> u64
     requires live { AreForLive store.now.network (history store.now) pair moves.now }
     ensures { IsShare store.now.network (history store.now) pair moves.now value result }
 {
-    store.network().limits();
+    store.network().law_limits();
     let y = store.network().scope(pair.function)[pair.other as usize];
     if !store.is_live(y, value) {
         return 0;
@@ -102,8 +102,8 @@ fn share_along(store: &Store<'_>, pair: Pair, moves: &[u64], value: u32, line: &
     requires live { AreForLive store.now.network (history store.now) pair moves.now }
     ensures { IsShare store.now.network (history store.now) pair moves.now value result }
 {
-    store.network().limits();
-    store.exact();
+    store.network().law_limits();
+    store.law_exact();
     let x = store.network().scope(pair.function)[pair.place as usize];
     let mut share = 0;
     for first in 0..store.network().size(x) {
@@ -122,8 +122,8 @@ fn share_apart(store: &Store<'_>, pair: Pair, moves: &[u64], value: u32) -> u64
     requires value { IsPlace store.now.network pair.function pair.other value }
     ensures { IsShare store.now.network (history store.now) pair moves.now value result }
 {
-    store.network().limits();
-    store.exact();
+    store.network().law_limits();
+    store.law_exact();
     let x = store.network().scope(pair.function)[pair.place as usize];
     let mut share = 0;
     for first in 0..store.network().size(x) {

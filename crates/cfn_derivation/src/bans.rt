@@ -111,7 +111,7 @@ fn width(network: &Network, f: u32) -> Option<u32>
     requires { f < length network.now.functions }
     ensures { IfSome result (λ width. width ≡ width_of network.now (function_at network.now f)) }
 {
-    network.limits();
+    network.law_limits();
     let mut width: u32 = 0;
     for x in network.scope(f) {
         width = width.checked_add(network.size(*x))?;
@@ -125,7 +125,7 @@ fn slot_of(network: &Network, f: u32, place: u32, value: u32, width: usize) -> u
     requires width { width ≡ offset (dims_at network.now f) (arity network.now f) }
     ensures { result ≡ offset (dims_at network.now f) place + value }
 {
-    network.limits();
+    network.law_limits();
     let mut slot = value as usize;
     for x in &network.scope(f)[..place as usize] {
         slot += network.size(*x) as usize;

@@ -20,7 +20,7 @@ pub(crate) fn costs_at_least(store: &Store<'_>, f: u32, place: u32, value: u32, 
     ensures yes { result ≡ true → CanProject store.now.network (history store.now) f place value q }
     ensures no { result ≡ false → HasCheapTuple store.now.network (history store.now) f place value q }
 {
-    store.network().limits();
+    store.network().law_limits();
     if store.network().scope(f).len() == 2 {
         if let Some(line) = store.line(f, place, value, 1 - place) {
             let y = store.network().scope(f)[(1 - place) as usize];
@@ -42,7 +42,7 @@ pub(crate) fn all_cost_less(store: &Store<'_>, f: u32, place: u32, q: u64) -> bo
     ensures { result ≡ true → (a : ℕ) → IsPlace store.now.network f place a → IsTrue (is_live (history store.now) (variable_at store.now.network f place) a)
         → HasCheapTuple store.now.network (history store.now) f place a q }
 {
-    store.network().limits();
+    store.network().law_limits();
     let Some(side) = store.side(f, place) else {
         return false;
     };
@@ -78,7 +78,7 @@ fn costs_along(
     ensures yes { result ≡ true → CanProject store.now.network (history store.now) f place value q }
     ensures no { result ≡ false → HasCheapTuple store.now.network (history store.now) f place value q }
 {
-    store.network().limits();
+    store.network().law_limits();
     if costs_less_still(store, f, place, value, line, y, known, q) {
         return false;
     }
@@ -108,7 +108,7 @@ fn costs_less_still(
     requires line { IsLine store.now.network (history store.now) f place value (1 - place) line.now }
     ensures { result ≡ true → HasCheapTuple store.now.network (history store.now) f place value q }
 {
-    store.network().limits();
+    store.network().law_limits();
     let Some(last) = known.get(value as usize) else {
         return false;
     };

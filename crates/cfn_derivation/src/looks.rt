@@ -88,7 +88,7 @@ fn look(store: &mut Store<'_>, work: &mut Work, q: u64, bans: &Bans<'_>, f: u32)
     ensures done { result ≡ None → IsDone store.new.network (history store.new) q (bans_of bans.now) work.new.waiting.items f }
 {
     let network = store.network();
-    network.limits();
+    network.law_limits();
     if !takes_part(store, f) {
         return None;
     }
@@ -122,7 +122,7 @@ fn look_at(
     ensures quiet { result ≡ false → NoneWaitsOn store.new.network work.new.waiting.items f → (a : ℕ) → IsQuietAt store.new.network (history store.new) q (bans_of bans.now) f place a }
 {
     let network = store.network();
-    network.limits();
+    network.law_limits();
     if all_cost_less(store, f, place, q) {
         return false;
     }
@@ -156,7 +156,7 @@ fn look_value(
     ensures alive { result ≡ false → AllAlive store.new.network (history store.new) }
     ensures quiet { NoneWaitsOn store.new.network work.new.waiting.items f → IsQuietAt store.new.network (history store.new) q (bans_of bans.now) f place value }
 {
-    store.network().limits();
+    store.network().law_limits();
     if !deletes(store, q, bans, f, place, value) {
         return false;
     }
@@ -176,7 +176,7 @@ fn deletes(store: &Store<'_>, q: u64, bans: &Bans<'_>, f: u32, place: u32, value
     ensures yes { result ≡ true → IsDeletion store.now.network (history store.now) q (bans_of bans.now) (record { variable = variable_at store.now.network f place; value = value; reason = By f place }) }
     ensures no { result ≡ false → IsQuietAt store.now.network (history store.now) q (bans_of bans.now) f place value }
 {
-    store.network().limits();
+    store.network().law_limits();
     let x = store.network().scope(f)[place as usize];
     if !store.is_live(x, value) || !costs_at_least(store, f, place, value, q) {
         return false;

@@ -76,9 +76,9 @@ pub(crate) fn note_steps(
     ensures functions { TouchedAre store.now.network (after (take start store.now.block) store.now.base) touched.old.items → TouchedAre store.now.network (history store.now) touched.new.items }
     ensures variables { (q : ℕ) → CostlyAre store.now.network (after (take start store.now.block) store.now.base) q costly.old.items → CostlyAre store.now.network (history store.now) q costly.new.items }
 {
-    store.exact();
+    store.law_exact();
     let network = store.network();
-    network.limits();
+    network.law_limits();
     for i in start..store.block_len() {
         let step = store.step(i);
         touch(touched, network, incidence, step);
@@ -117,7 +117,7 @@ fn raise(costly: &mut Listed, network: &Network, step: Step)
     requires range { InRange network.now step }
     ensures { Grows (Rises network.now step) costly.old costly.new }
 {
-    network.limits();
+    network.law_limits();
     if let Step::Project {
         function,
         place,

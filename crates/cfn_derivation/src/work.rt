@@ -72,7 +72,7 @@ impl Work {
         ensures deletions { self.new.deletions ≡ self.old.deletions }
         ensures room { self.new.room ≡ self.old.room }
     {
-        self.waiting.kept();
+        self.waiting.law_kept();
         self.waiting.take()
     }
 
@@ -117,7 +117,7 @@ fn empty(queue: &mut Queue)
 pub(crate) fn count_values(network: &Network) -> usize
     ensures { result ≡ value_count network.now }
 {
-    network.limits();
+    network.law_limits();
     let mut count = 0;
     for x in 0..network.variables() {
         count += network.size(x) as usize;

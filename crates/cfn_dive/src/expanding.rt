@@ -30,7 +30,7 @@ use cfn_model::{Decision, Event};
 use cfn_net::Network;
 use cfn_proof::{Block, NodeId};
 use cfn_store::Mark;
-use cfn_trim::{block_stays_tame, shut};
+use cfn_trim::{law_block_stays_tame, shut};
 use std::alloc::{AllocError, Global};
 
 impl<'n> Parts<'n> {
@@ -62,9 +62,9 @@ impl<'n> Parts<'n> {
         ensures of { IsOf self.old.store.network self.new }
     {
         growth.threshold = low.look(holder);
-        holder.kept();
+        holder.law_kept();
         if leaf.floor >= u128::from(growth.threshold) {
-            block_stays_tame(&self.store);
+            law_block_stays_tame(&self.store);
             self.close(growth, leaf.id, Block::new(alloc));
             return Ok(());
         }
@@ -105,7 +105,7 @@ impl<'n> Parts<'n> {
         ensures weights { self.new.weights ≡ self.old.weights }
         ensures of { IsOf self.old.store.network self.new }
     {
-        network.limits();
+        network.law_limits();
         let asked = Asked {
             threshold: growth.threshold,
             steps: self.steps,
@@ -178,11 +178,11 @@ impl<'n> Parts<'n> {
     {
         self.waiting.reserve(1)?;
         let block = self.store.block(alloc)?;
-        growth.tree.linked();
+        growth.tree.law_linked();
         let (first, second) = growth.tree.split_behind(leaf, block, decision)?;
-        growth.tree.linked();
+        growth.tree.law_linked();
         growth.nodes += 1;
-        block_stays_tame(&self.store);
+        law_block_stays_tame(&self.store);
         let floor = self.store.floor();
         self.waiting.push_reserved(Waiting {
             leaf: second,
@@ -229,7 +229,7 @@ impl<'n> Parts<'n> {
         take_values(&self.store, &mut self.values);
         self.offer.fill(network, &self.values);
         growth.threshold = low.lower(holder, &self.offer);
-        holder.kept();
+        holder.law_kept();
         shut(&mut self.store, growth.threshold);
         self.close_here(alloc, growth, leaf)
     }
@@ -249,7 +249,7 @@ impl<'n> Parts<'n> {
         ensures dive { IsSameDive growth.old growth.new }
         ensures of { IsOf self.old.store.network self.new }
     {
-        block_stays_tame(&self.store);
+        law_block_stays_tame(&self.store);
         let block = self.store.block(alloc)?;
         self.close(growth, leaf, block);
         Ok(())
@@ -264,9 +264,9 @@ impl<'n> Parts<'n> {
         ensures threshold { growth.new.threshold ≡ growth.old.threshold }
         ensures dive { IsSameDive growth.old growth.new }
     {
-        growth.tree.linked();
+        growth.tree.law_linked();
         growth.tree.close(leaf, block);
-        growth.tree.linked();
+        growth.tree.law_linked();
         growth.nodes += 1;
         match self.waiting.pop() {
             None => growth.current = None,

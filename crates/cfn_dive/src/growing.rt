@@ -50,9 +50,9 @@ impl<'n> Parts<'n> {
         ensures of { IsOf self.old.store.network self.new }
     {
         low.look(holder);
-        holder.kept();
-        task.kept();
-        network.limits();
+        holder.law_kept();
+        task.law_kept();
+        network.law_limits();
         let grant = task.grant();
         if task.floor() >= u128::from(holder.seen()) {
             return closed_at_once(alloc);
@@ -63,7 +63,7 @@ impl<'n> Parts<'n> {
             self.expand(alloc, network, &mut growth, leaf, low, holder, halt)?;
             next = growth.next(grant, halt);
         }
-        holder.kept();
+        holder.law_kept();
         Ok(Grown {
             cut: growth.left == 0,
             tree: shared(alloc, growth.tree)?,
@@ -84,7 +84,7 @@ impl<'n> Parts<'n> {
         ensures begins { IfOk result (Begins task.now.task.path threshold backtracks) }
         ensures of { IsOf self.old.store.network self.new }
     {
-        task.kept();
+        task.law_kept();
         self.waiting.clear();
         let tree = Tree::new(alloc)?;
         self.store.replay(task.path())?;

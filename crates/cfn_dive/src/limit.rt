@@ -54,7 +54,7 @@ fn values_at(network: &Network, f: u32) -> usize
     requires { f < length network.now.functions }
     ensures { result ≡ min MOST_STEPS (values_of network.now (scope_at network.now f)) }
 {
-    network.limits();
+    network.law_limits();
     let mut total = 0;
     for x in network.scope(f) {
         total = capped(total, network.size(*x) as usize);

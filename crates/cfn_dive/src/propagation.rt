@@ -47,7 +47,7 @@ pub fn propagate(
     ensures room { OnOk result (more ≤ store.new.spare) }
     ensures same { enforcer.new ≡ enforcer.old }
 {
-    store.network().limits();
+    store.network().law_limits();
     store.reserve(asked.steps + more)?;
     let limits = Limits {
         threshold: asked.threshold,
@@ -76,7 +76,7 @@ pub fn settle(
     ensures spent { IsSpent limits.steps store.new result }
     ensures same { enforcer.new ≡ enforcer.old }
 {
-    store.network().limits();
+    store.network().law_limits();
     match enforcer.settle(store, incidence, limits, since) {
         Settling::Dead => Settling::Dead,
         Settling::Settled => Settling::Settled,

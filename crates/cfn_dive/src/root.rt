@@ -158,7 +158,7 @@ fn round<H: Halt>(
     ensures same { enforcer.new ≡ enforcer.old }
 {
     let network = store.network();
-    network.limits();
+    network.law_limits();
     let room = count_values(network).checked_add(2 * asked.steps + more)?;
     if !all_alive(store) {
         return None;

@@ -29,8 +29,8 @@ pub fn first_value(
     ensures first { IsFirstValue store.now best.now.held x result }
     ensures same { enforcer.new ≡ enforcer.old }
 {
-    store.network().limits();
-    best.priced();
+    store.network().law_limits();
+    best.law_priced();
     if let Some(values) = best.values() {
         let value = values[x as usize];
         if store.is_live(x, value) {
@@ -47,7 +47,7 @@ pub fn take_values(store: &Store<'_>, values: &mut [u32])
     ensures same { length values.new ≡ length values.old }
     ensures each { (x : ℕ) → x < length store.now.network.sizes → IsChoice store.now x (slice_index values.new x) }
 {
-    store.network().limits();
+    store.network().law_limits();
     for x in 0..store.network().variables() {
         values[x as usize] = store.live(x)[0];
     }
@@ -62,7 +62,7 @@ pub fn offer(best: &mut Scored, network: &Network, values: &[u32])
     ensures solution { IsBest network.now best.new.held }
     ensures price { price_of best.new ≡ min (price_of best.old) (cost network.now values.now) }
 {
-    network.limits();
+    network.law_limits();
     if network.cost(values).value() < best.price() {
         best.fill(network, values);
     }

@@ -160,7 +160,7 @@ impl Due {
         ensures keeps { (history : List PathEvent) → HasNoDebts network.now (event.now ∷ history) → Holds network.now history self.old
             → Holds network.now (event.now ∷ history) self.new }
     {
-        network.limits();
+        network.law_limits();
         let mut last = Last::nothing();
         match *event {
             Event::Did(step) => self.note_step(network, incidence, step, &mut last),
@@ -180,9 +180,9 @@ impl Due {
         ensures keeps { Holds store.now.network (after (take start store.now.block) store.now.base) self.old
             → Holds store.now.network (history store.now) self.new }
     {
-        store.exact();
+        store.law_exact();
         let network = store.network();
-        network.limits();
+        network.law_limits();
         let mut last = Last::nothing();
         for i in start..store.block_len() {
             self.note_step(network, incidence, store.step(i), &mut last);
@@ -198,7 +198,7 @@ impl Due {
         ensures noted { IsNoted network.now (Did step) self.old self.new }
         ensures last { IsLast network.now last.new self.new }
     {
-        network.limits();
+        network.law_limits();
         match step {
             Step::Project {
                 function,
@@ -354,7 +354,7 @@ fn put_beside(network: &Network, place: Place, x: u32, queue: &mut Queue)
     requires size { queue.old.size ≡ length network.now.sizes }
     ensures { ArePut queue.old queue.new (λ y. IsOn network.now y place.function) }
 {
-    network.limits();
+    network.law_limits();
     if place.other == x {
         put_scope(network, place.function, queue);
     } else {
@@ -368,7 +368,7 @@ fn put_scope(network: &Network, f: u32, queue: &mut Queue)
     requires size { queue.old.size ≡ length network.now.sizes }
     ensures { ArePut queue.old queue.new (λ x. IsOn network.now x f) }
 {
-    network.limits();
+    network.law_limits();
     for x in network.scope(f) {
         queue.put(*x);
     }

@@ -4,7 +4,7 @@ ghost use Rattle.cfn_due.specs.Laws.{ArcGoesOn, DirectedGoesOn, ExistingGoesOn, 
 
 /// Where something does not go with an event, no event that it depends on ends it: a value or tuple that it depends on stays
 /// live, and costs that it depends on do not rise. So what holds goes on to hold where what goes is put.
-pub fn going()
+pub fn law_going()
     ensures arc { ArcGoesOn }
     ensures directed { DirectedGoesOn }
     ensures existing { ExistingGoesOn }
@@ -13,6 +13,6 @@ pub fn going()
 {}
 
 /// Where nothing waits, a node consistent network is fully consistent.
-pub fn knowing()
+pub fn law_knowing()
     ensures { NothingWaitsIsFull }
 {}

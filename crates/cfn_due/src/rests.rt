@@ -108,9 +108,9 @@ impl Rests {
         ensures { AreSure store.now.network (after (take start store.now.block) store.now.base) self.old
             → AreSure store.now.network (history store.now) self.new }
     {
-        store.exact();
+        store.law_exact();
         let network = store.network();
-        network.limits();
+        network.law_limits();
         let mut last = None;
         for i in start..store.block_len() {
             self.note_step(network, incidence, store.step(i), &mut last);
@@ -131,7 +131,7 @@ impl Rests {
         ensures doubted { AreDoubted self.old self.new (GoesFull network.now (Did step)) }
         ensures last { IfSome last.new (IsDoubted network.now self.new) }
     {
-        network.limits();
+        network.law_limits();
         match step {
             Step::Project {
                 function,

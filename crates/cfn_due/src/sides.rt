@@ -106,7 +106,7 @@ impl Sides {
         ensures known { AreSupported store.now.network (after (take start store.now.block) store.now.base) self.old
             → AreSupported store.now.network (history store.now) self.new }
     {
-        store.exact();
+        store.law_exact();
         for i in start..store.block_len() {
             self.note_step(incidence, store.step(i));
         }

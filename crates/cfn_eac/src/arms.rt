@@ -99,7 +99,7 @@ impl<'n> Arms<'n> {
         ensures arms { AreArms self.new.network (history store.now) x self.new.pairs }
     {
         let network = self.network;
-        network.limits();
+        network.law_limits();
         self.pairs.clear();
         for place in incidence.places(x) {
             if let Some(pair) = arm_at(store, *place, x) {
@@ -120,7 +120,7 @@ fn arm_at(store: &Store<'_>, place: Place, x: u32) -> Option<Pair>
     requires open { 2 ≤ live_count (sets_of store.now) x }
     ensures { MatchOption result (HasNoArm store.now.network (history store.now) place) (IsArmAt store.now.network (history store.now) place) }
 {
-    store.network().limits();
+    store.network().law_limits();
     if place.other == x {
         wide_arm_at(store, place)
     } else if store.count(place.other) < 2 {
@@ -167,7 +167,7 @@ fn unmark(network: &Network, pairs: &[Pair], met: &mut [bool])
     requires marks { AreMarks network.now met.old pairs.now 0 }
     ensures { IsClear network.now met.new }
 {
-    network.limits();
+    network.law_limits();
     for pair in pairs {
         let y = network.scope(pair.function)[pair.other as usize];
         met[y as usize] = false;

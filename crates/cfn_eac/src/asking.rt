@@ -23,8 +23,8 @@ pub(crate) fn asked(pairs: &[Pair], store: &Store<'_>, x: u32, value: u32, most:
     ensures is { result ≤ most → Asks store.now.network (history store.now) x pairs.now value (length pairs.now) result }
     ensures above { most < result → (amount : ℕ) → Asks store.now.network (history store.now) x pairs.now value (length pairs.now) amount → most < amount }
 {
-    store.network().limits();
-    store.exact();
+    store.network().law_limits();
+    store.law_exact();
     let mut sum = store.unary(x, value);
     for pair in pairs {
         if sum > most {

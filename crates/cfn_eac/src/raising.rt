@@ -52,7 +52,7 @@ pub fn existential(
     ensures functions { AreOfFunctions arms.new.network arms.new.pairs }
     ensures same { length moves.new ≡ length moves.old }
 {
-    store.network().limits();
+    store.network().law_limits();
     if is_at_rest(rests, due, store, incidence, x) {
         arms.clear();
         return Ok(());
@@ -88,12 +88,12 @@ fn raise(
     ensures good { Shows store.old store.new result (HasGood store.old.network (history store.old) x pairs.now) }
     ensures same { length moves.new ≡ length moves.old }
 {
-    store.network().limits();
+    store.network().law_limits();
     for pair in pairs {
         let cap = alpha.min(lacking(store, limits));
         full_supports(store, limits, *pair, cap, moves)?;
     }
-    store.exact();
+    store.law_exact();
     level(store, limits, x)
 }
 
@@ -123,7 +123,7 @@ fn good_value(pairs: &[Pair], store: &Store<'_>, x: u32, first: u32) -> Option<u
     requires arms { AreArms store.now.network (history store.now) x pairs.now }
     ensures { IfSome result (IsGood store.now.network (history store.now) x pairs.now) }
 {
-    store.network().limits();
+    store.network().law_limits();
     if first < store.network().size(x) && asks_nothing(pairs, store, x, first) {
         return Some(first);
     }

@@ -42,8 +42,8 @@ pub(crate) fn is_at_rest(
     ensures existential { result ≡ true → IsExistential store.now.network (history store.now) x }
     ensures sure { AreSure store.now.network (history store.now) rests.new }
 {
-    store.network().limits();
-    store.exact();
+    store.network().law_limits();
+    store.law_exact();
     let value = rests.value(x);
     if value >= store.network().size(x) || !store.is_live(x, value) || store.unary(x, value) > 0 {
         return false;
@@ -81,7 +81,7 @@ fn rests_on(
     ensures sure { AreSure store.now.network (history store.now) rests.new }
     ensures values { rests.new.values ≡ rests.old.values }
 {
-    store.network().limits();
+    store.network().law_limits();
     if place.other == x {
         return rests_on_wide(rests, store, place, x, value);
     }
@@ -132,7 +132,7 @@ fn has_full_support(due: &Due, store: &Store<'_>, place: Place, x: u32, value: u
     requires live { IsTrue (is_live (history store.now) x value) }
     ensures { result ≡ true → HasFullSupport store.now.network (history store.now) place.function place.place (1 - place.place) value }
 {
-    store.network().limits();
+    store.network().law_limits();
     if x < place.other && due.is_directed(place.function) {
         return true;
     }
@@ -146,7 +146,7 @@ fn has_full_support_at(store: &Store<'_>, place: Place, other: u32, value: u32) 
     requires live { IsTrue (is_live (history store.now) (variable_at store.now.network place.function place.place) value) }
     ensures { result ≡ true → HasFullSupport store.now.network (history store.now) place.function place.place other value }
 {
-    store.network().limits();
+    store.network().law_limits();
     let pair = Pair {
         function: place.function,
         place: place.place,

@@ -24,7 +24,7 @@ pub(crate) fn levels(store: &mut Store<'_>, limits: Limits) -> Result<(), Halt>
     ensures nodes { Shows store.old store.new result (IsNodeConsistent store.old.network (history store.old) limits.threshold) }
 {
     let network = store.network();
-    network.limits();
+    network.law_limits();
     let mut x = store.next_unknown_peak(0, lacking(store, limits));
     while x < network.variables() {
         level_at(store, limits, x)?;
@@ -97,7 +97,7 @@ fn support_sides(store: &mut Store<'_>, limits: Limits, f: u32, sides: &Sides) -
     ensures gains { Gains store.old store.new limits result }
     ensures supports { Shows store.old store.new result (IsArcConsistent store.old.network (history store.old) f) }
 {
-    store.network().limits();
+    store.network().law_limits();
     if store.network().scope(f).len() != 2 {
         return support_all(store, limits, f);
     }
@@ -142,7 +142,7 @@ fn is_met(store: &Store<'_>, f: u32, place: u32, sides: &Sides) -> bool
     requires known { AreSupported store.now.network (history store.now) sides.now }
     ensures { result ≡ true → HasSupports store.now.network (history store.now) f place }
 {
-    store.network().limits();
+    store.network().law_limits();
     if sides.is_doubted(f, 1 - place) {
         return false;
     }
@@ -158,7 +158,7 @@ fn levels_of(store: &mut Store<'_>, limits: Limits, f: u32) -> Result<(), Halt>
     ensures gains { Gains store.old store.new limits result }
 {
     let network = store.network();
-    network.limits();
+    network.law_limits();
     for x in network.scope(f) {
         level(store, limits, *x)?;
     }

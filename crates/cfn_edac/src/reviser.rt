@@ -122,7 +122,7 @@ impl<'n> Reviser<'n> {
         ensures sure { IsSureIn store.now self.new.rests }
         ensures known { IsKnownIn store.now self.new.sides }
     {
-        store.exact();
+        store.law_exact();
         self.rests.forget();
         match since {
             Some(event) => {
@@ -286,7 +286,7 @@ impl<'n> Reviser<'n> {
         ensures known { OnOk result (IsKnownIn store.new self.new.sides) }
         ensures network { self.new.network ≡ self.old.network }
     {
-        self.network.limits();
+        self.network.law_limits();
         let before = store.block_len();
         let result = existential(
             &mut self.arms,
@@ -333,7 +333,7 @@ impl<'n> Reviser<'n> {
         ensures known { OnOk result (IsKnownIn store.new self.new.sides) }
         ensures network { self.new.network ≡ self.old.network }
     {
-        self.network.limits();
+        self.network.law_limits();
         let before = store.block_len();
         self.blamed = Some(f);
         directional(store, limits, f, &mut self.moves)?;

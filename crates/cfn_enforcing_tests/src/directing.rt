@@ -37,7 +37,7 @@ fn steps_in(store: &mut Store<'_>, network: &Network) -> Result<Option<usize>, A
         steps: 8,
     };
     let mut moves = [0; 4096];
-    network.limits();
+    network.law_limits();
     if network.functions() == 0 || network.ub() != 10 || store.floor() >= 10 {
         return Ok(None);
     }

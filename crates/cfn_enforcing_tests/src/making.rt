@@ -37,7 +37,7 @@ fn is_in_range(network: &Network, step: Step) -> bool
 fn is_place(network: &Network, f: u32, place: u32, value: u32) -> bool
     ensures { result ≡ true → IsPlace network.now f place value }
 {
-    network.limits();
+    network.law_limits();
     f < network.functions()
         && (place as usize) < network.scope(f).len()
         && value < network.size(network.scope(f)[place as usize])

@@ -80,7 +80,7 @@ fn cells_told(store: &mut Store<'_>, network: &Network) -> Result<Option<[Cells;
     requires { store.old ≡ at_root network.now }
 {
     store.reserve(1)?;
-    network.limits();
+    network.law_limits();
     if network.functions() != 1 || network.cells(0) != 4 || network.scope(0).len() != 2 {
         return Ok(None);
     }

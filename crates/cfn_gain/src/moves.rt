@@ -91,7 +91,7 @@ pub fn lift(store: &mut Store<'_>, limits: Limits, x: u32, least: u64) -> Result
     ensures grows { OnOk result (Grows store.old store.new) }
 {
     room(store, limits)?;
-    store.network().limits();
+    store.network().law_limits();
     let lacks = lacking(store, limits);
     store.lift(x, least.min(lacks));
     if least < lacks {

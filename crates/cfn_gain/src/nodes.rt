@@ -105,7 +105,7 @@ fn lift(network: &Network, store: &mut Store<'_>, k: u64, limit: usize) -> Settl
     ensures dead { result ≡ Settling.Dead → Answers store.new k limit Settling.Dead }
     ensures spent { result ≡ Settling.Spent → Answers store.new k limit Settling.Spent }
 {
-    network.limits();
+    network.law_limits();
     for x in 0..network.variables() {
         let least = least(store, x);
         if least > 0 {
@@ -130,7 +130,7 @@ fn cut(network: &Network, store: &mut Store<'_>, k: u64, limit: usize) -> Settli
     ensures steps { (before : Standing) → AddsSteps before store.old k limit → AddsSteps before store.new k limit }
     ensures answer { Answers store.new k limit result }
 {
-    network.limits();
+    network.law_limits();
     let lacks = k - store.floor() as u64;
     for x in 0..network.variables() {
         for a in 0..network.size(x) {

@@ -36,7 +36,7 @@ pub fn gain(
     ensures grows { OnOk result (Grows store.old store.new) }
     ensures gains { TakesPart store.old.network (history store.old) f → (least < 2 ^ 64 - 1 → HasCost store.old.network (history store.old) f place value least) → Gains store.old store.new limits result }
 {
-    store.network().limits();
+    store.network().law_limits();
     let x = store.network().scope(f)[place as usize];
     let lacks = lacking(store, limits);
     let has = store.unary(x, value);
@@ -60,7 +60,7 @@ pub fn support_at(store: &mut Store<'_>, limits: Limits, f: u32, place: u32) -> 
     ensures gains { TakesPart store.old.network (history store.old) f → Gains store.old store.new limits result }
     ensures supports { Shows store.old store.new result (AreSupported store.old.network (history store.old) f place) }
 {
-    store.network().limits();
+    store.network().law_limits();
     let mut from = 0;
     while let Some(doubt) = store.next_lacking(f, place, from) {
         gain_support(store, limits, f, place, doubt)?;
@@ -98,7 +98,7 @@ pub fn support_all(store: &mut Store<'_>, limits: Limits, f: u32) -> Result<(), 
     ensures gains { TakesPart store.old.network (history store.old) f → Gains store.old store.new limits result }
     ensures supports { Shows store.old store.new result (IsArcConsistent store.old.network (history store.old) f) }
 {
-    store.network().limits();
+    store.network().law_limits();
     for place in 0..store.network().scope(f).len() as u32 {
         support_at(store, limits, f, place)?;
     }

@@ -6,7 +6,7 @@ ghost use Rattle.cfn_net.specs.Building.{CanTake, with_function};
 ghost use Rattle.cfn_gen.specs.Generator.{after, drawn};
 
 use crate::draws::Draws;
-use cfn_net::{Builder, listing_law};
+use cfn_net::{Builder, law_listing};
 use std::alloc::AllocError;
 
 /// Adds the function of a scope that has so many tuples, which costs a draw at each of them. Its default is 0.
@@ -24,7 +24,7 @@ pub fn add_drawn(
     ensures state { OnOk result (draws.new ≡ after draws.old tuples) }
 {
     builder.begin(scope, 0)?;
-    listing_law();
+    law_listing();
     for cell in 0..tuples {
         let cost = draws.take();
         builder.list(cell, cost);

@@ -14,4 +14,4 @@ mod function;
 mod group;
 mod trial;
 
-pub use trial::{allowing_law, instance};
+pub use trial::{instance, law_allowing};

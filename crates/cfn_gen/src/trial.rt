@@ -27,6 +27,6 @@ pub fn instance(alloc: Global, seed: u32, size: u32) -> Result<Network, AllocErr
 }
 
 /// Nothing: its contract is the law that no assignment of such a network reaches its upper bound, so each is allowed.
-pub fn allowing_law()
+pub fn law_allowing()
     ensures { EachIsAllowed }
 {}

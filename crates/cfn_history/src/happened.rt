@@ -41,7 +41,7 @@ pub enum Happened {
 
 impl Happened {
     /// Nothing: its contract says that the number of a worker and a tree always have a spelling.
-    pub(crate) fn spelled(&self)
+    pub(crate) fn law_spelled(&self)
         requires { AreSpelled (numbers_of self.now) }
         ensures { IsSpelledEntry (entry_of self.now) }
     {
@@ -51,7 +51,7 @@ impl Happened {
             }
             Happened::Gave { worker, tree, .. } => {
                 let _worker = *worker;
-                tree.linked();
+                tree.law_linked();
             }
             Happened::CalledBack | Happened::Swept { .. } => {}
         }

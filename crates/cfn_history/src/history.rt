@@ -62,7 +62,7 @@ impl History {
     }
 
     /// Nothing: its contract tells a caller that each number of a history has a spelling.
-    pub fn spelled(&self)
+    pub fn law_spelled(&self)
         ensures budget { self.now.budget ≤ GREATEST }
         ensures entries { AllByRecursion IsSpelledEntry (entries_of self.now) }
     {
@@ -95,7 +95,7 @@ impl History {
         ensures budget { self.new.budget ≡ self.old.budget }
         ensures room { self.old.room ≤ self.new.room + 1 }
     {
-        happened.spelled();
+        happened.law_spelled();
         self.happened.push(happened)?;
         Ok(())
     }
@@ -108,7 +108,7 @@ impl History {
         ensures budget { self.new.budget ≡ self.old.budget }
         ensures room { self.new.room + 1 ≡ self.old.room }
     {
-        happened.spelled();
+        happened.law_spelled();
         self.happened.push_reserved(happened);
     }
 }

@@ -58,8 +58,8 @@ pub fn certificate(
     requires best { IsBest network.now found.best.held }
     ensures { IfOk result (λ c. certificate_of c ≡ certified network.now found.best.held (tree_of found.tree)) }
 {
-    network.limits();
-    found.tree.linked();
+    network.law_limits();
+    found.tree.law_linked();
     law_height();
     let ranks = ranks(alloc, &found.tree)?;
     let lower = capped(found.best.price(), network.constants(), ranks[0].height);

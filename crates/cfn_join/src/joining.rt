@@ -25,7 +25,7 @@ pub fn join(alloc: Global, first: &Tree, second: &Tree) -> Result<Tree, AllocErr
         walk.step(alloc, &pair, i)?;
         i += 1;
     }
-    walk.tree.linked();
+    walk.tree.law_linked();
     let Walk { mut tree, .. } = walk;
     tree.share(alloc)?;
     Ok(tree)

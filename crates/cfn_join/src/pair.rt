@@ -84,12 +84,12 @@ impl<'t> Pair<'t> {
     }
 
     /// Nodes of both trees are linked.
-    pub(crate) fn linked(&self)
+    pub(crate) fn law_linked(&self)
         ensures first { IsTree self.now.first.tree.now }
         ensures second { IsTree self.now.second.tree.now }
     {
-        self.first.tree.linked();
-        self.second.tree.linked();
+        self.first.tree.law_linked();
+        self.second.tree.law_linked();
     }
 
     /// The block of a source's node, and how it ends.
@@ -109,7 +109,7 @@ impl<'t> Pair<'t> {
         requires { id.number < length self.now.first.tree.now }
         ensures { IsPart self.now.first.tree.now self.now.second.tree.now (First id) result.0.now result.1 }
     {
-        self.first.tree.linked();
+        self.first.tree.law_linked();
         let node = self.first.tree.node(id);
         (&node.block, first_ending(node.end))
     }
@@ -119,7 +119,7 @@ impl<'t> Pair<'t> {
         requires { id.number < length self.now.second.tree.now }
         ensures { IsPart self.now.first.tree.now self.now.second.tree.now (Second id) result.0.now result.1 }
     {
-        self.second.tree.linked();
+        self.second.tree.law_linked();
         let node = self.second.tree.node(id);
         (&node.block, second_ending(node.end))
     }
@@ -130,8 +130,8 @@ impl<'t> Pair<'t> {
         requires second { second.number < length self.now.second.tree.now }
         ensures { IsPart self.now.first.tree.now self.now.second.tree.now (Both first second) result.0.now result.1 }
     {
-        self.first.tree.linked();
-        self.second.tree.linked();
+        self.first.tree.law_linked();
+        self.second.tree.law_linked();
         let node = self.first.tree.node(first);
         match one_split(node, self.second.tree.node(second)) {
             Some(ending) => (&node.block, ending),

@@ -93,7 +93,7 @@ fn lift(step: Step) -> u128
 pub(crate) fn ranks(alloc: Global, tree: &Tree) -> Result<Vec<Rank>, AllocError>
     ensures { IfOk result (λ ranks. AreRanks tree.now ranks.items) }
 {
-    tree.linked();
+    tree.law_linked();
     let mut ranks = vec![in alloc; Rank::NONE; tree.len()]?;
     for i in (0..tree.len()).rev() {
         let node = tree.node(NodeId { number: i as u32 });

@@ -19,7 +19,7 @@ impl Walk {
     pub(crate) fn make(alloc: Global, pair: &Pair<'_>) -> Result<Walk, AllocError>
         ensures { IfOk result (λ made. IsWalking pair.now.first.tree.now pair.now.second.tree.now made.tree made.sources.items 0) }
     {
-        pair.linked();
+        pair.law_linked();
         let tree = Tree::new(alloc)?;
         let mut sources = Vec::new(alloc);
         sources.push(Source::Both {
@@ -57,7 +57,7 @@ impl Walk {
                 self.sources.push(second)?;
             }
         }
-        self.tree.linked();
+        self.tree.law_linked();
         Ok(())
     }
 }

@@ -18,7 +18,7 @@ use cfn_model::{Decision, Event};
 use cfn_net::{Network, Scored};
 use cfn_proof::Block;
 use cfn_store::Mark;
-use cfn_trim::{block_stays_tame, shut};
+use cfn_trim::{law_block_stays_tame, shut};
 use std::alloc::{AllocError, Global};
 
 /// What becomes of a leaf.
@@ -101,7 +101,7 @@ fn enforce_at<H: Halt>(
     ensures room { OnOk result (length network.now.sizes + 2 * length network.now.functions + 1 ≤ parts.new.store.spare) }
     ensures of { IsOf network.now parts.new }
 {
-    network.limits();
+    network.law_limits();
     let asked = Asked {
         threshold,
         steps: parts.steps,
@@ -163,7 +163,7 @@ fn divide(
     requires settled { settled ≡ true → IsSettledAt network.now (history parts.now.store) }
     ensures { IfOk result (IsExpanded network.now parts.now.store.base threshold parts.now) }
 {
-    block_stays_tame(&parts.store);
+    law_block_stays_tame(&parts.store);
     let block = parts.store.block(alloc)?;
     let low = parts.store.floor();
     Ok(Expanded::Divided {
@@ -195,7 +195,7 @@ fn conclude(
     let cost = network.cost(&parts.values).value();
     let reached = cost.min(threshold);
     shut(&mut parts.store, reached);
-    block_stays_tame(&parts.store);
+    law_block_stays_tame(&parts.store);
     let block = parts.store.block(alloc)?;
     if cost < threshold {
         Ok(Expanded::Found { block, cost })

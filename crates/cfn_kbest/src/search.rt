@@ -78,7 +78,7 @@ fn root_floor(alloc: Global, network: &Network, tables: &Tables) -> Result<u128,
     ensures small { OnOk result (HasSmallCosts network.now []) }
 {
     let root = Store::over(alloc, network, tables)?;
-    root.exact();
+    root.law_exact();
     Ok(root.floor())
 }
 

@@ -15,7 +15,7 @@ use cfn_dive::{Parts, since};
 use cfn_leaves::path_to;
 use cfn_model::{Decision, Event};
 use cfn_net::{Network, Scored};
-use cfn_proof::laws::same_before;
+use cfn_proof::laws::law_same_before;
 use cfn_proof::{End, NodeId, Path, Side, Tree};
 use cfn_ranking::Ranking;
 use std::alloc::{AllocError, Global};
@@ -97,7 +97,7 @@ fn go_to(
     ensures at { IfOk result (IsAt ranking.now parts.new.store) }
     ensures of { IsOf network.now parts.new }
 {
-    same_before();
+    law_same_before();
     let path = path_to(alloc, ranking.tree(), leaf)?;
     parts.store.replay(&path)?;
     Ok(Current {
@@ -134,7 +134,7 @@ fn newest(ranking: &Ranking, path: &Path, leaf: NodeId) -> Option<Event>
     ensures { IfSome result (λ event. (above : List Event) × (path.now ≡ event ∷ above)) }
 {
     let tree = ranking.tree();
-    tree.linked();
+    tree.law_linked();
     let node = tree.node(leaf);
     let parent = node.parent?;
     let End::Split {

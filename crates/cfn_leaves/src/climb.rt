@@ -9,7 +9,7 @@ ghost use Rattle.cfn_proof.specs.Nodes.{node_at};
 ghost use Rattle.cfn_leaves.specs.Ways.{IsPathOf};
 
 use crate::way::side;
-use cfn_proof::laws::same_before;
+use cfn_proof::laws::law_same_before;
 use cfn_proof::{Ascent, NodeId, Path, Tree};
 
 /// Whether a path is that of a node. It takes no memory.
@@ -17,8 +17,8 @@ pub(crate) fn is_at(tree: &Tree, node: NodeId, path: &Path) -> bool
     requires { node.number < length tree.now }
     ensures { IsTrue result ↔ IsPathOf tree.now node.number path.now }
 {
-    tree.linked();
-    same_before();
+    tree.law_linked();
+    law_same_before();
     let mut at = node;
     let mut left = path.way_up();
     while let Some(parent) = tree.node(at).parent {
@@ -38,8 +38,8 @@ fn above<'p>(tree: &Tree, child: NodeId, left: Ascent<'p>) -> Option<Ascent<'p>>
         (IsPathOf tree.now child.number left.entry → ⊥)
         (λ rest. IsPathOf tree.now child.number left.entry ↔ IsPathOf tree.now up.number rest) }
 {
-    tree.linked();
-    same_before();
+    tree.law_linked();
+    law_same_before();
     let side = side(tree, child)?;
     left.above(side, &tree.node(child).block)
 }

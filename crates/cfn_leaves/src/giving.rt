@@ -12,7 +12,7 @@ use crate::placed::Placed;
 use crate::placing::{place, reserve};
 use crate::taking::clear;
 use crate::walk::open_spots;
-use cfn_proof::laws::same_before;
+use cfn_proof::laws::law_same_before;
 use cfn_proof::{NodeId, Tree};
 use cfn_task::{Piece, Task};
 
@@ -36,7 +36,7 @@ impl Leaves {
         ensures network { self.new.network ≡ self.old.network }
         ensures gives { Gives self.old piece result self.new }
     {
-        piece.kept();
+        piece.law_kept();
         if !self.is_out_as(piece.task()) {
             return Handed::Gone { piece };
         }
@@ -58,7 +58,7 @@ impl Leaves {
     fn is_out_as(&self, task: &Task) -> bool
         ensures { IsTrue result ↔ IsTaskOut self.now task.now.task }
     {
-        same_before();
+        law_same_before();
         let worker = u64::from(task.worker());
         match self.out_entry(task.leaf(), worker, task.grant()) {
             Some(entry) => is_at(&self.tree, entry.node, task.path()),
@@ -74,8 +74,8 @@ impl Leaves {
         ensures network { self.new.network ≡ self.old.network }
         ensures puts { Puts self.old leaf worker grant tree result self.new }
     {
-        same_before();
-        tree.linked();
+        law_same_before();
+        tree.law_linked();
         let Some(entry) = self.out_entry(leaf, worker, grant) else {
             return Placed::Gone { tree };
         };
@@ -116,6 +116,6 @@ fn graft(tree: &mut Tree, leaf: NodeId, piece: Tree) -> Result<(), Tree>
     ensures back { IfErr result (λ given. given ≡ piece) }
 {
     let grafted = tree.graft(leaf, piece);
-    tree.linked();
+    tree.law_linked();
     grafted
 }

@@ -10,7 +10,7 @@ use crate::leaves::Leaves;
 use crate::taking::{held, mark};
 use cfn_open::OpenLeaf;
 use cfn_proof::NodeId;
-use cfn_proof::laws::same_before;
+use cfn_proof::laws::law_same_before;
 
 /// A leaf that was handed out: its number, and how many nodes may be made below it, at least 1.
 #[derive(Clone, Copy)]
@@ -59,7 +59,7 @@ impl Leaves {
     pub(crate) fn due(&self) -> Result<Due, Lack>
         ensures { IsDue self.now result }
     {
-        same_before();
+        law_same_before();
         if self.has_none_active() {
             return Err(Lack::Empty);
         }
@@ -91,7 +91,7 @@ impl Leaves {
         ensures grant { result ≡ min want due.left }
         ensures lends { Lends self.old due worker want self.new }
     {
-        same_before();
+        law_same_before();
         let grant = want.min(due.left);
         let Some(first) = self.list.take_least() else {
             return grant;
@@ -113,7 +113,7 @@ impl Leaves {
     fn has_none_active(&self) -> bool
         ensures { IsTrue result ↔ (active_leaves (pool_tree self.now) ≡ 0) }
     {
-        same_before();
+        law_same_before();
         self.list.len() == 0 && self.granted == 0
     }
 }

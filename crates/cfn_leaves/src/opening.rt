@@ -15,7 +15,7 @@ use cfn_machine::Part;
 use cfn_net::{Network, NetworkSnapshot};
 use cfn_open::OpenList;
 use cfn_proof::Tree;
-use cfn_proof::laws::same_before;
+use cfn_proof::laws::law_same_before;
 use std::alloc::{AllocError, Global};
 
 impl Leaves {
@@ -47,8 +47,8 @@ impl Leaves {
         requires { count (tree_of tree) < 2 ^ 64 }
         ensures { IfOk result (IsOpening network.now tree budget) }
     {
-        same_before();
-        tree.linked();
+        law_same_before();
+        tree.law_linked();
         let walk = open_spots(alloc, &tree, network.constants())?;
         let more = walk.spots.len();
         let mut table = Vec::new(alloc);

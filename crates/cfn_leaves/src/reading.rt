@@ -10,7 +10,7 @@ ghost use Rattle.cfn_leaves.specs.Value.{pool_tree};
 
 use crate::entry::Entry;
 use crate::leaves::Leaves;
-use cfn_proof::laws::same_before;
+use cfn_proof::laws::law_same_before;
 use cfn_proof::{Row, Tree};
 
 impl Leaves {
@@ -30,7 +30,7 @@ impl Leaves {
     }
 
     /// Nothing: its contract tells a caller that the numbers of leaves are below 2^32.
-    pub fn numbered(&self)
+    pub fn law_numbered(&self)
         ensures { length self.now.table ≤ 2 ^ 32 }
     {
         let _ = &self.table;
@@ -63,7 +63,7 @@ impl Leaves {
     pub fn bound(&self, threshold: u64) -> u64
         ensures { result ≡ bound self.now.network [] (pool.tree_of (pool_tree self.now)) threshold }
     {
-        same_before();
+        law_same_before();
         let mut least = threshold;
         for held in &self.table {
             least = lesser(least, *held);

@@ -14,7 +14,7 @@ use crate::entry::{Entry, Mark};
 use crate::leaves::Leaves;
 use crate::taking::{held, mark};
 use cfn_open::{OpenLeaf, OpenList};
-use cfn_proof::laws::same_before;
+use cfn_proof::laws::law_same_before;
 use cfn_task::Task;
 
 impl Leaves {
@@ -37,7 +37,7 @@ impl Leaves {
         ensures none { IsFalse result → IsOutTo self.old leaf worker grant → ⊥ }
         ensures same { IsFalse result → self.new ≡ self.old }
     {
-        same_before();
+        law_same_before();
         let Some(entry) = self.out_entry(leaf, worker, grant) else {
             return false;
         };
@@ -57,7 +57,7 @@ impl Leaves {
     pub(crate) fn out_entry(&self, leaf: u64, worker: u64, grant: u64) -> Option<Entry>
         ensures { MatchOption result (IsOutTo self.now leaf worker grant → ⊥) (IsOutEntry self.now leaf worker grant) }
     {
-        same_before();
+        law_same_before();
         let entry = held(&self.table, leaf as usize)?;
         if is_out_to(entry.mark, worker, grant) {
             return Some(entry);
@@ -70,7 +70,7 @@ impl Leaves {
         ensures network { self.new.network ≡ self.old.network }
         ensures recalls { (view : View) → PoolRecalls (pool_of self.old view) (pool_of self.new view) }
     {
-        same_before();
+        law_same_before();
         free_all(&mut self.table, &mut self.list);
         self.granted = 0;
     }
@@ -115,7 +115,7 @@ fn free_all(table: &mut Vec<Option<Entry>>, list: &mut OpenList)
     requires room { outs table.old.items ≤ list.old.spare }
     ensures { AllFreed table.old.items list.old table.new.items list.new }
 {
-    same_before();
+    law_same_before();
     for number in 0..table.len() {
         if let Some(entry) = held(table, number) {
             if !is_free(entry.mark) {

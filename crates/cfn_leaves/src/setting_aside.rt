@@ -13,7 +13,7 @@ use crate::leaves::Leaves;
 use crate::taking::{held, mark};
 use cfn_machine::Part;
 use cfn_open::OpenList;
-use cfn_proof::laws::same_before;
+use cfn_proof::laws::law_same_before;
 use std::alloc::{AllocError, Global};
 
 impl Leaves {
@@ -24,7 +24,7 @@ impl Leaves {
         requires free { outs self.old.table ≡ 0 }
         ensures ok { OnOk result (SetsAside (has_leaf part) self.old self.new) }
     {
-        same_before();
+        law_same_before();
         let alloc = *self.table.allocator();
         let Some(part) = part else {
             return Ok(());
@@ -48,7 +48,7 @@ fn set_aside(
     ensures table { OnErr result (table.new.items ≡ table.old.items) }
     ensures list { OnErr result (list.new ≡ list.old) }
 {
-    same_before();
+    law_same_before();
     let mut own = OpenList::make(alloc);
     own.reserve(list.len())?;
     while let Some(leaf) = list.take_least() {

@@ -9,7 +9,7 @@ ghost use Rattle.cfn_leaves.specs.Value.{pool_of};
 use crate::entry::Entry;
 use crate::leaves::Leaves;
 use crate::taking::held;
-use cfn_proof::laws::same_before;
+use cfn_proof::laws::law_same_before;
 use cfn_proof::{NodeId, Tree};
 
 impl Leaves {
@@ -19,7 +19,7 @@ impl Leaves {
         ensures network { self.new.network ≡ self.old.network }
         ensures sweeps { (view : View) → PoolSweeps self.old.network (pool_of self.old view) word (pool_of self.new (record view { seen = word })) }
     {
-        same_before();
+        law_same_before();
         let k = u128::from(word);
         for place in 0..self.list.len() {
             let leaf = self.list.at(place);
@@ -45,6 +45,6 @@ fn close(tree: &mut Tree, table: &mut Vec<Option<Entry>>, number: usize, node: N
     ensures table { table.new.items ≡ slice_set table.old.items number None }
 {
     tree.shut(node);
-    tree.linked();
+    tree.law_linked();
     table[number] = None;
 }

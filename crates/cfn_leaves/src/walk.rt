@@ -37,7 +37,7 @@ pub(crate) fn open_spots(alloc: Global, tree: &Tree, floor: u128) -> Result<Walk
     ensures spots { IfOk result (λ walk. walk.spots.items ≡ spots_of tree.now floor) }
     ensures made { IfOk result (λ walk. walk.made ≡ count (tree_of tree.now)) }
 {
-    tree.linked();
+    tree.law_linked();
     let mut walk = begin(alloc, floor)?;
     while let Some(spot) = walk.ahead.pop() {
         visit(tree, spot, &mut walk)?;
@@ -72,7 +72,7 @@ fn visit(tree: &Tree, at: Spot, walk: &mut Walk) -> Result<(), AllocError>
         → IsOnWay tree.now whole last walk.new.spots.items walk.new.made (reverse walk.new.ahead.items)) }
     ensures one { OnOk result (length walk.new.spots.items + walk.new.made ≡ length walk.old.spots.items + walk.old.made + 1) }
 {
-    tree.linked();
+    tree.law_linked();
     let node = tree.node(at.node);
     let floor = floor_behind(at.floor, &node.block)?;
     match node.end {

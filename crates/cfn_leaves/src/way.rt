@@ -26,7 +26,7 @@ fn way_to(alloc: Global, tree: &Tree, node: NodeId) -> Result<Vec<NodeId>, Alloc
     requires { node.number < length tree.now }
     ensures { IfOk result (λ way. Goes tree.now node.number [] (reverse way.items)) }
 {
-    tree.linked();
+    tree.law_linked();
     let mut way = Vec::new(alloc);
     let mut at = node;
     way.push(at)?;
@@ -59,7 +59,7 @@ pub(crate) fn side(tree: &Tree, id: NodeId) -> Option<Side>
     requires { id.number < length tree.now }
     ensures { IsSide tree.now id.number result }
 {
-    tree.linked();
+    tree.law_linked();
     let parent = tree.node(id).parent?;
     match tree.node(parent).end {
         End::Split {

@@ -8,11 +8,11 @@ use crate::list::BestCertificate;
 impl BestCertificate {
     /// Nothing: its contract tells a caller that every number of the certificate has a spelling, so that its text is the
     /// one spelling of the list.
-    pub fn spelled(&self)
+    pub fn law_spelled(&self)
         ensures { Spells (list_certificate_of self.now) (spelling (list_certificate_of self.now)) }
     {
         let _variables = self.variables;
         let _functions = self.functions;
-        self.tree.linked();
+        self.tree.law_linked();
     }
 }

@@ -65,7 +65,7 @@ impl<M: Incumbent> Holder<M> {
     }
 
     /// Nothing: its contract tells a caller what a part keeps.
-    pub fn kept(&self)
+    pub fn law_kept(&self)
         ensures { IsHolding M.network self.now }
     {
         let _ = &self.seen;

@@ -56,7 +56,7 @@ impl Unnamed {
     pub fn make(alloc: Global, network: &Network) -> Result<Unnamed, AllocError>
         ensures { IfOk result (λ made. made.network ≡ network.now) }
     {
-        network.limits();
+        network.law_limits();
         let best = Scored::empty(alloc, network)?;
         let top = network.ub();
         let (table, seat) = Table::of_words(alloc, &[top], network)?;
@@ -224,7 +224,7 @@ fn price(offer: &Scored) -> u64
     ensures price { result ≡ threshold_of offer.now.network.upper offer.now.held }
     ensures reached { IsReached offer.now.network result }
 {
-    offer.priced();
+    offer.law_priced();
     offer.price()
 }
 

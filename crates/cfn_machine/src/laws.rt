@@ -5,7 +5,7 @@ ghost use Rattle.cfn_machine.specs.Laws.{Opens, OpensWith, OpensPart, KeepsAside
 /// The pool at the opening, also one with a kept tree, is sound, its leaves have numbers of their own, and what it keeps
 /// fits. Each legal step keeps that, and so does every list of legal steps, in whatever order they come. The rows of
 /// bounds that are there stay.
-pub fn every_step()
+pub fn law_every_step()
     ensures opens { Opens }
     ensures opens_with { OpensWith }
     ensures opens_part { OpensPart }
@@ -18,7 +18,7 @@ pub fn every_step()
 
 /// The leaves that a part of a search leaves to others are set aside at the opening, and stay so until all leaves are called back.
 /// So many they are; and after a sweep behind that each is still there, open or closed.
-pub fn parts()
+pub fn law_parts()
     ensures sets { SetsAside }
     ensures counts { CountsOthers }
     ensures aside { KeepsAside }
@@ -27,21 +27,21 @@ pub fn parts()
 
 /// Of all leaves of a tree, closed ones too, exactly one has a path that agrees with an assignment. In a sound pool that
 /// leaf is open, or the assignment costs at least what the pool has seen.
-pub fn covered()
+pub fn law_covered()
     ensures agreed { Agreed }
     ensures covered { Covered }
 {}
 
 /// The floor at an open leaf is at least that of the whole network. After a sweep with no leaf out it is below the
 /// threshold that the pool has seen.
-pub fn floors()
+pub fn law_floors()
     ensures rises { Rises }
     ensures swept { SweepsAll }
 {}
 
 /// The path of a task that is taken runs at some threshold, with small costs all along it, and its grant is 1 to what is
 /// wanted. A worker that wants nodes takes a leaf, or there is none for exactly one reason.
-pub fn tasks()
+pub fn law_tasks()
     ensures tasks { HandsOutTasks }
     ensures some { TakesOrNone }
     ensures either { NeverBoth }
@@ -50,14 +50,14 @@ pub fn tasks()
 
 /// The leaf of a task that is taken is out. A leaf that is out stays out until its piece or its task is given or all leaves are called back, and none is out but
 /// those whose task was taken.
-pub fn leaves_out()
+pub fn law_leaves_out()
     ensures taken { TakesOut }
     ensures stays { StaysOut }
     ensures was { WasOut }
 {}
 
 /// A piece can be given, and a task given back, exactly where the leaf is out.
-pub fn pieces()
+pub fn law_pieces()
     ensures given { GivesOrNot }
     ensures out { GivesOut }
     ensures returned { ReturnsOrNot }
@@ -65,12 +65,12 @@ pub fn pieces()
 {}
 
 /// Where leaves have numbers of their own, a step leaves one pool alone, and a taking hands out one task.
-pub fn one_pool()
+pub fn law_one_pool()
     ensures task { OneTask }
     ensures pool { OnePool }
 {}
 
 /// Where a view is joined in, the price of what is kept, and what was seen, become the lesser ones.
-pub fn views()
+pub fn law_views()
     ensures { Joins }
 {}

@@ -4,7 +4,7 @@ ghost use Rattle.cfn_made.specs.Laws.{MakesFromOne, MakesSame, MakesSplit, Makes
 
 /// A tree of one open leaf will be what is due there. A leaf may be split, closed, or left open behind a block where that
 /// is due, and the tree will be the same. Where each open leaf is due as it is, the tree is made.
-pub fn making()
+pub fn law_making()
     ensures one { MakesFromOne }
     ensures same { MakesSame }
     ensures split { MakesSplit }

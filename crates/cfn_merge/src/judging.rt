@@ -38,7 +38,7 @@ fn found(alloc: Global, network: &Network, text: &[u8]) -> Result<Findings, Allo
     requires { (c : Certificate) × Spells c text.now × Good network.now c }
     ensures { IfOk result (HasFound network.now text.now) }
 {
-    network.limits();
+    network.law_limits();
     match read(alloc, text)? {
         Ok(read) => Ok(Findings {
             best: best_of(alloc, network, &read.best)?,
@@ -55,7 +55,7 @@ fn best_of(alloc: Global, network: &Network, best: &Option<Best>) -> Result<Scor
     ensures own { IfOk result (λ scored. scored.network ≡ network.now) }
     ensures held { IfOk result (λ scored. scored.held ≡ solution_of best.now) }
 {
-    network.limits();
+    network.law_limits();
     let mut scored = Scored::empty(alloc, network)?;
     if let Some(best) = best {
         let values = in_32_bits(alloc, &best.values)?;

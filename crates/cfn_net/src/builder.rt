@@ -138,6 +138,6 @@ impl Builder {
 
 /// Nothing: its contract is the law by which a caller that lists one tuple at a time has a function of all
 /// listings.
-pub fn listing_law()
+pub fn law_listing()
     ensures { ListingLaw }
 {}

@@ -29,10 +29,10 @@ impl Model for Draft {
 
 impl Draft {
     /// Nothing: its contract tells a caller that what is built so far keeps the limits of every network.
-    pub fn limits(&self)
+    pub fn law_limits(&self)
         ensures { IsNetwork self.now }
     {
-        self.network.limits();
+        self.network.law_limits();
         let _ = &self.last;
     }
 
@@ -118,7 +118,7 @@ impl Draft {
         ensures err { OnErr result (self.new ≡ self.old) }
     {
         let mut open = Open::behind(&mut self.network, &mut self.last, scope, 0)?;
-        self.network.limits();
+        self.network.law_limits();
         open.copy(&self.network, earlier);
         let cells = open.cells();
         self.last = Some(open);

@@ -28,7 +28,7 @@ mod sparse;
 mod table;
 mod tables;
 
-pub use builder::{Builder, listing_law};
+pub use builder::{Builder, law_listing};
 pub use cost::Cost;
 pub use draft::Draft;
 pub use fit::Fit;

@@ -47,7 +47,7 @@ impl Model for Network {
 
 impl Network {
     /// Nothing: its contract tells a caller that the network keeps the limits of every network.
-    pub fn limits(&self)
+    pub fn law_limits(&self)
         ensures { IsNetwork self.now }
     {
         let _ = &self.name;
@@ -117,7 +117,7 @@ impl Network {
         requires { f < length self.now.functions }
         ensures { result ≡ cells (dims_at self.now f) }
     {
-        self.limits();
+        self.law_limits();
         self.function(f).cells()
     }
 
@@ -139,7 +139,7 @@ impl Network {
             ≡ (function_at self.now f).entries) }
         ensures form { IsSome result ↔ IsSparse (function_at self.now f) }
     {
-        self.limits();
+        self.law_limits();
         self.function(f).listed()
     }
 
@@ -361,7 +361,7 @@ impl Network {
         requires { f < length self.now.functions }
         ensures { result ≡ constant (function_at self.now f) }
     {
-        self.limits();
+        self.law_limits();
         if self.scope(f).is_empty() {
             self.entry(f, 0)
         } else {

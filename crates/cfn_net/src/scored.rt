@@ -43,7 +43,7 @@ impl Scored {
     }
 
     /// Nothing: its contract tells a caller that what is held fits the network and has its cost there.
-    pub fn priced(&self)
+    pub fn law_priced(&self)
         ensures { IsPriced self.now.network self.now.held }
     {
         let _ = &self.filled;

@@ -36,7 +36,7 @@ impl Tables {
     pub fn expand(alloc: Global, network: &Network) -> Result<Tables, AllocError>
         ensures { IfOk result (λ tables. tables ≡ network.now) }
     {
-        network.limits();
+        network.law_limits();
         let kepts = network.functions.as_slice();
         let (known, spread) = spread_of(alloc, network.tables.as_slice())?;
         let mut places = Vec::with_capacity(alloc, kepts.len())?;

@@ -62,8 +62,8 @@ pub(crate) fn halved(
     ensures own { IfOk result (λ half. IfSome half (λ piece. piece.network ≡ network.now)) }
     ensures at { IfOk result (λ half. IfSome half (λ piece. network.now.upper ≤ piece.threshold)) }
 {
-    network.limits();
-    task.kept();
+    network.law_limits();
+    task.law_kept();
     if network.size(0) < 2 || !is_live(task.path(), 0, 0) || !is_live(task.path(), 0, 1) {
         return Ok(None);
     }

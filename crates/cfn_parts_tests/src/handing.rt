@@ -16,7 +16,7 @@ fn opened(alloc: Global, network: &Network, budget: u64) -> Result<Leaves, Alloc
     ensures own { IfOk result (λ leaves. leaves.network ≡ network.now) }
     ensures sound { IfOk result IsSoundPool }
 {
-    network.limits();
+    network.law_limits();
     let tree = Tree::new(alloc)?;
     Leaves::start(alloc, network, tree, None, network.ub(), budget)
 }

@@ -138,7 +138,7 @@ fn shares_tables(rt: HostRuntime) -> Result<(), Fail> {
 fn greatest(alloc: Global, network: &Network, tables: &Tables) -> Result<u64, AllocError>
     requires { tables.now ≡ network.now }
 {
-    network.limits();
+    network.law_limits();
     if network.functions() == 0
         || network.scope(0).is_empty()
         || network.size(network.scope(0)[0]) < 2

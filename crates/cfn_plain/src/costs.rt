@@ -34,7 +34,7 @@ pub fn least(alloc: Global, network: &Network) -> Result<Option<u64>, AllocError
         ((values : List ℕ) → Fits network.now.sizes values → cost network.now values ≡ network.now.upper)) }
 {
     let mut values = vec![in alloc; 0; network.variables() as usize]?;
-    network.limits();
+    network.law_limits();
     let c = least_from(network, values.as_mut_slice(), 0, network.ub());
     Ok(if c < network.ub() { Some(c) } else { None })
 }

@@ -46,7 +46,7 @@ pub(crate) fn entry(network: &Network, f: u32, tuple: &[u32]) -> u64
     ensures value { result ≡ entry_at network.now f tuple.now }
     ensures small { result ≤ GREATEST }
 {
-    network.limits();
+    network.law_limits();
     if f < network.functions() {
         network.entry(f, network.cell(f, tuple))
     } else {

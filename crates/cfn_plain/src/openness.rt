@@ -38,7 +38,7 @@ pub fn open_count(network: &Network, history: &[Event], f: u32) -> usize
     requires { f < length network.now.functions }
     ensures { result ≡ open_count network.now history.now f }
 {
-    network.limits();
+    network.law_limits();
     let mut count = 0;
     for x in network.scope(f) {
         if is_open(network, history, *x) {
@@ -83,7 +83,7 @@ fn is_open_at(network: &Network, history: &[Event], f: u32, i: usize) -> bool
     requires { f < length network.now.functions }
     ensures { IsTrue result ↔ IsOpenAt network.now history.now f i }
 {
-    network.limits();
+    network.law_limits();
     match network.scope(f).get(i) {
         Some(x) => is_open(network, history, *x),
         None => false,

@@ -164,7 +164,7 @@ fn is_place(network: &Network, f: u32, place: u32, value: u32) -> bool
     if f >= network.functions() {
         return false;
     }
-    network.limits();
+    network.law_limits();
     match network.scope(f).get(place as usize) {
         Some(x) => value < network.size(*x),
         None => false,

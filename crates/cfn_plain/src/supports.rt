@@ -98,7 +98,7 @@ pub fn has_tuple(
 {
     let places = scope(network, sought.function).len();
     let mut tuple = vec![in alloc; 0; places]?;
-    network.limits();
+    network.law_limits();
     Ok(has_tuple_from(network, history, sought, tuple.as_mut_slice(), 0))
 }
 
@@ -122,7 +122,7 @@ fn has_tuple_from(
     if place == variables.len() {
         return is_sought(network, history, sought, tuple);
     }
-    network.limits();
+    network.law_limits();
     for value in 0..network.size(variables[place]) {
         tuple[place] = value;
         if has_tuple_from(network, history, sought, tuple, place + 1) {

@@ -18,7 +18,7 @@ use std::alloc::{AllocError, Global};
 pub fn valid(alloc: Global, network: &Network, tree: &Tree, k: u64) -> Result<bool, AllocError>
     ensures { IfOk result (λ answer. IsTrue answer ↔ Valid network.now [] (tree_of tree.now) k) }
 {
-    tree.linked();
+    tree.law_linked();
     valid_from(alloc, network, &[], tree, Tree::ROOT, k)
 }
 
@@ -26,7 +26,7 @@ pub fn valid(alloc: Global, network: &Network, tree: &Tree, k: u64) -> Result<bo
 pub fn strict(alloc: Global, network: &Network, tree: &Tree) -> Result<bool, AllocError>
     ensures { IfOk result (λ answer. IsTrue answer ↔ Strict network.now [] (tree_of tree.now)) }
 {
-    tree.linked();
+    tree.law_linked();
     strict_from(alloc, network, &[], tree, Tree::ROOT)
 }
 
@@ -34,7 +34,7 @@ pub fn strict(alloc: Global, network: &Network, tree: &Tree) -> Result<bool, All
 pub fn bound(alloc: Global, network: &Network, tree: &Tree, k: u64) -> Result<u64, AllocError>
     ensures { IfOk result (λ least. least ≡ bound network.now [] (tree_of tree.now) k) }
 {
-    tree.linked();
+    tree.law_linked();
     bound_from(alloc, network, &[], tree, Tree::ROOT, k)
 }
 
@@ -50,7 +50,7 @@ fn valid_from(
     requires { id.number < length tree.now }
     ensures { IfOk result (λ answer. IsTrue answer ↔ Valid network.now history.now (tree_at tree.now id.number) k) }
 {
-    tree.linked();
+    tree.law_linked();
     let node = tree.node(id);
     if !block_runs(alloc, network, history, &node.block, k)? {
         return Ok(false);
@@ -88,7 +88,7 @@ fn strict_from(
     requires { id.number < length tree.now }
     ensures { IfOk result (λ answer. IsTrue answer ↔ Strict network.now history.now (tree_at tree.now id.number)) }
 {
-    tree.linked();
+    tree.law_linked();
     let node = tree.node(id);
     let End::Split {
         decision,
@@ -122,7 +122,7 @@ fn bound_from(
     requires { id.number < length tree.now }
     ensures { IfOk result (λ least. least ≡ bound network.now history.now (tree_at tree.now id.number) k) }
 {
-    tree.linked();
+    tree.law_linked();
     let node = tree.node(id);
     let behind = after(alloc, &node.block, history)?;
     match node.end {

@@ -25,7 +25,7 @@ pub(crate) fn all_tuples_allow(
 {
     let places = scope(network, function_in(step)).len();
     let mut tuple = vec![in alloc; 0; places]?;
-    network.limits();
+    network.law_limits();
     Ok(tuples_allow(network, history, step, k, tuple.as_mut_slice(), 0))
 }
 
@@ -50,7 +50,7 @@ fn tuples_allow(
     if place == variables.len() {
         return tuple_allows(network, history, step, k, tuple);
     }
-    network.limits();
+    network.law_limits();
     for value in 0..network.size(variables[place]) {
         tuple[place] = value;
         if !tuples_allow(network, history, step, k, tuple, place + 1) {

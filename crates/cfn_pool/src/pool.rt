@@ -76,7 +76,7 @@ impl<M: Incumbent> Pool<M> {
         ensures recorded { IfOk result (λ held. held.recorded ≡ None) }
         ensures back { IfErr result (λ given. given ≡ holder) }
     {
-        network.limits();
+        network.law_limits();
         let Ok(tree) = Tree::new(alloc) else {
             return Err(holder);
         };
@@ -93,7 +93,7 @@ impl<M: Incumbent> Pool<M> {
         ensures ok { OnOk result (self.new.recorded ≡ Some (record { told = record { budget = (pool self.old).budget; happened = [] }; out = 0; spare = 3 })) }
         ensures err { OnErr result (self.new ≡ self.old) }
     {
-        network.limits();
+        network.law_limits();
         let mut history = History::new(alloc, self.leaves.budget());
         history.reserve(SPARE)?;
         self.recording = Recording::On {
@@ -124,7 +124,7 @@ impl<M: Incumbent> Pool<M> {
         ensures recorded { IfOk result (λ held. held.recorded ≡ None) }
         ensures back { IfErr result (λ given. given ≡ holder) }
     {
-        network.limits();
+        network.law_limits();
         match Leaves::start(alloc, network, tree, part, holder.seen(), budget) {
             Ok(leaves) => Ok(Pool {
                 leaves,

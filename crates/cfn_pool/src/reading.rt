@@ -14,7 +14,7 @@ use cfn_proof::Row;
 impl<M: Incumbent> Pool<M> {
     /// Nothing: its contract tells a caller what a pool keeps. It is sound, its leaves have numbers of their own, what it
     /// keeps fits; and each upper number of a row is the cost of an assignment.
-    pub fn kept(&self)
+    pub fn law_kept(&self)
         ensures pool { IsPool M.network (pool self.now) }
         ensures rows { AreReached M.network (pool self.now).rows }
     {

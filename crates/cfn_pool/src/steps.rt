@@ -41,8 +41,8 @@ impl<M: Incumbent> Pool<M> {
         ensures takes { Takes M.network self.old worker want result self.new }
         ensures adds { AddsTaken self.old.recorded worker want result self.new.recorded }
     {
-        self.holder.kept();
-        self.leaves.numbered();
+        self.holder.law_kept();
+        self.leaves.law_numbered();
         if self.recording.make_room().is_err() {
             return Taken::Memory;
         }
@@ -60,10 +60,10 @@ impl<M: Incumbent> Pool<M> {
         ensures gives { Gives M.network self.old piece note result self.new }
         ensures adds { AddsGiven self.old.recorded piece (pool self.new).view.seen result self.new.recorded }
     {
-        piece.kept();
-        self.holder.kept();
-        self.holder.best().priced();
-        self.leaves.numbered();
+        piece.law_kept();
+        self.holder.law_kept();
+        self.holder.best().law_priced();
+        self.leaves.law_numbered();
         let Ok(copy) = self.recording.copy(&piece) else {
             return Handed::Memory { piece, note };
         };
@@ -92,8 +92,8 @@ impl<M: Incumbent> Pool<M> {
         ensures same { IsFalse result → self.new ≡ self.old }
         ensures adds { IsTrue result → Adds self.old.recorded (Freed task.now.task.worker task.now.task.leaf task.now.task.grant) self.new.recorded }
     {
-        self.holder.kept();
-        self.leaves.numbered();
+        self.holder.law_kept();
+        self.leaves.law_numbered();
         if self.leaves.back(task) {
             self.recording.freed(task);
             true
@@ -108,7 +108,7 @@ impl<M: Incumbent> Pool<M> {
         ensures recalls { PoolRecalls (pool self.old) (pool self.new) }
         ensures adds { Adds self.old.recorded CalledBack self.new.recorded }
     {
-        self.holder.kept();
+        self.holder.law_kept();
         self.leaves.recall();
         self.recording.called_back();
     }
@@ -121,8 +121,8 @@ impl<M: Incumbent> Pool<M> {
         ensures adds { Adds self.old.recorded (Swept (pool self.new).view.seen) self.new.recorded }
         ensures recorded { IfSome self.new.recorded (λ r. IsExactRecordOf M.network (pool self.new) r.told) }
     {
-        self.holder.kept();
-        self.holder.best().priced();
+        self.holder.law_kept();
+        self.holder.best().law_priced();
         let word = low.look(&mut self.holder);
         self.leaves.sweep(word);
         self.recording.swept(word);
@@ -134,9 +134,9 @@ impl<M: Incumbent> Pool<M> {
         ensures meets { PoolMeets M.network (pool self.old) (view_of other) (pool self.new) }
         ensures recorded { self.new.recorded ≡ self.old.recorded }
     {
-        self.holder.kept();
-        self.holder.best().priced();
-        other.best().priced();
+        self.holder.law_kept();
+        self.holder.best().law_priced();
+        other.best().law_priced();
         low.meet(&mut self.holder, other);
     }
 
@@ -166,8 +166,8 @@ impl<M: Incumbent> Pool<M> {
         ensures notes { PoolNotes M.network (pool self.old) (pool self.new) }
         ensures recorded { self.new.recorded ≡ self.old.recorded }
     {
-        network.limits();
-        self.holder.kept();
+        network.law_limits();
+        self.holder.law_kept();
         self.leaves.note(network, self.holder.seen());
         let nodes = self.leaves.nodes();
         self.due = nodes.saturating_add(nodes / 8);

@@ -18,8 +18,8 @@ impl<M: Incumbent> Pool<M> {
         ensures is { IsNews M.network (pool self.now) result }
         ensures hold { AreBounds M.network result.bounds }
     {
-        network.limits();
-        self.holder.kept();
+        network.law_limits();
+        self.holder.law_kept();
         let seen = self.holder.seen();
         News {
             bounds: Row {

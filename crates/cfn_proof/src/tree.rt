@@ -306,7 +306,7 @@ impl Tree {
 
     /// Parents and children of a tree know each other, a parent has a smaller number than its children, and all
     /// numbers have a spelling.
-    pub fn linked(&self)
+    pub fn law_linked(&self)
         ensures { IsTree self.now }
     {
         let _ = &self.nodes;

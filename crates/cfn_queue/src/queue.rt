@@ -38,7 +38,7 @@ impl Queue {
     }
 
     /// Each number that waits is below the size, and waits once.
-    pub fn kept(&self)
+    pub fn law_kept(&self)
         ensures below { AreBelow self.now.size self.now.items }
         ensures once { NoRepeats self.now.items }
     {
@@ -50,7 +50,7 @@ impl Queue {
         ensures first { MatchOption result (self.now.items ≡ []) (IsFirst self.now.items) }
         ensures below { IfSome result (λ number. number < self.now.size) }
     {
-        self.kept();
+        self.law_kept();
         self.items.front().copied()
     }
 

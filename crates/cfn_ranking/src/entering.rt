@@ -38,13 +38,13 @@ impl Ranking {
         ensures paths { OnOk result (KeepsPaths self.old.nodes self.new.nodes) }
         ensures err { OnErr result (self.new ≡ self.old) }
     {
-        network.limits();
+        network.law_limits();
         let Some(place) = place_of(&self.list, cost, values) else {
             return Err(AllocError);
         };
         let values = Vec::from_slice(alloc, values)?;
         self.exchange(leaf, block, place, Listed { cost, values })?;
-        self.linked();
+        self.law_linked();
         self.threshold = self.price(network.ub());
         Ok(())
     }
@@ -68,7 +68,7 @@ impl Ranking {
         self.list.reserve(1)?;
         self.leaves.reserve(1)?;
         make_room(&mut self.tree, &mut self.list, &mut self.leaves, self.count)?;
-        self.tree.linked();
+        self.tree.law_linked();
         let place = place.min(self.list.len());
         self.tree.leave(leaf, block);
         self.numbers[leaf.number as usize] = Some(0);

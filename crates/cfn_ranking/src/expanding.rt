@@ -33,7 +33,7 @@ impl Ranking {
         ensures first { IfOk result (λ first. first.number ≡ length self.old.nodes) }
     {
         let first = self.split(leaf, block, decision, low)?;
-        self.linked();
+        self.law_linked();
         Ok(first)
     }
 
@@ -73,7 +73,7 @@ impl Ranking {
         ensures is { self.new ≡ closed self.old leaf.number block }
     {
         self.shut(leaf, block);
-        self.linked();
+        self.law_linked();
     }
 
     /// The same, whatever the ranking keeps.

@@ -27,7 +27,7 @@ impl Ranking {
         ensures list { IsListOf network.now self.count self.spent (list_certificate_of result.certificate) }
         ensures open { IsTrue result.is_open ↔ (0 < open_leaves (list_certificate_of result.certificate).tree) }
     {
-        network.limits();
+        network.law_limits();
         let mut ranking = self;
         ranking.sweep(network);
         number_all(&mut ranking.numbers, &ranking.leaves);
@@ -60,7 +60,7 @@ impl Ranking {
         requires ranked { IsRanked network.now self.old }
         ensures swept { IsSwept network.now self.old self.new }
     {
-        self.linked();
+        self.law_linked();
         for i in 0..self.tree.len() {
             self.sweep_at(network, i);
         }
@@ -72,7 +72,7 @@ impl Ranking {
         requires there { i < length self.old.nodes }
         ensures { IsSweptAt network.now i self.old self.new }
     {
-        self.linked();
+        self.law_linked();
         let leaf = NodeId { number: i as u32 };
         if !self.waits(leaf) {
             return;
@@ -81,7 +81,7 @@ impl Ranking {
             return;
         }
         self.shut_own(leaf);
-        self.linked();
+        self.law_linked();
     }
 
     /// Closes an open leaf behind its own block.
@@ -98,7 +98,7 @@ impl Ranking {
         requires numbers { length self.now.numbers ≡ length self.now.nodes }
         ensures { IsLeastFloor self.now (length self.now.nodes) result }
     {
-        self.linked();
+        self.law_linked();
         let mut least = self.threshold;
         for i in 0..self.tree.len() {
             least = self.lesser_at(i, least);
@@ -113,7 +113,7 @@ impl Ranking {
         requires numbers { length self.now.numbers ≡ length self.now.nodes }
         ensures { IsLesserAt self.now i least result }
     {
-        self.linked();
+        self.law_linked();
         let leaf = NodeId { number: i as u32 };
         if !self.waits(leaf) {
             return least;
@@ -126,7 +126,7 @@ impl Ranking {
         requires { length self.now.numbers ≡ length self.now.nodes }
         ensures { IsTrue result ↔ ((i : ℕ) × Waits self.now i) }
     {
-        self.linked();
+        self.law_linked();
         for i in 0..self.tree.len() {
             if self.waits(NodeId { number: i as u32 }) {
                 return true;

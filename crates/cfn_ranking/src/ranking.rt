@@ -74,7 +74,7 @@ impl Ranking {
         ensures none { IfOk result (λ ranking. ranking.spent ≡ 0) }
     {
         let tree = Tree::new(alloc)?;
-        tree.linked();
+        tree.law_linked();
         let mut floors = Vec::new(alloc);
         floors.push(low)?;
         let mut numbers = Vec::new(alloc);
@@ -96,10 +96,10 @@ impl Ranking {
     }
 
     /// Nothing: its contract tells that parents and children of the tree know each other.
-    pub(crate) fn linked(&self)
+    pub(crate) fn law_linked(&self)
         ensures { IsLinked self.now.nodes }
     {
-        self.tree.linked();
+        self.tree.law_linked();
     }
 
     /// The tree.

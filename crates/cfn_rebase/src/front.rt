@@ -19,11 +19,11 @@ impl<'n> Ground<'n> {
         for step in block.cursor() {
             let made = self.step(threshold, step)?;
             if !made {
-                self.stays_tame();
+                self.law_stays_tame();
                 return Ok(false);
             }
         }
-        self.stays_tame();
+        self.law_stays_tame();
         Ok(true)
     }
 

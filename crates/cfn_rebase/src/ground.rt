@@ -88,7 +88,7 @@ impl<'n> Ground<'n> {
         self.events.reserve(1)?;
         self.store.reserve(1)?;
         go(&mut self.store, threshold, step);
-        self.store.exact();
+        self.store.law_exact();
         self.events.push_reserved(Event::Did(step));
         Ok(true)
     }
@@ -132,10 +132,10 @@ impl<'n> Ground<'n> {
     }
 
     /// Costs stay small along the block. It costs nothing.
-    pub(crate) fn stays_tame(&self)
+    pub(crate) fn law_stays_tame(&self)
         ensures { TameBlock self.now.network self.now.base self.now.block }
     {
-        self.store.exact();
+        self.store.law_exact();
     }
 
     /// The store.

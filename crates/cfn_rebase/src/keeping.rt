@@ -29,6 +29,6 @@ pub fn keep(
     while more {
         more = walk.next(alloc, old)?;
     }
-    walk.tree.linked();
+    walk.tree.law_linked();
     Ok(walk.tree)
 }

@@ -19,7 +19,7 @@ pub(crate) fn is_place(network: &Network, f: u32, place: u32, value: u32) -> boo
     if f >= network.functions() {
         return false;
     }
-    network.limits();
+    network.law_limits();
     match network.scope(f).get(place as usize) {
         Some(x) => value < network.size(*x),
         None => false,

@@ -30,7 +30,7 @@ pub(crate) fn may_make(
     ensures can { IsTrue result → CanMake store.now threshold step }
     ensures may { MayFollow store.now threshold step → IsTrue result }
 {
-    network.limits();
+    network.law_limits();
     match step {
         Step::Project {
             function,
@@ -69,7 +69,7 @@ fn can_cut_value(
     requires value { IsValue store.now.network x value }
     ensures { IsTrue result ↔ CanCutValue store.now.network (history store.now) threshold x value }
 {
-    store.exact();
+    store.law_exact();
     if store.is_live(x, value) {
         let cost = u128::from(store.unary(x, value));
         let balance = Balance {
@@ -99,7 +99,7 @@ fn can_cut_tuple(
     requires number { IsCell store.now.network f number }
     ensures { IsTrue result ↔ CanCutTuple store.now.network (history store.now) threshold f number }
 {
-    store.exact();
+    store.law_exact();
     if let Some(cost) = live_residual(network, store, f, number) {
         let balance = Balance {
             more: u128::from(cost),
@@ -120,7 +120,7 @@ fn live_residual(network: &Network, store: &Store<'_>, f: u32, number: u32) -> O
     requires number { IsCell store.now.network f number }
     ensures { IfSome result (IsCost store.now f number) }
 {
-    network.limits();
+    network.law_limits();
     if network.scope(f).len() != 2 {
         return None;
     }

@@ -45,7 +45,7 @@ impl<'n> Walk<'n> {
         requires { tables.now ≡ network.now }
         ensures { IfOk result (λ made. IsAtNode network.now threshold old.now made 0 0) }
     {
-        old.linked();
+        old.law_linked();
         let ground = Ground::make(alloc, network, tables)?;
         let tree = Tree::new(alloc)?;
         let waiting = Vec::new(alloc);
@@ -144,7 +144,7 @@ impl<'n> Walk<'n> {
         ensures less { weights old.now (reverse self.new.waiting.items)
             < weight (tree_at old.now id.number) + weights old.now (reverse self.old.waiting.items) }
     {
-        old.linked();
+        old.law_linked();
         self.tree.leave(leaf, block);
     }
 
@@ -155,7 +155,7 @@ impl<'n> Walk<'n> {
         ensures less { weights old.now (reverse self.new.waiting.items)
             < weight (tree_at old.now id.number) + weights old.now (reverse self.old.waiting.items) }
     {
-        old.linked();
+        old.law_linked();
         self.tree.close(leaf, block);
     }
 
@@ -175,7 +175,7 @@ impl<'n> Walk<'n> {
         ensures less { OnOk result (weights old.now (reverse self.new.waiting.items)
             < weight (tree_at old.now id.number) + weights old.now (reverse self.old.waiting.items)) }
     {
-        old.linked();
+        old.law_linked();
         self.waiting.reserve(2)?;
         let (one, two) = self.tree.split_behind(leaf, block, decision)?;
         let spot = self.ground.spot();

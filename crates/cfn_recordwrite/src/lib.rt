@@ -19,4 +19,4 @@ mod nodes;
 mod whole;
 
 pub use message::{write_record_refused, write_replayed};
-pub use whole::{spelled, write};
+pub use whole::{law_spelled, write};

@@ -21,7 +21,7 @@ pub(crate) fn put_tree<D: Desk>(tree: &Tree, desk: &mut D) -> Result<(), Failed>
     ensures { Appends File (D.outside desk.old)
         (text (tree_lines (tree_of tree.now))) result (D.outside desk.new) }
 {
-    tree.linked();
+    tree.law_linked();
     let mut batch = Batch::new();
     let mut next = Some(Tree::ROOT);
     while let Some(id) = next {

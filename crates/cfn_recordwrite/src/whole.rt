@@ -34,7 +34,7 @@ pub fn write<D: Desk>(
         (spelling (recorded history.now certificate.now)) result (D.outside desk.new) }
     ensures spells { Spells (recorded history.now certificate.now) (spelling (recorded history.now certificate.now)) }
 {
-    spelled(history, certificate);
+    law_spelled(history, certificate);
     put_head(history.budget(), certificate, desk)?;
     put_entries(history.happened(), desk)?;
     put_best(&certificate.best, desk)?;
@@ -42,11 +42,11 @@ pub fn write<D: Desk>(
 }
 
 /// Nothing: its contract says that each number of such a record has a spelling, so that its text is its one spelling.
-pub fn spelled(history: &History, certificate: &Certificate)
+pub fn law_spelled(history: &History, certificate: &Certificate)
     requires { IsSpelledBest (solution_of certificate.now.best) }
     ensures { Spells (recorded history.now certificate.now) (spelling (recorded history.now certificate.now)) }
 {
-    history.spelled();
+    history.law_spelled();
     let _variables = certificate.variables;
     let _functions = certificate.functions;
 }

@@ -33,7 +33,7 @@ pub(crate) fn judged(
     ensures { IfOk result (λ judged. (pool : Pool) (best : Option Solution) → IsHeld network.now pool leaves
         → TellsBest network.now told best → IsJudged network.now pool best (option_map (λ text. text.items) judged)) }
 {
-    network.limits();
+    network.law_limits();
     let Told::Best(best) = told else {
         return Ok(None);
     };
@@ -55,11 +55,11 @@ fn certificate(
         ≡ replaying.certificate_of network.now (solution_of best) (tree_of (pool_tree leaves))) }
     ensures spelled { IfOk result (λ c. IsSpelled (certificate_of c)) }
 {
-    network.limits();
+    network.law_limits();
     let lower = leaves.bound(threshold(network, &best));
     let (mut tree, _) = leaves.finish();
     tree.share(alloc)?;
-    tree.linked();
+    tree.law_linked();
     Ok(Certificate {
         variables: network.variables(),
         functions: network.functions(),

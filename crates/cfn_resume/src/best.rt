@@ -30,7 +30,7 @@ fn kept_values(alloc: Global, network: &Network, values: &[u64]) -> Result<Score
     ensures own { IfOk result (λ kept. kept.network ≡ network.now) }
     ensures keeps { IfOk result (λ kept. IsKeptValues network.now values.now kept.held) }
 {
-    network.limits();
+    network.law_limits();
     let mut kept = Scored::empty(alloc, network)?;
     let Some(narrow) = in_32_bits(alloc, values)? else {
         return Ok(kept);

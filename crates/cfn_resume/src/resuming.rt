@@ -51,11 +51,11 @@ fn begin(
     requires { IfSome part IsPart }
     ensures { IfOk result (Begins network.now part text.now old.now) }
 {
-    network.limits();
+    network.law_limits();
     law_kept();
     let _bytes = length_of(text);
     let best = kept_best(alloc, network, &old.best)?;
-    best.priced();
+    best.law_priced();
     let tables = Tables::expand(alloc, network)?;
     let tree = keep(alloc, network, &tables, &old.tree, best.price())?;
     Ok(Begin {

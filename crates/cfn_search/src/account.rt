@@ -64,7 +64,7 @@ impl<M: Incumbent> Account<M> {
     pub fn open(part: Holder<M>) -> Account<M>
         ensures { result ≡ record { part = part; least = part.seen } }
     {
-        part.kept();
+        part.law_kept();
         let least = part.seen();
         Account { part, least }
     }

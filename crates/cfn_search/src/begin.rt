@@ -28,7 +28,7 @@ impl Begin {
         ensures start { IfOk result (λ begin. start_of network.now begin ≡ fresh network.now) }
         ensures recorded { IfOk result (λ begin. begin.recorded ≡ recorded) }
     {
-        network.limits();
+        network.law_limits();
         Ok(Begin {
             tree: Tree::new(alloc)?,
             best: Scored::empty(alloc, network)?,

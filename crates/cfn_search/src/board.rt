@@ -193,7 +193,7 @@ impl<M: Incumbent + Crew> Board<M> {
         ensures none { IsFalse result → (pool self.new.held ≡ pool self.old.held) × (lanes.new ≡ lanes.old) }
         ensures stopped { self.new.stopped ≡ self.old.stopped }
     {
-        self.held.kept();
+        self.held.law_kept();
         let task = match take(network, &mut self.held, worker, want) {
             Asked::Task { task } => task,
             Asked::Later | Asked::Done | Asked::Spent | Asked::Memory => return false,

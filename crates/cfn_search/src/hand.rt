@@ -95,8 +95,8 @@ impl InHand {
         ensures goes { GoesOn M.start (pool held.old) (pool held.new) }
     {
         let InHand { task } = self;
-        held.kept();
-        task.kept();
+        held.law_kept();
+        task.law_kept();
         held.back(&task);
     }
 }
@@ -149,9 +149,9 @@ impl Made {
         ensures account { account.new ≡ account.old }
     {
         let Made { piece } = self;
-        held.kept();
-        piece.kept();
-        piece.task().kept();
+        held.law_kept();
+        piece.law_kept();
+        piece.task().law_kept();
         let note = account.note(low);
         match held.give(low, piece, note) {
             Handed::Done => Ok(()),

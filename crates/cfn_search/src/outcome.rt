@@ -70,13 +70,13 @@ pub(crate) fn conclude<M: Incumbent, H: Halt>(
     ensures history { IfSome result.1 (IsRecorded network.now (pool held).budget (certificate_of result.0.certificate)) }
     ensures kept { is_some result.1 ≡ is_some held.recorded }
 {
-    network.limits();
-    held.kept();
+    network.law_limits();
+    held.law_kept();
     let lower = held.bound();
     let leaves = held.open_leaves();
     let stop = stop_of(leaves, held.nodes(), held.budget(), others, halt);
     let finished = held.finish();
-    finished.tree.linked();
+    finished.tree.law_linked();
     let (best, _) = low.end(finished.holder);
     let outcome = Outcome {
         certificate: Certificate {
@@ -122,7 +122,7 @@ fn below(best: Scored, upper: u64) -> Option<Scored>
     ensures price { threshold_of best.network.upper (solution_of result) ≡ threshold_of best.network.upper best.held }
     ensures held { ForSome result (λ scored. IsTrue (is_some scored.held)) }
 {
-    best.priced();
+    best.law_priced();
     if best.price() < upper {
         Some(best)
     } else {

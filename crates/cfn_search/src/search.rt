@@ -30,7 +30,7 @@ use cfn_gate::{Gate, OpenGate};
 use cfn_history::History;
 use cfn_low::{Holder, Incumbent, Low, Unnamed};
 use cfn_machine::Part;
-use cfn_machine::laws::parts;
+use cfn_machine::laws::law_parts;
 use cfn_net::{Network, Scored};
 use cfn_outcome::Outcome;
 use cfn_pool::Pool;
@@ -144,7 +144,7 @@ pub(crate) fn know<M: Incumbent>(low: &Low<M>, holder: &mut Holder<M>, best: &Sc
     ensures seen { holder.new.seen ≡ price M.network (values_of best.now.held) }
     ensures shares { holder.new.shares ≡ holder.old.shares }
 {
-    best.priced();
+    best.law_priced();
     low.lower(holder, best);
     low.look(holder);
 }
@@ -179,7 +179,7 @@ pub(crate) fn open<M: Incumbent>(
     ensures recorded { IfOk result (λ made. is_some made.0.recorded ≡ recorded) }
     ensures spare { IfOk result (λ made. HasSpare 2 made.0.recorded) }
 {
-    parts();
+    law_parts();
     let Ok(mut held) = Pool::begin_with(alloc, network, holder, budget, tree, part) else {
         return Err(AllocError);
     };
@@ -269,7 +269,7 @@ fn work<M: Incumbent, X: Explorers, G: Gate, H: Halt>(
     ensures shares { account.new.part.shares ≡ account.old.part.shares }
     ensures falls { account.new.least ≤ account.old.least }
 {
-    held.kept();
+    held.law_kept();
     if let Ok(mut explorer) = explorers.make(alloc) {
         dive_all(
             alloc,
@@ -305,7 +305,7 @@ fn dive_all<M: Incumbent, E: Explore, G: Gate, H: Halt>(
     ensures shares { account.new.part.shares ≡ account.old.part.shares }
     ensures falls { account.new.least ≤ account.old.least }
 {
-    held.kept();
+    held.law_kept();
     let mut limit = FEWEST_BACKTRACKS;
     while let Some(next) = dive(
         alloc, network, low, held, account, explorer, limit, gate, halt,

@@ -44,7 +44,7 @@ pub fn take<M: Incumbent>(network: &Network, held: &mut Pool<M>, worker: u32, wa
     ensures nodes { (pool held.new).nodes ≡ (pool held.old).nodes }
     ensures asks { Asks M.network held.old worker want result held.new }
 {
-    held.kept();
+    held.law_kept();
     match held.take(network, worker, want) {
         Taken::Given { task } => Asked::Task {
             task: InHand::of(task),
@@ -88,7 +88,7 @@ pub fn hand_in<M: Incumbent>(
         Ok(()) => {
             note(network, held);
             sweep_below(low, held, before);
-            held.kept();
+            held.law_kept();
             Ok(limit_after(limit, held.open_leaves() >= leaves))
         }
         Err(why) => Err(why),
@@ -131,7 +131,7 @@ pub fn sweep<M: Incumbent>(low: &Low<M>, held: &mut Pool<M>)
     ensures goes { GoesOn M.start (pool held.old) (pool held.new) }
     ensures nodes { (pool held.new).nodes ≡ (pool held.old).nodes }
 {
-    held.kept();
+    held.law_kept();
     held.sweep(low);
 }
 

@@ -115,7 +115,7 @@ fn told_by(piece: &Piece, cut: bool) -> Made {
 
 /// Whether a leaf of a tree is open.
 fn has_open(tree: &Tree) -> bool {
-    tree.linked();
+    tree.law_linked();
     for number in 0..tree.len() {
         let id = NodeId {
             number: number as u32,

@@ -68,7 +68,7 @@ fn is_good(alloc: Global, network: &Network, outcome: &Outcome) -> Result<bool, 
 
 /// Whether a split of a tree is by a bound.
 fn has_bound(tree: &Tree) -> bool {
-    tree.linked();
+    tree.law_linked();
     for number in 0..tree.len() {
         let id = NodeId {
             number: number as u32,

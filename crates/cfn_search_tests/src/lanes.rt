@@ -95,7 +95,7 @@ fn taken<M: Incumbent>(network: &Network, held: &mut Pool<M>, worker: u32) -> Op
     ensures ready { StaysReady held.old held.new }
     ensures task { IfSome result (IsTaskOf M.network) }
 {
-    held.kept();
+    held.law_kept();
     match held.take(network, worker, 1) {
         Taken::Given { task } => Some(task),
         _ => None,
@@ -109,8 +109,8 @@ fn free<M: Incumbent>(held: &mut Pool<M>, task: &Task)
     ensures goes { GoesOn M.start (pool held.old) (pool held.new) }
     ensures ready { StaysReady held.old held.new }
 {
-    held.kept();
-    task.kept();
+    held.law_kept();
+    task.law_kept();
     held.back(task);
 }
 

@@ -48,7 +48,7 @@ fn lower_and_look<M: Incumbent>(unnamed: Unnamed, empty: Scored, offer: &Scored)
 fn seen_by_parts(alloc: Global) -> Result<Sighting, AllocError> {
     let network = three(alloc)?;
     let mut offer = Scored::empty(alloc, &network)?;
-    network.limits();
+    network.law_limits();
     if network.variables() == 1 && network.size(0) == 3 {
         offer.fill(&network, &[1]);
     }

@@ -100,7 +100,7 @@ fn sights<R: AllocGlobal + Threads + Wait + Sync>(rt: &R) -> Result<(u64, u64), 
     let alloc = rt.alloc();
     let network = two(alloc)?;
     let mut offer = Scored::empty(alloc, &network)?;
-    network.limits();
+    network.law_limits();
     if network.variables() == 1 && network.size(0) == 2 {
         offer.fill(&network, &[1]);
     }

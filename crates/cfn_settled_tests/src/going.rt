@@ -146,7 +146,7 @@ fn draw_place(network: &Network, dice: &mut Dice) -> Option<Place>
     ensures { IfSome result (λ at. IsPlace network.now at.function at.place at.value) }
 {
     let function = below(dice, network.functions())?;
-    network.limits();
+    network.law_limits();
     let scope = network.scope(function);
     let place = below(dice, u32::try_from(scope.len()).ok()?)?;
     let x = scope[place as usize];

@@ -179,7 +179,7 @@ fn fault_on(
     requires place { place < arity network.now f }
     ensures same { store.new ≡ store.old }
 {
-    network.limits();
+    network.law_limits();
     let x = network.scope(f)[place as usize];
     for value in 0..network.size(x) {
         if let Some(fault) = fault_by(store, tuples, f, place, value) {
@@ -226,7 +226,7 @@ fn is_lacking(store: &mut Store<'_>, tuples: &[LiveTuple], at: Place) -> bool
     ensures same { store.new ≡ store.old }
 {
     let network = store.network();
-    network.limits();
+    network.law_limits();
     let x = network.scope(at.function)[at.place as usize];
     let is_free = tuples.iter().any(|tuple| {
         tuple.cost == 0 && tuple.values.get(at.place as usize) == Some(&at.value)

@@ -22,7 +22,7 @@ pub(crate) fn forget_changed(peaks: &mut Vec<u64>, network: &Network, event: Eve
     requires place { InPlace network.now event }
     ensures { AreForgotten network.now event peaks.old.items peaks.new.items }
 {
-    network.limits();
+    network.law_limits();
     match event {
         Event::Did(step) => match step {
             Step::Project {

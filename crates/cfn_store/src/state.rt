@@ -47,7 +47,7 @@ impl State {
         ensures state { IfOk result (IsState network.now) }
         ensures trail { IfOk result (λ state. state.trail.items ≡ []) }
     {
-        network.limits();
+        network.law_limits();
         Ok(State {
             sums: Sums::at_root(alloc, network)?,
             live: LiveSets::make(alloc, network.sizes())?,
@@ -118,7 +118,7 @@ impl State {
         requires number { number < cells (dims_at network.now f) }
         ensures { (tuple : List ℕ) → IsNumbered network.now f number tuple → IsTold network.now (history_of self.now) f tuple result }
     {
-        network.limits();
+        network.law_limits();
         let scope = network.scope(f);
         let pin = Pin {
             place: scope.len(),
@@ -156,7 +156,7 @@ impl State {
         ensures sense { result.sense ≡ sense }
         ensures spot { IsSpot result (scope_at network.now f) start }
     {
-        network.limits();
+        network.law_limits();
         let _ = network.scope(f);
         Scan {
             sizes: network.sizes(),
@@ -187,7 +187,7 @@ impl State {
         requires place { place < 2 }
         ensures { (other : ℕ) → place + other ≡ 1 → IsSide network.now (history_of self.now) f place other result }
     {
-        network.limits();
+        network.law_limits();
         let scope = network.scope(f);
         let pin = Pin { place, value: 0 };
         let scan = self.scan(network, shelf, f, pin, pin, Sense::Least);
@@ -204,7 +204,7 @@ impl State {
         ensures trail { self.new.trail.items ≡ self.old.trail.items ++ event ∷ [] }
         ensures room { (room : ℕ) → HasRoom room self.old → HasRoom room self.new }
     {
-        known(event);
+        law_lifted(event);
         self.change(network, event);
         forget_changed(&mut self.peaks, network, event);
         self.trail.push_reserved(event);
@@ -296,7 +296,7 @@ impl State {
         ensures peaks { self.new.peaks ≡ self.old.peaks }
         ensures room { (room : ℕ) → HasRoom room self.old → HasRoom room self.new }
     {
-        network.limits();
+        network.law_limits();
         match step {
             Step::Project {
                 function,
@@ -346,7 +346,7 @@ impl State {
 }
 
 /// What an event lifts is a number of 64 bits.
-fn known(event: Event)
+fn law_lifted(event: Event)
     ensures { lifted event < 2 ^ 64 }
 {
     match event {

@@ -138,7 +138,7 @@ impl<'n> Store<'n> {
         requires fits { FitsProject self.old f place value amount }
         ensures { self.new ≡ with_step self.old (Project f place value amount) }
     {
-        self.exact();
+        self.law_exact();
         self.make(Step::Project {
             function: f,
             place,
@@ -153,7 +153,7 @@ impl<'n> Store<'n> {
         requires fits { FitsExtend self.old f place value amount }
         ensures { self.new ≡ with_step self.old (Extend f place value amount) }
     {
-        self.exact();
+        self.law_exact();
         self.make(Step::Extend {
             function: f,
             place,
@@ -168,7 +168,7 @@ impl<'n> Store<'n> {
         requires fits { FitsLift self.old x amount }
         ensures { self.new ≡ with_step self.old (Lift x amount) }
     {
-        self.exact();
+        self.law_exact();
         self.make(Step::Lift {
             variable: x,
             amount,
@@ -181,7 +181,7 @@ impl<'n> Store<'n> {
         requires value { IsValue self.old.network x value }
         ensures { self.new ≡ with_step self.old (CutValue x value) }
     {
-        self.exact();
+        self.law_exact();
         self.make(Step::CutValue { variable: x, value });
     }
 
@@ -191,7 +191,7 @@ impl<'n> Store<'n> {
         requires cell { IsCell self.old.network f cell }
         ensures { self.new ≡ with_step self.old (CutTuple f cell) }
     {
-        self.exact();
+        self.law_exact();
         self.make(Step::CutTuple { function: f, cell });
     }
 
@@ -201,7 +201,7 @@ impl<'n> Store<'n> {
         requires decision { IsDecision self.old.network decision }
         ensures { self.new ≡ with_side self.old (Took decision) }
     {
-        self.exact();
+        self.law_exact();
         self.turn(Event::Took(decision));
     }
 
@@ -211,7 +211,7 @@ impl<'n> Store<'n> {
         requires decision { IsDecision self.old.network decision }
         ensures { self.new ≡ with_side self.old (Refused decision) }
     {
-        self.exact();
+        self.law_exact();
         self.turn(Event::Refused(decision));
     }
 
@@ -281,7 +281,7 @@ impl<'n> Store<'n> {
         ensures from { from ≤ result }
         ensures known { AreLow self.now.network (history self.now) from result bound }
     {
-        self.network.limits();
+        self.network.law_limits();
         let peaks = &self.state.peaks;
         let mut x = from;
         while (x as usize) < peaks.len() && peaks[x as usize] < bound {
@@ -326,7 +326,7 @@ impl<'n> Store<'n> {
         ensures dead { (tuple : List ℕ) → IsNumbered self.now.network f cell tuple
             → is_live_tuple self.now.network (history self.now) f tuple ≡ false → result ≡ 0 }
     {
-        self.network.limits();
+        self.network.law_limits();
         if self.network.scope(f).is_empty() {
             return 0;
         }
@@ -353,7 +353,7 @@ impl<'n> Store<'n> {
         ensures { MatchOption result (NonePicked self.now.network (history self.now) f place value)
             (IsExtreme self.now.network (history self.now) f place value Least) }
     {
-        self.network.limits();
+        self.network.law_limits();
         if self.network.scope(f).len() == 2 {
             let other = 1 - place;
             if let Some(line) = self.line(f, place, value, other) {
@@ -378,7 +378,7 @@ impl<'n> Store<'n> {
         ensures { MatchOption result.0 (NonePicked self.now.network (history self.now) f place value)
             (IsExtreme self.now.network (history self.now) f place value Least) }
     {
-        self.network().limits();
+        self.network().law_limits();
         let y = self.network().scope(f)[other as usize];
         let mut nearest = Nearest::none();
         for value in self.live(y) {
@@ -437,7 +437,7 @@ impl<'n> Store<'n> {
         requires side { IsSeen self.now f place side.now }
         ensures { MatchOption result (AreFreeFrom self.now.network (history self.now) f place from) (IsLacking self.now.network (history self.now) f place from) }
     {
-        self.network().limits();
+        self.network().law_limits();
         let mut from = from;
         while let Some(doubt) = self.next_in_doubt(
             side,
@@ -462,7 +462,7 @@ impl<'n> Store<'n> {
         ensures { MatchOption result (AreFreeFrom self.now.network (history self.now) f place from) (IsLacking self.now.network (history self.now) f place from) }
     {
         let network = self.network();
-        network.limits();
+        network.law_limits();
         let x = network.scope(f)[place as usize];
         let mut value = from;
         while value < network.size(x) {
@@ -499,7 +499,7 @@ impl<'n> Store<'n> {
         ensures { MatchOption result (AreFreeFrom self.now.network (history self.now) f place from) (IsDoubt self.now.network (history self.now) f place from) }
     {
         let network = self.network();
-        network.limits();
+        network.law_limits();
         let value = self.next_unknown(side, known, f, place, from);
         if value >= network.size(network.scope(f)[place as usize]) {
             return None;
@@ -534,7 +534,7 @@ impl<'n> Store<'n> {
         ensures live { IsPlace self.now.network f place result → IsTrue (is_live (history self.now) (variable_at self.now.network f place) result) }
         ensures passed { AreFreeBetween self.now.network (history self.now) f place from result }
     {
-        self.network.limits();
+        self.network.law_limits();
         let x = self.network.scope(f)[place as usize];
         let size = self.network.size(x);
         let mut value = from;
@@ -555,7 +555,7 @@ impl<'n> Store<'n> {
         requires side { IsSeen self.now f place side.now }
         ensures { IsTrue result → IsFree self.now.network (history self.now) f place value }
     {
-        self.network().limits();
+        self.network().law_limits();
         let Some(last) = known.get(value as usize) else {
             return false;
         };
@@ -574,7 +574,7 @@ impl<'n> Store<'n> {
         requires { x < length self.now.network.sizes }
         ensures { IsTrue result → IsValue self.now.network x value × IsTrue (is_live (history self.now) x value) }
     {
-        self.network.limits();
+        self.network.law_limits();
         value < self.network.size(x) && self.is_live(x, value)
     }
 
@@ -638,7 +638,7 @@ impl<'n> Store<'n> {
         ensures { IfSome result (λ side. (arity self.now.network f ≡ 2)
             × ((other : ℕ) → other < arity self.now.network f → (place ≡ other → ⊥) → IsSide self.now.network (history self.now) f place other side)) }
     {
-        self.network.limits();
+        self.network.law_limits();
         if self.network.scope(f).len() != 2 {
             return None;
         }
@@ -657,7 +657,7 @@ impl<'n> Store<'n> {
         requires different { place ≡ other → ⊥ }
         ensures { IfSome result (IsLine self.now.network (history self.now) f place value other) }
     {
-        self.network.limits();
+        self.network.law_limits();
         if !self.is_live(self.network.scope(f)[place as usize], value) {
             return None;
         }
@@ -670,7 +670,7 @@ impl<'n> Store<'n> {
         requires { IsPlace self.now.network f place value }
         ensures { IsProjectRoom self.now f place value result }
     {
-        self.network().limits();
+        self.network().law_limits();
         let least = match self.least_residual(f, place, value) {
             Some(found) => found.cost,
             None => GREATEST,
@@ -684,7 +684,7 @@ impl<'n> Store<'n> {
         requires { IsPlace self.now.network f place value }
         ensures { IsExtendRoom self.now f place value result }
     {
-        self.network().limits();
+        self.network().law_limits();
         let above = match self.greatest_residual(f, place, value) {
             Some(found) => u64::MAX - found.cost,
             None => GREATEST,
@@ -738,7 +738,7 @@ impl<'n> Store<'n> {
         ensures ok { OnOk result ((self.new.base ≡ path.now) × (self.new.block ≡ [])) }
         ensures err { OnErr result ((self.new.base ≡ self.old.base) × (self.new.block ≡ self.old.block)) }
     {
-        self.network().limits();
+        self.network().law_limits();
         let Some(len) = path.len() else {
             return Err(AllocError);
         };
@@ -780,7 +780,7 @@ impl<'n> Store<'n> {
     }
 
     /// Costs of what is live are exact along the path.
-    pub fn exact(&self)
+    pub fn law_exact(&self)
         ensures { IsExactAlong self.now.network (history self.now) }
     {
         let _ = &self.state;

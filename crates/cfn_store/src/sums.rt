@@ -52,7 +52,7 @@ impl Sums {
         requires place { IsPlace network.now f place value }
         ensures { Moves network.now f place value (pos amount) self.old self.new }
     {
-        network.limits();
+        network.law_limits();
         let x = network.scope(f)[place as usize] as usize;
         let width = self.shifts.row(f as usize).len();
         let at = slot_of(network, f, place, value, width);
@@ -66,7 +66,7 @@ impl Sums {
         requires place { IsPlace network.now f place value }
         ensures { Moves network.now f place value (neg_ℤ (pos amount)) self.old self.new }
     {
-        network.limits();
+        network.law_limits();
         let x = network.scope(f)[place as usize] as usize;
         let width = self.shifts.row(f as usize).len();
         let at = slot_of(network, f, place, value, width);
@@ -123,7 +123,7 @@ fn width(network: &Network, f: u32) -> Option<u32>
     requires { f < length network.now.functions }
     ensures { IfSome result (λ width. width ≡ width_of network.now (function_at network.now f)) }
 {
-    network.limits();
+    network.law_limits();
     let mut width: u32 = 0;
     for x in network.scope(f) {
         width = width.checked_add(network.size(*x))?;
@@ -137,7 +137,7 @@ fn slot_of(network: &Network, f: u32, place: u32, value: u32, width: usize) -> u
     requires width { width ≡ offset (dims_at network.now f) (arity network.now f) }
     ensures { result ≡ offset (dims_at network.now f) place + value }
 {
-    network.limits();
+    network.law_limits();
     let mut slot = value as usize;
     for x in &network.scope(f)[..place as usize] {
         slot += network.size(*x) as usize;

@@ -36,7 +36,7 @@ impl Supports {
 
 /// How many values there are at each of the two places of each function. An `Err` is want of memory.
 fn sizes(alloc: Global, network: &Network) -> Result<Vec<u32>, AllocError> {
-    network.limits();
+    network.law_limits();
     let mut sizes = Vec::with_capacity(alloc, 2 * network.functions() as usize)?;
     for f in 0..network.functions() {
         let (first, second) = match network.scope(f) {

@@ -48,7 +48,7 @@ impl Costs {
     pub fn of(alloc: Global, network: &Network) -> Result<Costs, AllocError>
         ensures { IfOk result (λ t. Says network.now [] t) }
     {
-        network.limits();
+        network.law_limits();
         Ok(Costs {
             floor: network.constants(),
             domains: domains_of(alloc, network)?,
@@ -203,7 +203,7 @@ impl Costs {
             (λ y b. 0) (λ g n. when ((f == g) && (slot (dims_at network.now f) place value == n)) amount) self.old self.new }
         ensures cut { (g c : ℕ) → cut_at self.new g c ≡ cut_at self.old g c }
     {
-        network.limits();
+        network.law_limits();
         let slot = slot(network, f, place, value);
         let x = network.scope(f)[place as usize];
         self.domains[x as usize].add(value, amount);
@@ -247,7 +247,7 @@ impl Costs {
             (λ g n. pos 0) self.old self.new }
         ensures functions { self.new.functions ≡ self.old.functions }
     {
-        network.limits();
+        network.law_limits();
         let domain = &mut self.domains[x as usize];
         let before = domain.has_none();
         domain.take(value);
@@ -265,7 +265,7 @@ impl Costs {
             (λ g n. pos 0) self.new self.old }
         ensures functions { self.new.functions ≡ self.old.functions }
     {
-        network.limits();
+        network.law_limits();
         let domain = &mut self.domains[x as usize];
         let before = domain.has_none();
         domain.give(value);
@@ -283,7 +283,7 @@ impl Costs {
             (λ g n. pos 0) self.old self.new }
         ensures functions { self.new.functions ≡ self.old.functions }
     {
-        network.limits();
+        network.law_limits();
         let x = side.variable();
         let domain = &mut self.domains[x as usize];
         let before = domain.has_none();
@@ -303,7 +303,7 @@ impl Costs {
             (λ g n. pos 0) self.new self.old }
         ensures functions { self.new.functions ≡ self.old.functions }
     {
-        network.limits();
+        network.law_limits();
         let x = side.variable();
         let domain = &mut self.domains[x as usize];
         let before = domain.has_none();

@@ -35,7 +35,7 @@ impl Shifts {
         requires { f < length network.now.functions }
         ensures { IfOk result (λ s. s ≡ first_tuples (slots (dims_at network.now f))) }
     {
-        network.limits();
+        network.law_limits();
         Ok(Shifts {
             sums: vec![in alloc; 0; slots(network, network.scope(f))]?,
             cut: Vec::new(alloc),
@@ -101,7 +101,7 @@ pub fn slots(network: &Network, scope: &[u32]) -> usize
     requires few { length scope.now ≤ 1048576 }
     ensures { result ≡ slots (dims network.now.sizes scope.now) }
 {
-    network.limits();
+    network.law_limits();
     let mut slots = 0;
     for x in scope {
         slots += network.size(*x) as usize;
@@ -115,6 +115,6 @@ pub(crate) fn slot(network: &Network, f: u32, place: u32, value: u32) -> usize
     ensures value { result ≡ slot (dims_at network.now f) place value }
     ensures below { result < slots (dims_at network.now f) }
 {
-    network.limits();
+    network.law_limits();
     slots(network, &network.scope(f)[..place as usize]) + value as usize
 }

@@ -54,7 +54,7 @@ impl Piece {
     }
 
     /// Nothing: its contract tells a caller what a piece keeps.
-    pub fn kept(&self)
+    pub fn law_kept(&self)
         ensures piece { IsPiece self.now.network (piece_of self.now) }
         ensures threshold { self.now.threshold ≤ GREATEST }
     {

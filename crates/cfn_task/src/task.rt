@@ -61,7 +61,7 @@ impl Task {
     }
 
     /// Nothing: its contract tells a caller what a task keeps.
-    pub fn kept(&self)
+    pub fn law_kept(&self)
         ensures { IsTask self.now.network self.now.task }
     {
         let _ = &self.leaf;

@@ -23,5 +23,5 @@ mod testing;
 mod trimmer;
 
 pub use shutting::shut;
-pub use smallness::block_stays_tame;
+pub use smallness::law_block_stays_tame;
 pub use trimmer::Trimmer;

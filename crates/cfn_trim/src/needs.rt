@@ -163,7 +163,7 @@ impl<'n> Needs<'n> {
         requires place { IsPlace self.old f place value }
         ensures { self.new ≡ self.old }
     {
-        self.network.limits();
+        self.network.law_limits();
         let x = self.network.scope(f)[place as usize];
         if !self.costs.has(x, value) && !self.all_costs.has(x) {
             return false;
@@ -182,7 +182,7 @@ impl<'n> Needs<'n> {
         requires place { IsPlace self.old f place value }
         ensures { self.new ≡ self.old }
     {
-        self.network.limits();
+        self.network.law_limits();
         if !self.functions.has(f) {
             return false;
         }

@@ -13,7 +13,7 @@ ghost use Rattle.cfn_store.specs.Standing.{Standing, history};
 ghost use Rattle.cfn_trim.specs.Leaves.{IsLeaf, AddsShifts};
 ghost use Rattle.cfn_trim.specs.Shifting.{IsShutting, IsLifted, IsAmount, IsProjected};
 
-use cfn_model::laws::equivalence;
+use cfn_model::laws::law_equivalence;
 use cfn_store::Store;
 
 /// Shifts costs to the floor until it is at least `k`, where each variable has one live value and that assignment costs at
@@ -25,11 +25,11 @@ pub fn shut(store: &mut Store<'_>, k: u64)
     ensures shifts { AddsShifts store.old store.new }
     ensures closed { k ≤ floor store.new.network (history store.new) }
 {
-    equivalence();
+    law_equivalence();
     lift_all(store, k);
     shift_all(store, k);
-    store.exact();
-    store.network().limits();
+    store.law_exact();
+    store.network().law_limits();
 }
 
 /// Lifts what each variable's value costs.
@@ -64,9 +64,9 @@ fn shift_at(store: &mut Store<'_>, k: u64, f: u32)
     requires start { (before : Standing) × (values : List ℕ) × IsShutting before store.old values k (length store.old.network.sizes) f }
     ensures { (before : Standing) (values : List ℕ) → IsShutting before store.old values k (length store.old.network.sizes) f → IsShutting before store.new values k (length store.old.network.sizes) (f + 1) }
 {
-    store.exact();
+    store.law_exact();
     let network = store.network();
-    network.limits();
+    network.law_limits();
     let scope = network.scope(f);
     if scope.is_empty() || lacks(store, k) == 0 {
         return;
@@ -109,7 +109,7 @@ fn lift_at(store: &mut Store<'_>, k: u64, x: u32, a: u32)
     requires only { (b : ℕ) → IsValue store.old.network x b → IsTrue (is_live (history store.old) x b) → b ≡ a }
     ensures { IsLifted store.old store.new k x a }
 {
-    store.network().limits();
+    store.network().law_limits();
     let amount = store.unary(x, a).min(lacks(store, k));
     if amount > 0 {
         store.lift(x, amount);
@@ -125,7 +125,7 @@ fn project_at(store: &mut Store<'_>, k: u64, f: u32, a: u32)
     requires none { unary store.old.network (history store.old) (variable_at store.old.network f 0) a ≡ pos 0 }
     ensures { IsProjected store.old store.new k f a }
 {
-    store.network().limits();
+    store.network().law_limits();
     let amount = amount_of(store, k, f, a);
     if amount > 0 {
         store.project(f, 0, a, amount);

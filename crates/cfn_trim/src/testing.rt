@@ -57,7 +57,7 @@ fn can_cut_tuple(store: &Store<'_>, threshold: u64, f: u32, cell: u32) -> bool
     ensures { result ≡ true → CanCutTuple store.now.network (history store.now) threshold f cell }
 {
     let network = store.network();
-    network.limits();
+    network.law_limits();
     if network.scope(f).len() != 2 {
         return false;
     }

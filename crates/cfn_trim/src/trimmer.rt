@@ -12,7 +12,7 @@ ghost use Rattle.cfn_trim.specs.Trimming.{IsBegin, AreSome, IsBeside};
 use crate::end::{closes, emptied};
 use crate::needs::Needs;
 use crate::run::run;
-use crate::smallness::block_stays_tame;
+use crate::smallness::law_block_stays_tame;
 use cfn_net::Network;
 use cfn_proof::Block;
 use cfn_store::{Mark, Store};
@@ -95,7 +95,7 @@ impl<'n> Trimmer<'n> {
         ensures beside { IsBeside store.old store.new }
         ensures same { self.new ≡ self.old }
     {
-        block_stays_tame(store);
+        law_block_stays_tame(store);
         let whole = store.block(alloc)?;
         if store.block_len() < FEWEST_STEPS {
             return Ok(whole);
@@ -108,7 +108,7 @@ impl<'n> Trimmer<'n> {
         if !run(store, &whole, &mut self.chosen, threshold) || !closes(store, threshold, empty) {
             return Ok(whole);
         }
-        block_stays_tame(store);
+        law_block_stays_tame(store);
         store.block(alloc)
     }
 

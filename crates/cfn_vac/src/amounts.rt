@@ -19,7 +19,7 @@ pub(crate) fn first_amount(store: &Store<'_>, threshold: u64) -> u64
 
 /// The greatest unary cost of a live value, or 0.
 fn greatest_unary(store: &Store<'_>) -> u64 {
-    store.network().limits();
+    store.network().law_limits();
     let mut greatest = 0;
     for x in 0..store.network().variables() {
         for value in store.live(x) {

@@ -123,7 +123,7 @@ impl<'n> Plan<'n> {
         ensures ok { OnOk result (self.new.steps ≡ Extend f place value amount ∷ self.old.steps) }
         ensures err { OnErr result (self.new.steps ≡ self.old.steps) }
     {
-        self.network.limits();
+        self.network.law_limits();
         let x = self.network.scope(f)[place as usize];
         self.steps.push(Step::Extend {
             function: f,
@@ -165,7 +165,7 @@ fn forget_one(network: &Network, wants: &mut Rows<u64>, step: Step)
     requires shape { HasShape network.now wants.old }
     ensures { (later : List Step) → AreOfSteps network.now (step ∷ later) wants.old → AreOfSteps network.now later wants.new }
 {
-    network.limits();
+    network.law_limits();
     match step {
         Step::Extend {
             function,

@@ -12,7 +12,7 @@ use cfn_store::Store;
 pub fn count_values(network: &Network) -> usize
     ensures { result ≡ value_count network.now }
 {
-    network.limits();
+    network.law_limits();
     let mut count = 0;
     for x in 0..network.variables() {
         count += network.size(x) as usize;

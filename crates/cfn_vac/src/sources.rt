@@ -82,7 +82,7 @@ fn gather_all(
     ensures enough { OnOk result (CanProject plan.old.network (history store.new) target.function target.place target.value q) }
     ensures grown { HasGrown store.old store.new }
 {
-    store.network().limits();
+    store.network().law_limits();
     while let Some(number) = cheap(store, target, q) {
         let end = earlier.len() as u64;
         match earliest(store.network(), positions, target, number, end) {
@@ -109,7 +109,7 @@ fn cut(
     ensures cut { OnOk result (store.new ≡ with_step store.old (CutValue (variable_at plan.old.network target.function source.place) source.value)) }
     ensures same { OnErr result (store.new ≡ store.old) }
 {
-    store.network().limits();
+    store.network().law_limits();
     plan.extend(target.function, source.place, source.value, target.amount)?;
     let x = store.network().scope(target.function)[source.place as usize];
     store.cut_value(x, source.value);
@@ -145,7 +145,7 @@ fn earliest(
         → MatchOption result (NoneBefore network.now positions.now target.function target.place end tuple)
         (IsBefore network.now positions.now target.function target.place end tuple) }
 {
-    network.limits();
+    network.law_limits();
     let mut first = end;
     let mut found = None;
     let scope = network.scope(target.function);

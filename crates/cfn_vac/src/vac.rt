@@ -272,7 +272,7 @@ impl<'n> RootVac<'n> {
         ensures closed { result ≡ Attempt.Closed → self.new ≡ self.old }
         ensures either { (result ≡ Banned) ⊎ (result ≡ Attempt.Closed) }
     {
-        self.network.limits();
+        self.network.law_limits();
         match step {
             Step::Extend {
                 function,

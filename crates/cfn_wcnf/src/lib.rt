@@ -16,5 +16,5 @@ mod reading;
 mod tokens;
 
 pub use fault::{ReadFault, Unread};
-pub use laws::falsified_weight;
+pub use laws::law_falsified_weight;
 pub use reading::read;

@@ -55,7 +55,7 @@ fn clause(tokens: &mut Tokens<'_>, builder: &mut Builder) -> Result<(), WordFaul
     ensures { WordGives (λ _. (builder.new, tokens.new)) result (clause_onto builder.old tokens.old) }
 {
     let weight = tokens.natural(Field::Cost)?;
-    builder.network().limits();
+    builder.network().law_limits();
     let mut clause = Clause::new(builder.network().variables());
     literals(tokens, &mut clause, builder.cells_so_far())?;
     clause.add_to(builder, weight)?;

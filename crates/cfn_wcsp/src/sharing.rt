@@ -51,7 +51,7 @@ fn is_shared(scope: &Scope<'_>, network: &Draft, shared: &[u32], arity: i64, num
     if arity < 0 || number > shared.len() as u64 {
         return false;
     }
-    network.limits();
+    network.law_limits();
     let earlier = network.scope(shared[number as usize - 1]);
     same_sizes(network.sizes(), earlier, scope.variables())
 }

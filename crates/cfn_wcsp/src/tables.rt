@@ -14,7 +14,7 @@ use crate::field::Field;
 use crate::numerals::{integer, natural, variable};
 use crate::scope::Scope;
 use crate::sharing::count;
-use cfn_net::{Builder, listing_law};
+use cfn_net::{Builder, law_listing};
 use cfn_words::Words;
 
 /// So many more variables of a scope. Memory is taken as they come.
@@ -99,7 +99,7 @@ pub(crate) fn table(
         return Ok(());
     }
     builder.begin(scope.variables(), default)?;
-    listing_law();
+    law_listing();
     listings(words, scope, builder, number)
 }
 
@@ -125,7 +125,7 @@ pub(crate) fn function(
     let arity = integer(words)?.0;
     scope.clear();
     variables(words, scope, arity.unsigned_abs())?;
-    builder.network().limits();
+    builder.network().law_limits();
     let cells = builder.cells_so_far() + u64::from(scope.cells());
     let default = natural(words, Field::Default { cells })?;
     table(words, scope, builder, shared.as_slice(), arity, default)?;

@@ -52,7 +52,7 @@ fn count(network: &Network, f: u32) -> u32
     requires { f < length network.now.functions }
     ensures { result ≡ length (listed (function_at network.now f)) }
 {
-    network.limits();
+    network.law_limits();
     let mut count = 0;
     for cell in 0..network.cells(f) {
         if network.entry(f, cell) != network.default(f) {
@@ -74,7 +74,7 @@ fn add_cells<D: Desk>(
         Adds (D.outside desk.old) into.old (text (map (cell_words network.now.sizes function) (listed function)))
         result (D.outside desk.new) into.new }
 {
-    network.limits();
+    network.law_limits();
     for cell in 0..network.cells(f) {
         add_cell(into, network, f, cell, desk)?;
     }
@@ -94,7 +94,7 @@ fn add_cell<D: Desk>(
     ensures { Adds (D.outside desk.old) into.old
         (text (cell_lines network.now.sizes (function_at network.now f) cell)) result (D.outside desk.new) into.new }
 {
-    network.limits();
+    network.law_limits();
     let entry = network.entry(f, cell);
     if entry == network.default(f) {
         return Ok(());
@@ -125,7 +125,7 @@ fn add_tuple<D: Desk>(
     ensures { Adds (D.outside desk.old) into.old (spaced (tuple_of (dims network.now.sizes scope.now) number)) result
         (D.outside desk.new) into.new }
 {
-    network.limits();
+    network.law_limits();
     let mut rest = number;
     let mut behind = tuples;
     for x in scope {

@@ -13,4 +13,4 @@ mod function;
 mod network;
 mod number;
 
-pub use network::{reads_back, write};
+pub use network::{law_reads_back, write};

@@ -26,7 +26,7 @@ pub fn write<D: Desk>(network: &Network, desk: &mut D) -> Result<(), Failed>
 }
 
 /// Nothing: its contract is the law that the canonical text of a network reads as that same network.
-pub fn reads_back()
+pub fn law_reads_back()
     ensures { ReadsBack }
 {}
 
@@ -36,7 +36,7 @@ fn add_network<D: Desk>(into: &mut Line, network: &Network, desk: &mut D) -> Res
         (D.outside desk.new) into.new }
 {
     add_head(into, network, desk)?;
-    network.limits();
+    network.law_limits();
     add_sizes(into, network.sizes(), desk)?;
     add_functions(into, network, desk)
 }

@@ -35,7 +35,7 @@ fn judge<D: Desk>(alloc: Global, network: &Network, text: &[u8], desk: &mut D) -
     ensures ends { JudgesBest network.now text.now (D.outside desk.old).calls (D.outside desk.new).calls result }
     ensures files { (D.outside desk.new).files ≡ (D.outside desk.old).files }
 {
-    network.limits();
+    network.law_limits();
     match check_best(alloc, network, text) {
         Ok(BestCheck::Verified { lower, count }) => {
             ending(

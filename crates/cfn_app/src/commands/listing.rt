@@ -11,7 +11,7 @@ ghost use Rattle.cfn_app.specs.Runs.Listing.{Lists, ListsBest, PromisesList, lis
 
 use crate::loading::{load_bytes, read_bytes};
 use crate::status::{Status, ending};
-use cfn_best::laws::good_lists;
+use cfn_best::laws::law_good_lists;
 use cfn_cli::commands::KBestArguments;
 use cfn_clock::{Deadline, Halt};
 use cfn_desk::{Desk, Failed};
@@ -88,14 +88,14 @@ fn list_best<H: Halt>(
     requires halt { H.limited halt.now ≡ is_some ask.now.seconds }
     ensures { IfOk result (λ best. PromisesList network.now (spoken_k_best ask.now) best.spent (list_certificate_of best.certificate) best.word) }
 {
-    network.limits();
-    good_lists();
+    network.law_limits();
+    law_good_lists();
     let limits = Limits {
         count: usize::from(ask.count),
         budget: ask.budget,
     };
     let best = kbest(alloc, network, limits, halt)?;
-    best.certificate.spelled();
+    best.certificate.law_spelled();
     Ok(best)
 }
 

@@ -70,7 +70,7 @@ fn take_all<D: Desk>(
     ensures untaken { IfErr result (λ status. NotAllTaken network.now (map (λ name. string_bytes name) names.now) (D.outside desk.old) (D.outside desk.new).calls status) }
     ensures files { (D.outside desk.new).files ≡ (D.outside desk.old).files }
 {
-    network.limits();
+    network.law_limits();
     let mut found = take(alloc, network, names[0].as_str(), 1, desk)?;
     for i in 1..names.len() {
         found = take_next(alloc, network, found, names[i].as_str(), i as u64 + 1, desk)?;
@@ -116,7 +116,7 @@ fn take<D: Desk>(
     ensures untaken { IfErr result (λ status. NotTaken network.now name.now number (D.outside desk.old) (D.outside desk.new).calls status) }
     ensures files { (D.outside desk.new).files ≡ (D.outside desk.old).files }
 {
-    network.limits();
+    network.law_limits();
     let text = load_bytes(alloc, name, desk)?;
     match judge(alloc, network, &text) {
         Ok(Judged::Good(found)) => Ok(found),

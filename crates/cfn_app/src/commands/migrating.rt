@@ -47,7 +47,7 @@ fn judge_and_write<D: Desk>(
     requires { IsIdle (D.outside desk.old).calls }
     ensures { Upgrades network.now text.now out.now (D.outside desk.old) (D.outside desk.new) result }
 {
-    network.limits();
+    network.law_limits();
     match check(alloc, network, text) {
         Ok(Check::Verified { .. }) => write_upgraded(text, out, desk),
         Ok(Check::Refused { kind, line }) => {

@@ -13,7 +13,7 @@ use crate::status::{Status, ending};
 use cfn_cli::commands::NormalArguments;
 use cfn_desk::Desk;
 use cfn_net::Network;
-use cfn_wcspwrite::reads_back;
+use cfn_wcspwrite::law_reads_back;
 use std::alloc::Global;
 
 /// Loads and reads the file that is asked for and says its network's canonical text, or the first fault.
@@ -38,7 +38,7 @@ fn say_normal<D: Desk>(network: &Network, desk: &mut D) -> Status
     ensures again { Reads (canonical network.now) network.now }
     ensures files { (D.outside desk.new).files ≡ (D.outside desk.old).files }
 {
-    network.limits();
-    reads_back();
+    network.law_limits();
+    law_reads_back();
     ending(cfn_wcspwrite::write(network, desk), Status::Done)
 }

@@ -107,7 +107,7 @@ fn open_and_record<R: Threads + Wait + Sync, D: Desk, G: Gate + Sync, H: Halt + 
     if desk.open_out(solve.certificate.as_str()).is_err() {
         return ending(cfn_report::write_write_fault(desk), Status::Fault);
     }
-    network.limits();
+    network.law_limits();
     let workers = u32::from(solve.workers);
     match search(
         rt,
@@ -122,7 +122,7 @@ fn open_and_record<R: Threads + Wait + Sync, D: Desk, G: Gate + Sync, H: Halt + 
     ) {
         Ok(found) => match &found.history {
             Some(history) => {
-                cfn_recordwrite::spelled(history, &found.outcome.certificate);
+                cfn_recordwrite::law_spelled(history, &found.outcome.certificate);
                 put_both(history, &found, workers, ask.recording.as_str(), desk)
             }
             None => unreachable!(),

@@ -52,7 +52,7 @@ fn run_again<D: Desk>(
     requires idle { IsIdle (D.outside desk.old).calls }
     ensures { RunsAgain network.now text.now out.now (D.outside desk.old) (D.outside desk.new) result }
 {
-    network.limits();
+    network.law_limits();
     match replay(alloc, network, text) {
         Replay::Certificate(bytes) => write_again(&bytes, out, desk),
         Replay::Refused { kind, line } => ending(

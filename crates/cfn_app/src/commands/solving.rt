@@ -95,7 +95,7 @@ pub(crate) fn open_and_search<R: Threads + Wait + Sync, D: Desk, G: Gate + Sync,
     if desk.open_out(ask.certificate.as_str()).is_err() {
         return ending(cfn_report::write_write_fault(desk), Status::Fault);
     }
-    network.limits();
+    network.law_limits();
     let workers = u32::from(ask.workers);
     match search(
         rt,

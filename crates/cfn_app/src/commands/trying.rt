@@ -9,7 +9,7 @@ use crate::searching::search;
 use crate::status::{Status, ending};
 use cfn_cli::commands::TrialArguments;
 use cfn_desk::Desk;
-use cfn_gen::{allowing_law, instance};
+use cfn_gen::{instance, law_allowing};
 use cfn_model::GREATEST;
 use cfn_net::Network;
 use cfn_outcome::Stop;
@@ -38,7 +38,7 @@ pub fn try_drawn<R: Threads + Wait + Sync, D: Desk, G: Gate + Sync>(
     let Ok(network) = instance(alloc, ask.seed, ask.size) else {
         return ending(cfn_report::write_memory_fault(desk), Status::NoMemory);
     };
-    allowing_law();
+    law_allowing();
     let workers = u32::from(ask.workers);
     let Ok(least) = least_cost(rt, alloc, &network, workers, gate) else {
         return ending(cfn_report::write_memory_fault(desk), Status::NoMemory);
@@ -64,7 +64,7 @@ fn least_cost<R: Threads + Wait + Sync, G: Gate + Sync>(
     requires few { workers ≤ 64 }
     ensures { IfOk result (λ least. Least network.now least) }
 {
-    network.limits();
+    network.law_limits();
     let begin = Begin::fresh(alloc, network, false)?;
     let found = search(
         rt, alloc, network, begin, workers, GREATEST, false, gate, &Never,

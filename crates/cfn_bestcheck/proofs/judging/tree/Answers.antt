@@ -27,4 +27,4 @@ returns-clause-ok c =
     let at = subst (λ (ps : List (List Event)). At P c.nodes.new.lines (AtNodes claim c.nodes.new.walk.least ps)) c.in_ok-nodes.ensures.over tree.at in
     let over = c.in_ok-end.ensures.right claim c.nodes.new.walk.least at in
     subst (λ (x : List ℕ). IsVerified P x c.args.opening.lower (length c.args.list.now)) (c.in_ok-end.ensures.text ∙ c.in_ok-nodes.ensures.text)
-    (all_verified P c.end.new.lines c.args.opening c.args.list.now c.nodes.new.walk.least over c.in_ok-end.ensures.over c.limits.ensures (rw c.least.ensures at c.if-least-opening.false))
+    (all_verified P c.end.new.lines c.args.opening c.args.list.now c.nodes.new.walk.least over c.in_ok-end.ensures.over c.law_limits.ensures (rw c.least.ensures at c.if-least-opening.false))

@@ -7,13 +7,13 @@ use Rattle.cfn_bestwrite.proofs.nodes.put_tree.Goals as goal
 
 pub loop-next-init : goal.loop-next-init
 loop-next-init g c = record {
-  there = c.linked.ensures.linked.some;
-  left = rw (ap text_of (tree_in_order c.args.tree.now c.args.numbers.now c.linked.ensures.linked)) (begin _ _ _ c.requires);
+  there = c.law_linked.ensures.linked.some;
+  left = rw (ap text_of (tree_in_order c.args.tree.now c.args.numbers.now c.law_linked.ensures.linked)) (begin _ _ _ c.requires);
 }
 
 pub returns-in_err-put_node : goal.returns-in_err-put_node
 returns-in_err-put_node g c =
-    let own = own_first c.args.tree.now c.in-Some.id.number c.linked.ensures.linked (rw c.in-Some.is at c.loop-next.invariant.there) in
+    let own = own_first c.args.tree.now c.in-Some.id.number c.law_linked.ensures.linked (rw c.in-Some.is at c.loop-next.invariant.there) in
     halt _ c.from_residual.ensures.0 _ (text_left c.args.tree.now c.args.numbers.now _ c.in-Some.id own.0 c.in-Some.is own.1) c.loop-next.invariant.left (rw (c.node.ensures, c.number_of.ensures) at c.in_err-put_node.ensures)
 
 pub loop-next-preserved : goal.loop-next-preserved

@@ -31,7 +31,7 @@ returns-then-least-opening-clause-stop c =
     let ls = opening_lines version P c.args.opening.lower c.args.opening.best done.0.values ++ done.0.nodes in
     let right = subst (λ ps. Right P c.nodes.new.reader ls (AtNodes version ps)) done.1 done.0.right in
     let all = rw c.in_ok-nodes.ensures.text at (c.in_ok-end.ensures.right P ls version right) in
-    (tree_ends P c.nodes.new.reader c.nodes.new.walk c.args.reader.now.text c.args.opening.lower c.args.opening.best c.limits.ensures done.0 all).refused (rw c.least.ensures at c.if-least-opening.true)
+    (tree_ends P c.nodes.new.reader c.nodes.new.walk c.args.reader.now.text c.args.opening.lower c.args.opening.best c.law_limits.ensures done.0 all).refused (rw c.least.ensures at c.if-least-opening.true)
 
 pub returns-clause-ok : goal.returns-clause-ok
 returns-clause-ok c =
@@ -42,4 +42,4 @@ returns-clause-ok c =
     let ls = opening_lines version P c.args.opening.lower c.args.opening.best done.0.values ++ done.0.nodes in
     let right = subst (λ ps. Right P c.nodes.new.reader ls (AtNodes version ps)) done.1 done.0.right in
     let all = rw c.in_ok-nodes.ensures.text at (c.in_ok-end.ensures.right P ls version right) in
-    (tree_ends P c.nodes.new.reader c.nodes.new.walk c.args.reader.now.text c.args.opening.lower c.args.opening.best c.limits.ensures done.0 all).verified (rw c.least.ensures at c.if-least-opening.false)
+    (tree_ends P c.nodes.new.reader c.nodes.new.walk c.args.reader.now.text c.args.opening.lower c.args.opening.best c.law_limits.ensures done.0 all).verified (rw c.least.ensures at c.if-least-opening.false)

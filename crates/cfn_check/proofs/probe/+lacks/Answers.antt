@@ -16,7 +16,7 @@ returns-then-left-eq0 t c =
     let spot = c.in-Some.spot in
     let opened = c.in-Some.ensures in
     let end = lacks_end P c.args.ledger.now.history asked spot (omega (arith, c.if-left-eq0.true, ap length c.scope-scope.ensures)) in
-    let low = rw (bound_same P asked.function spot c.limits.ensures c.requires.asked.function opened.is) at c.is_low.ensures in (
+    let low = rw (bound_same P asked.function spot c.law_limits.ensures c.requires.asked.function opened.is) at c.is_low.ensures in (
       λ yes. opened.same.0 (end.1 (low.0 yes)),
       λ lack. low.1 (end.0 (opened.same.1 lack)),
     )
@@ -28,7 +28,7 @@ size-value-end-requires t c =
     let spot = c.in-Some.spot in
     let l : spot.place < arity P asked.function = omega (arith, c.if-left-eq0.false, ap length c.scope-scope.ensures) in
     let at = ap (λ (xs : List ℕ). get_or xs spot.place 0) c.scope-scope.ensures in
-    let there = (c.limits.ensures.functions asked.function c.requires.asked.function).variables spot.place l in
+    let there = (c.law_limits.ensures.functions asked.function c.requires.asked.function).variables spot.place l in
     omega (arith, at, there)
 
 pub returns-then-lacks : goal.returns-then-lacks

@@ -15,7 +15,7 @@ returns-then-total-eq0 c =
     let y = ap (λ l. slice_index l pair.other) c.scope.ensures ∙ ap (λ P. variable_at P pair.function pair.other) c.network-2.ensures in
     let live = ((subst (λ x. AreLive (sets_of s) x values) y c.live-other-items.ensures).live c.loop-other.other-index c.loop-other-test.true).1 in
     let cost = subst (λ x. IsTrue (is_live (history s) x b) → pos c.unary.result ≡ unary s.network (history s) x b) y c.unary.ensures live in
-    least_zero s.network (history s) pair c.args.value b (subst IsNetwork c.network.ensures c.limits.ensures) c.exact.ensures c.requires.pair
+    least_zero s.network (history s) pair c.args.value b (subst IsNetwork c.network.ensures c.law_limits.ensures) c.law_exact.ensures c.requires.pair
     (subst (λ n. IsTotalBetween s.network (history s) pair c.args.value b n) c.if-total-eq0.true (c.with_unary-total.ensures s.network (history s) pair c.args.value b cost c.least_between-found.ensures))
 
 pub loop-other-preserved : goal.loop-other-preserved
@@ -31,5 +31,5 @@ pub returns : goal.returns
 returns c =
     let s = c.args.store.now in let pair = c.args.pair in let values = c.live-other-items.result.now in
     let y = ap (λ l. slice_index l pair.other) c.scope.ensures ∙ ap (λ P. variable_at P pair.function pair.other) c.network-2.ensures in
-    least_all s pair c.args.value values c.loop-other.other-index c.loop-other.least (subst IsNetwork c.network.ensures c.limits.ensures) c.requires.pair
+    least_all s pair c.args.value values c.loop-other.other-index c.loop-other.least (subst IsNetwork c.network.ensures c.law_limits.ensures) c.requires.pair
     (subst (λ x. AreLive (sets_of s) x values) y c.live-other-items.ensures) c.loop-other-test.false c.loop-other.invariant

@@ -22,7 +22,7 @@ returns-in_err-project-clause-does c =
 pub loop-value-preserved : goal.loop-value-preserved
 loop-value-preserved c =
     let s = c.args.store.now in let now = c.loop-value.store in let n = c.loop-value.value in let pair = c.args.pair in let moves = c.args.moves.now in let k = c.args.limits.threshold in
-    let v = c.loop-value.invariant.collecting in let same = v.passing.adds.network in let net = subst IsNetwork c.network.ensures c.limits.ensures in
+    let v = c.loop-value.invariant.collecting in let same = v.passing.adds.network in let net = subst IsNetwork c.network.ensures c.law_limits.ensures in
     let x = ap (λ l. slice_index l pair.place) c.scope.ensures ∙ ap (λ P. variable_at P pair.function pair.place) c.network-2.ensures in
     let size = c.size-value-end.ensures ∙ ap (λ P. slice_index P.sizes (slice_index c.scope.result.now pair.place)) c.network-3.ensures ∙ ap (slice_index s.network.sizes) x in
     let place = place_of s.network pair.function pair.place n c.requires.pair.function c.requires.pair.place (omega (arith, c.loop-value-test.true, size)) in
@@ -75,4 +75,4 @@ project-requires-clause-fits c =
     let x = ap (λ l. slice_index l pair.place) c.scope.ensures ∙ ap (λ P. variable_at P pair.function pair.place) c.network-2.ensures in
     let size = c.size-value-end.ensures ∙ ap (λ P. slice_index P.sizes (slice_index c.scope.result.now pair.place)) c.network-3.ensures ∙ ap (slice_index s.network.sizes) x in
     let place = place_of s.network pair.function pair.place c.loop-value.value c.requires.pair.function c.requires.pair.place (omega (arith, c.loop-value-test.true, size)) in
-    fits_project now c.args.limits pair c.args.moves.now c.loop-value.value (subst IsNetwork (sym same) (subst IsNetwork c.network.ensures c.limits.ensures)) v.passing.goes (subst (λ P. IsPlace P pair.function pair.place c.loop-value.value) (sym same) place) v.lent v.within c.if-amount-gt0.true
+    fits_project now c.args.limits pair c.args.moves.now c.loop-value.value (subst IsNetwork (sym same) (subst IsNetwork c.network.ensures c.law_limits.ensures)) v.passing.goes (subst (λ P. IsPlace P pair.function pair.place c.loop-value.value) (sym same) place) v.lent v.within c.if-amount-gt0.true

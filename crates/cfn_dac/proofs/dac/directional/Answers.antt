@@ -18,7 +18,7 @@ returns-clause-does c = does_then c.args.store.now c.full_supports.new.store c.c
 pub returns-clause-gains : goal.returns-clause-gains
 returns-clause-gains c =
     let ok = c.in_ok-full_supports.ensures in let pair = c.in-Some.pair in
-    gains_closed c.args.store.now c.full_supports.new.store c.cut_costly.new.store c.args.limits c.cut_costly.result c.lacking-lacks.result _ c.args.f pair (subst IsNetwork c.network.ensures c.limits.ensures) ok.does.adds.network c.lacking-lacks.ensures c.in-Some.ensures ok.shifts
+    gains_closed c.args.store.now c.full_supports.new.store c.cut_costly.new.store c.args.limits c.cut_costly.result c.lacking-lacks.result _ c.args.f pair (subst IsNetwork c.network.ensures c.law_limits.ensures) ok.does.adds.network c.lacking-lacks.ensures c.in-Some.ensures ok.shifts
     (ap (λ l. slice_index l pair.place) c.scope.ensures ∙ ap (λ P. variable_at P c.args.f pair.place) c.network-2.ensures) ok.closed c.cut_costly.ensures.gains c.cut_costly.ensures.closes
 
 pub returns-clause-directional : goal.returns-clause-directional
@@ -26,5 +26,5 @@ returns-clause-directional c =
     let s = c.args.store.now in let k = c.args.limits.threshold in let f = c.args.f in let pair = c.in-Some.pair in let ok = c.in_ok-full_supports.ensures in
     let at = ap (λ l. slice_index l pair.place) c.scope.ensures ∙ ap (λ P. variable_at P f pair.place) (c.network-2.ensures ∙ ok.does.adds.network) ∙ ap (λ g. variable_at s.network g pair.place) (sym c.in-Some.ensures.function) in
     shows_after s c.full_supports.new.store c.cut_costly.new.store c.args.limits c.cut_costly.result ok.does.adds c.cut_costly.ensures.does.adds ok.full c.cut_costly.ensures.below
-    (λ is full below. full_is_directional s.network (history s) k c.lacking-lacks.result f pair (subst IsNetwork c.network.ensures c.limits.ensures) c.lacking-lacks.ensures c.in-Some.ensures full
+    (λ is full below. full_is_directional s.network (history s) k c.lacking-lacks.result f pair (subst IsNetwork c.network.ensures c.law_limits.ensures) c.lacking-lacks.ensures c.in-Some.ensures full
     (below_at s c.full_supports.new.store k _ _ is at below))

@@ -9,7 +9,7 @@ use Rattle.cfn_dac.proofs.open.next_open.Goals as goal
 
 pub overflow_cast-place-end : goal.overflow_cast-place-end
 overflow_cast-place-end c =
-    let few = few_places c.args.store.now.network c.args.f (subst IsNetwork c.network.ensures c.limits.ensures) c.requires.function in
+    let few = few_places c.args.store.now.network c.args.f (subst IsNetwork c.network.ensures c.law_limits.ensures) c.requires.function in
     let n = ap length c.scope-scope.ensures in
     let m = ap (λ N. arity N c.args.f) c.network-2.ensures in
     omega (arith, few, n, m)

@@ -10,7 +10,7 @@ returns-in_default c = few_none c.args.store.now.network (history c.args.store.n
 
 pub overflow_add-place : goal.overflow_add-place
 overflow_add-place c =
-    let few = few_places c.args.store.now.network c.args.f (subst IsNetwork c.network.ensures c.limits.ensures) c.requires in
+    let few = few_places c.args.store.now.network c.args.f (subst IsNetwork c.network.ensures c.law_limits.ensures) c.requires in
     let one = c.in-Some.ensures.place in omega (arith, few, one)
 
 pub returns-in_default-next_open : goal.returns-in_default-next_open
@@ -18,7 +18,7 @@ returns-in_default-next_open c = few_one c.args.store.now.network (history c.arg
 
 pub overflow_add-other : goal.overflow_add-other
 overflow_add-other c =
-    let few = few_places c.args.store.now.network c.args.f (subst IsNetwork c.network.ensures c.limits.ensures) c.requires in
+    let few = few_places c.args.store.now.network c.args.f (subst IsNetwork c.network.ensures c.law_limits.ensures) c.requires in
     let one = c.in-Some-next_open.ensures.place in omega (arith, few, one)
 
 pub returns-in-Some-next_open-2 : goal.returns-in-Some-next_open-2

@@ -36,7 +36,7 @@ pub returns-clause-none : goal.returns-clause-none
 returns-clause-none c =
     let s = c.args.store.now in let pair = c.args.pair in
     let size = c.size-value-end.ensures ∙ ap (λ P. slice_index P.sizes c.of-view.result.first) c.network-2.ensures ∙ ap (slice_index s.network.sizes) c.of-view.ensures.first in
-    plan_none s.network (history s) pair c.args.alpha c.loop-value.moves c.loop-value.value c.loop-value.some (subst IsNetwork c.network.ensures c.limits.ensures) (omega (arith, c.loop-value-test.false, size)) c.loop-value.invariant.planned
+    plan_none s.network (history s) pair c.args.alpha c.loop-value.moves c.loop-value.value c.loop-value.some (subst IsNetwork c.network.ensures c.law_limits.ensures) (omega (arith, c.loop-value-test.false, size)) c.loop-value.invariant.planned
 
 pub returns-clause-held : goal.returns-clause-held
 returns-clause-held c =
@@ -48,4 +48,4 @@ pub returns-clause-reached : goal.returns-clause-reached
 returns-clause-reached c =
     let s = c.args.store.now in let pair = c.args.pair in
     let size = c.size-value-end.ensures ∙ ap (λ P. slice_index P.sizes c.of-view.result.first) c.network-2.ensures ∙ ap (slice_index s.network.sizes) c.of-view.ensures.first in
-    plan_reached s.network (history s) pair c.args.alpha c.loop-value.moves c.loop-value.value c.loop-value.some (subst IsNetwork c.network.ensures c.limits.ensures) (omega (arith, c.loop-value-test.false, size)) c.loop-value.invariant.planned
+    plan_reached s.network (history s) pair c.args.alpha c.loop-value.moves c.loop-value.value c.loop-value.some (subst IsNetwork c.network.ensures c.law_limits.ensures) (omega (arith, c.loop-value-test.false, size)) c.loop-value.invariant.planned

@@ -21,7 +21,7 @@ loop-first-preserved c =
           (w.share-is ∙ w.max-share.ensures)
       | else-amount-share w ↦
           subst (IsShareTo s.network (history s) pair moves c.args.value (n + 1)) (sym w.share-is)
-          (share_skip s.network (history s) pair moves c.args.value n c.loop-first.share c.exact.ensures c.requires.pair.function c.loop-first.invariant w.if-amount-share.false)
+          (share_skip s.network (history s) pair moves c.args.value n c.loop-first.share c.law_exact.ensures c.requires.pair.function c.loop-first.invariant w.if-amount-share.false)
     ]
 
 pub returns : goal.returns

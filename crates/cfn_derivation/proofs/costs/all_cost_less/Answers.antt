@@ -53,4 +53,4 @@ pub returns : goal.returns
 returns c = λ yes.
     (let s = c.args.store.now in let f = c.args.f in let i = c.args.place in let values = c.live-value-items.result.now in
     let x = ap (λ l. slice_index l i) c.scope.ensures ∙ ap (λ P. variable_at P f i) c.network-2.ensures in
-    all_listed s f i c.args.q values c.loop-value.value-index (subst IsNetwork c.network.ensures c.limits.ensures) c.requires.place (subst (λ y. AreLive (sets_of s) y values) x c.live-value-items.ensures) c.loop-value-test.false c.loop-value.invariant)
+    all_listed s f i c.args.q values c.loop-value.value-index (subst IsNetwork c.network.ensures c.law_limits.ensures) c.requires.place (subst (λ y. AreLive (sets_of s) y values) x c.live-value-items.ensures) c.loop-value-test.false c.loop-value.invariant)

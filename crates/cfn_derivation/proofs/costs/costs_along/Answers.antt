@@ -46,7 +46,7 @@ pub returns-clause-yes : goal.returns-clause-yes
 returns-clause-yes c = λ yes.
     (let s = c.args.store.now in let f = c.args.f in let j = 1 - c.args.place in
     let y = c.requires.other in
-    let net = subst IsNetwork c.network.ensures c.limits.ensures in
+    let net = subst IsNetwork c.network.ensures c.law_limits.ensures in
     let place : j < arity s.network f = (let two = c.requires.two in omega (arith, two)) in
     cost_all s f c.args.place c.args.value j c.args.q c.loop-other.other-index c.live-other-items.result.now place ((net.functions f c.requires.place.function).variables j place)
     (subst (λ x. AreLive (sets_of s) x c.live-other-items.result.now) y c.live-other-items.ensures) c.loop-other-test.false c.loop-other.invariant)

@@ -11,7 +11,7 @@ returns-then-not-takes_part-clause-goes c = goes_none c.args.q (bans_of c.args.b
 
 pub overflow_cast-place-end : goal.overflow_cast-place-end
 overflow_cast-place-end c =
-    let few = few_places c.args.store.now.network c.args.f (subst IsNetwork c.network-network.ensures c.limits.ensures) c.requires.function in
+    let few = few_places c.args.store.now.network c.args.f (subst IsNetwork c.network-network.ensures c.law_limits.ensures) c.requires.function in
     let same = ap length (c.scope.ensures ∙ ap (λ P. scope_at P c.args.f) c.network-network.ensures) in
     omega (arith, few, same)
 

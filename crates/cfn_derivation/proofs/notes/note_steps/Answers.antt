@@ -12,7 +12,7 @@ pub touch-requires-clause-range : goal.touch-requires-clause-range
 touch-requires-clause-range c =
     let s = c.args.store.now in
     let there = c.loop-i-test.true in
-    let range = (exact_here s.network (history s) c.exact.ensures).range in
+    let range = (exact_here s.network (history s) c.law_exact.ensures).range in
     subst (λ P. InRange P c.step-step.result) (sym c.network-network.ensures)
     (subst (InRange s.network) (c.step-step.ensures c.step-step.result) (step_in_range s.network s.block s.base c.loop-i.i c.step-step.result (omega (arith, there, c.block_len-i-end.ensures)) range))
 
@@ -20,7 +20,7 @@ pub raise-requires-clause-range : goal.raise-requires-clause-range
 raise-requires-clause-range c =
     let s = c.args.store.now in
     let there = c.loop-i-test.true in
-    let range = (exact_here s.network (history s) c.exact.ensures).range in
+    let range = (exact_here s.network (history s) c.law_exact.ensures).range in
     subst (λ P. InRange P c.step-step.result) (sym c.network-network.ensures)
     (subst (InRange s.network) (c.step-step.ensures c.step-step.result) (step_in_range s.network s.block s.base c.loop-i.i c.step-step.result (omega (arith, there, c.block_len-i-end.ensures)) range))
 
@@ -29,7 +29,7 @@ loop-i-preserved c =
     let s = c.args.store.now in let i = c.loop-i.i in let step = c.step-step.result in
     let there : i < length s.block = (let t = c.loop-i-test.true in let e = c.block_len-i-end.ensures in omega (arith, t, e)) in
     let next = next_after s.block s.base i step there (c.step-step.ensures step) in
-    let debts = debts_after s.network s.block s.base i step there (c.step-step.ensures step) c.exact.ensures in
+    let debts = debts_after s.network s.block s.base i step there (c.step-step.ensures step) c.law_exact.ensures in
     let touches = subst (λ P. Grows (GoesArc P (Did step)) c.loop-i.touched c.touch.new.touched) c.network-network.ensures c.touch.ensures in
     let rises = subst (λ P. Grows (Rises P step) c.loop-i.costly c.raise.new.costly) c.network-network.ensures c.raise.ensures in
     record {

@@ -13,7 +13,7 @@ held_fits P Q held best same is priced = subst (λ (R : Network). Fits R.sizes b
 pub bounds-values-x : goal.bounds-values-x
 bounds-values-x c =
     let P = c.args.store.now.network in
-    let n = Fits-length P.sizes c.in-Some.values.now (held_fits P c.args.best.now.network c.args.best.now.held _ c.requires.best c.in-Some.ensures.some c.priced.ensures) in
+    let n = Fits-length P.sizes c.in-Some.values.now (held_fits P c.args.best.now.network c.args.best.now.held _ c.requires.best c.in-Some.ensures.some c.law_priced.ensures) in
     let l = c.requires.undecided.there in omega (arith, n, l)
 
 pub is_live-requires : goal.is_live-requires
@@ -21,7 +21,7 @@ is_live-requires c =
     let P = c.args.store.now.network in
     record {
       variable = c.requires.undecided.there;
-      value = Fits-at P.sizes c.in-Some.values.now c.args.x (held_fits P c.args.best.now.network c.args.best.now.held _ c.requires.best c.in-Some.ensures.some c.priced.ensures) c.requires.undecided.there;
+      value = Fits-at P.sizes c.in-Some.values.now c.args.x (held_fits P c.args.best.now.network c.args.best.now.held _ c.requires.best c.in-Some.ensures.some c.law_priced.ensures) c.requires.undecided.there;
     }
 
 pub returns-then-is_live-clause-choice : goal.returns-then-is_live-clause-choice
@@ -30,7 +30,7 @@ returns-then-is_live-clause-choice c =
     record {
       value = record {
         variable = c.requires.undecided.there;
-        value = Fits-at P.sizes c.in-Some.values.now c.args.x (held_fits P c.args.best.now.network c.args.best.now.held _ c.requires.best c.in-Some.ensures.some c.priced.ensures) c.requires.undecided.there;
+        value = Fits-at P.sizes c.in-Some.values.now c.args.x (held_fits P c.args.best.now.network c.args.best.now.held _ c.requires.best c.in-Some.ensures.some c.law_priced.ensures) c.requires.undecided.there;
       };
       live = sym c.is_live.ensures ∙ c.if-is_live.true;
     }

@@ -12,7 +12,7 @@ returns-in-Some-clause-existential c = λ same.
     let P = c.args.store.now.network in let h = history c.args.store.now in
     let arms = subst (λ N. AreArms N h c.args.x c.gather.new.self.pairs) (c.gather.ensures.network ∙ sym c.requires.network) c.gather.ensures.arms in
     let are = subst (AreArms P h c.args.x) (sym c.pairs.ensures) arms in
-    existential_of P h c.args.x c.pairs.result.now (subst IsNetwork c.network.ensures c.limits.ensures) are (c.in-Some.value, c.in-Some.ensures)
+    existential_of P h c.args.x c.pairs.result.now (subst IsNetwork c.network.ensures c.law_limits.ensures) are (c.in-Some.value, c.in-Some.ensures)
 
 pub returns-in-Some-clause-gains : goal.returns-in-Some-clause-gains
 returns-in-Some-clause-gains c = gained_none c.args.store.now
@@ -22,14 +22,14 @@ returns-in-Some-ask-clause-existential c =
     let P = c.args.store.now.network in let h = history c.args.store.now in
     let arms = subst (λ N. AreArms N h c.args.x c.gather.new.self.pairs) (c.gather.ensures.network ∙ sym c.requires.network) c.gather.ensures.arms in
     let are = subst (AreArms P h c.args.x) (sym c.pairs-in-Some-ask.ensures) arms in
-    on_ok c.raise.result (λ good same. existential_of P h c.args.x c.pairs-in-Some-ask.result.now (subst IsNetwork c.network.ensures c.limits.ensures) are (good same)) c.raise.ensures.good
+    on_ok c.raise.result (λ good same. existential_of P h c.args.x c.pairs-in-Some-ask.result.now (subst IsNetwork c.network.ensures c.law_limits.ensures) are (good same)) c.raise.ensures.good
 
 pub returns-in-None-clause-existential : goal.returns-in-None-clause-existential
 returns-in-None-clause-existential c = λ same.
     let P = c.args.store.now.network in let h = history c.args.store.now in
     let arms = subst (λ N. AreArms N h c.args.x c.gather.new.self.pairs) (c.gather.ensures.network ∙ sym c.requires.network) c.gather.ensures.arms in
     let are = subst (AreArms P h c.args.x) (sym c.pairs-2.ensures) arms in
-    existential_of P h c.args.x c.pairs-2.result.now (subst IsNetwork c.network.ensures c.limits.ensures) are c.in-None.ensures
+    existential_of P h c.args.x c.pairs-2.result.now (subst IsNetwork c.network.ensures c.law_limits.ensures) are c.in-None.ensures
 
 pub returns-in-None-clause-gains : goal.returns-in-None-clause-gains
 returns-in-None-clause-gains c = gained_none c.args.store.now

@@ -9,7 +9,7 @@ use Rattle.cfn_gain.proofs.supports.support_all.Goals as goal
 
 pub overflow_cast-place-end : goal.overflow_cast-place-end
 overflow_cast-place-end c =
-    let few = few_places c.args.store.now.network c.args.f (subst IsNetwork c.network.ensures c.limits.ensures) c.requires.function in
+    let few = few_places c.args.store.now.network c.args.f (subst IsNetwork c.network.ensures c.law_limits.ensures) c.requires.function in
     let same = ap length (c.scope.ensures ∙ ap (λ P. scope_at P c.args.f) c.network-2.ensures) in
     omega (arith, few, same)
 

@@ -20,7 +20,7 @@ loop-cell-preserved c =
       state = c.take-cost.ensures.state ∙ ap next c.loop-cell.invariant.state ∙ sym (after_more s i);
       built =
           c.list.ensures
-          ∙ listed c.listing_law.ensures P c.loop-cell.builder s i c.take-cost.result scope (zeros_of P scope) c.loop-cell.invariant.built
+          ∙ listed c.law_listing.ensures P c.loop-cell.builder s i c.take-cost.result scope (zeros_of P scope) c.loop-cell.invariant.built
           (omega (arith, zeros_length P scope c.args.tuples c.requires.tuples)) (c.take-cost.ensures.draw ∙ ap (λ t. digit (next t)) c.loop-cell.invariant.state) (omega (arith, c.take-cost.ensures.small, c.requires.upper));
     }
 

@@ -10,5 +10,5 @@ returns c =
     let sources = c.loop-i.walk.sources in
     let end : length sources.items ≤ c.loop-i.i = omega (arith, c.loop-i-test.false, c.len.ensures, sources.ok.0) in
     ap tree_of c.in_ok-share.ensures
-    ∙ walk_ends c.in_ok-pair.pair.first.tree.now c.in_ok-pair.pair.second.tree.now c.loop-i.walk.tree sources.items c.loop-i.i c.linked.ensures.linked end c.loop-i.invariant
+    ∙ walk_ends c.in_ok-pair.pair.first.tree.now c.in_ok-pair.pair.second.tree.now c.loop-i.walk.tree sources.items c.loop-i.i c.law_linked.ensures.linked end c.loop-i.invariant
     ∙ ap₂ (λ a b. join same (tree_of a) (tree_of b)) c.in_ok-pair.ensures.first c.in_ok-pair.ensures.second

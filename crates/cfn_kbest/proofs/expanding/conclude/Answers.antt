@@ -45,7 +45,7 @@ returns-then-cost-threshold-clause-expanded c =
     let price = c.value-cost.ensures.value ∙ c.cost.ensures.value ∙ ap (cost P) (c.deref.ensures.value ∙ items) in
     let reached = c.shut.ensures.closed in
     subst (λ v. Leaves P old.store.base k block (record { cost = c.value-cost.result; values = v })) (sym items)
-    (is_found P old.store s k c.value-cost.result block values c.requires.of.network (goes_by_shifts old.store s k c.shut.ensures.shifts) c.requires.runs c.block_stays_tame.ensures c.in_ok-block.ensures
+    (is_found P old.store s k c.value-cost.result block values c.requires.of.network (goes_by_shifts old.store s k c.shut.ensures.shifts) c.requires.runs c.law_block_stays_tame.ensures c.in_ok-block.ensures
     (let m = c.min-reached.ensures in let less = c.if-cost-threshold.true in omega (arith, m, reached, less)) price c.if-cost-threshold.true c.requires.threshold
     (taken_fit P old.store values c.requires.of.network len c.take_values.ensures.each) (only_choices old.store values c.requires.decided c.take_values.ensures.each))
 
@@ -54,5 +54,5 @@ returns-else-cost-threshold-clause-expanded c =
     let old = c.args.parts.now in
     let s = c.shut.new.store in
     let k = c.args.threshold in
-    is_closed c.args.network.now old.store s k c.in_ok-block.block c.requires.of.network (goes_by_shifts old.store s k c.shut.ensures.shifts) c.requires.runs c.block_stays_tame.ensures c.in_ok-block.ensures
+    is_closed c.args.network.now old.store s k c.in_ok-block.block c.requires.of.network (goes_by_shifts old.store s k c.shut.ensures.shifts) c.requires.runs c.law_block_stays_tame.ensures c.in_ok-block.ensures
     (let m = c.min-reached.ensures in let reached = c.shut.ensures.closed in let more = c.if-cost-threshold.false in omega (arith, m, reached, more))

@@ -30,7 +30,7 @@ returns-clause-at c =
     let before : Before r.nodes i path = path_is c.args.network.now r i path c.requires.ranked c.requires.waits (subst (λ n. IsPathOf n i path) c.tree.ensures c.in_ok-path.ensures) in
     record {
       waits = c.requires.waits;
-      only = λ other is. c.same_before.ensures.once r.nodes i other path c.requires.ranked.kept.linked is before ∙ sym c.in_ok-replay.ensures.ok.0;
+      only = λ other is. c.law_same_before.ensures.once r.nodes i other path c.requires.ranked.kept.linked is before ∙ sym c.in_ok-replay.ensures.ok.0;
       block = c.in_ok-replay.ensures.ok.1;
       since = stands_behind c.args.network.now c.since_at.result path c.replay.new.self (c.in_ok-replay.ensures.network ∙ c.requires.of.network) (ap (λ b. after b c.replay.new.self.base) c.in_ok-replay.ensures.ok.1 ∙ c.in_ok-replay.ensures.ok.0) c.since_at.ensures;
     }

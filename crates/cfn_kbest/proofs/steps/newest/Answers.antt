@@ -9,5 +9,5 @@ node-requires c =
     let i = c.args.leaf.number in
     let there : i < length nodes = subst (λ (n : List Node). i < length n) (sym c.tree-tree.ensures) c.requires.there in
     let parent : (node_at nodes i).parent ≡ Some c.in_ok-parent.parent = ap (λ (n : Node). n.parent) (sym c.node-node.ensures) ∙ c.in_ok-parent.was in
-    let below = (c.linked.ensures.linked.parents i c.in_ok-parent.parent there parent).0 in
+    let below = (c.law_linked.ensures.linked.parents i c.in_ok-parent.parent there parent).0 in
     omega (arith, below, there)

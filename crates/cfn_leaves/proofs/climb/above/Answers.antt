@@ -12,12 +12,12 @@ returns-in_err-side c = λ up parent.
     let nodes = c.args.tree.now in
     let i = c.args.child.number in
     subst (λ o. MatchOption o (IsPathOf nodes i c.args.left → ⊥) (λ rest. IsPathOf nodes i c.args.left ↔ IsPathOf nodes up.number rest)) (sym c.from_residual.ensures)
-    (no_side nodes c.same_before.ensures.once c.linked.ensures.linked i c.args.left up parent c.in_err-side.ensures)
+    (no_side nodes c.law_same_before.ensures.once c.law_linked.ensures.linked i c.args.left up parent c.in_err-side.ensures)
 
 pub returns : goal.returns
 returns c = λ up parent.
     let nodes = c.args.tree.now in
     let i = c.args.child.number in
     let side = c.in_ok-side.side in
-    by_side nodes c.same_before.ensures.once c.linked.ensures.linked i c.args.left side up c.above.result parent c.in_ok-side.ensures
+    by_side nodes c.law_same_before.ensures.once c.law_linked.ensures.linked i c.args.left side up c.above.result parent c.in_ok-side.ensures
     (subst (λ (n : Node). MatchOption c.above.result ((above : List Event) → c.args.left ≡ after n.block (event_of side ∷ above) → ⊥) (λ above. c.args.left ≡ after n.block (event_of side ∷ above))) c.node.ensures c.above.ensures)

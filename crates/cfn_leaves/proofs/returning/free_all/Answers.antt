@@ -24,7 +24,7 @@ loop-number-preserved c =
       | in-Some+then-not-is_free w ↦
           subst (λ t. Goes old listing t c.match-held.list (n + 1)) (sym (ap (λ t. t.items) w.table-is))
           (subst (λ l. Goes old listing w.free.new.table.items l (n + 1)) (sym w.list-is)
-          (freed_one old listing now c.loop-number.list n w.in-Some.entry w.free.new.table.items w.free.new.list c.same_before.ensures.once c.loop-number.invariant (read ∙ w.in-Some.is)
+          (freed_one old listing now c.loop-number.list n w.in-Some.entry w.free.new.table.items w.free.new.list c.law_same_before.ensures.once c.loop-number.invariant (read ∙ w.in-Some.is)
           (λ same. true≢false (sym (w.if-not-is_free.ensures.1 same))) w.free.ensures.table w.free.ensures.leaves w.free.ensures.room))
       | in-Some+else-not-is_free w ↦
           subst (λ t. Goes old listing t c.match-held.list (n + 1)) (sym (ap (λ t. t.items) w.table-is))
@@ -37,4 +37,4 @@ loop-number-preserved c =
     ]
 
 pub returns : goal.returns
-returns c = ended c.args.table.now.items c.args.list.now c.loop-number.table.items c.loop-number.list c.loop-number.number c.same_before.ensures.once c.loop-number.invariant (omega (arith, c.loop-number-test.false, c.len-number-end.ensures, c.args.table.now.ok.0))
+returns c = ended c.args.table.now.items c.args.list.now c.loop-number.table.items c.loop-number.list c.loop-number.number c.law_same_before.ensures.once c.loop-number.invariant (omega (arith, c.loop-number-test.false, c.len-number-end.ensures, c.args.table.now.ok.0))

@@ -22,9 +22,9 @@ loop-leaf-smaller c = let long = length_permutation c.loop-leaf.list.leaves _ c.
 
 pub loop-leaf-preserved : goal.loop-leaf-preserved
 loop-leaf-preserved c =
-    set_one (has_leaf (Some c.args.part)) c.args.table.now.items c.args.list.now c.loop-leaf.table.items c.loop-leaf.own c.loop-leaf.list c.take_least.new.self c.in-Some.leaf c.put_aside.new.table.items c.same_before.ensures.once
+    set_one (has_leaf (Some c.args.part)) c.args.table.now.items c.args.list.now c.loop-leaf.table.items c.loop-leaf.own c.loop-leaf.list c.take_least.new.self c.in-Some.leaf c.put_aside.new.table.items c.law_same_before.ensures.once
     c.loop-leaf.invariant c.in-Some.ensures.rest.0 (sym c.has.ensures ∙ c.if-has.false) c.put_aside.ensures
 
 pub returns-clause-ok : goal.returns-clause-ok
 returns-clause-ok c =
-    ended (has_leaf (Some c.args.part)) c.args.table.now.items c.args.list.now c.loop-leaf.table.items c.loop-leaf.own c.loop-leaf.list c.same_before.ensures.once c.loop-leaf.invariant c.in_default.ensures.least
+    ended (has_leaf (Some c.args.part)) c.args.table.now.items c.args.list.now c.loop-leaf.table.items c.loop-leaf.own c.loop-leaf.list c.law_same_before.ensures.once c.loop-leaf.invariant c.in_default.ensures.least

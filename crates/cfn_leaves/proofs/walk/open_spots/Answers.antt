@@ -6,7 +6,7 @@ use Rattle.cfn_leaves.proofs.Walks.{way_begins, way_ends, popped, fewer, none_th
 use Rattle.cfn_leaves.proofs.walk.open_spots.Goals as goal
 
 pub loop-spot-init : goal.loop-spot-init
-loop-spot-init c = way_begins c.args.tree.now c.args.floor c.in_ok-walk.walk.made c.in_ok-walk.walk.spots.items c.in_ok-walk.walk.ahead.items c.linked.ensures.linked c.in_ok-walk.ensures.spots c.in_ok-walk.ensures.made c.in_ok-walk.ensures.ahead
+loop-spot-init c = way_begins c.args.tree.now c.args.floor c.in_ok-walk.walk.made c.in_ok-walk.walk.spots.items c.in_ok-walk.walk.ahead.items c.law_linked.ensures.linked c.in_ok-walk.ensures.spots c.in_ok-walk.ensures.made c.in_ok-walk.ensures.ahead
 
 pub visit-requires-clause-there : goal.visit-requires-clause-there
 visit-requires-clause-there c =

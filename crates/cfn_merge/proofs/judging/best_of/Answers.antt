@@ -8,4 +8,4 @@ pub in_32_bits-requires : goal.in_32_bits-requires
 in_32_bits-requires c =
     let is = subst (λ o. IsBest c.args.network.now (solution_of o)) c.in-Some.is c.requires in
     subst (λ (l : List ℕ). (i : ℕ) → i < length l → slice_index l i < 2 ^ 32) (sym c.deref.ensures.value)
-    (λ i there. values_small c.args.network.now (record { cost = c.in-Some.best.cost; values = c.in-Some.best.values.items }) i c.limits.ensures is there)
+    (λ i there. values_small c.args.network.now (record { cost = c.in-Some.best.cost; values = c.in-Some.best.values.items }) i c.law_limits.ensures is there)

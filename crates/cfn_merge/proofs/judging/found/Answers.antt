@@ -11,5 +11,5 @@ best_of-requires c = read_best c.args.network.now c.args.text.now c.in-Ok.read c
 
 pub returns : goal.returns
 returns c =
-    has_found c.args.network.now c.args.text.now c.in-Ok.read (record { best = c.in_ok-best_of-in-Ok.field-0; tree = c.in-Ok.read.tree }) c.limits.ensures c.requires
+    has_found c.args.network.now c.args.text.now c.in-Ok.read (record { best = c.in_ok-best_of-in-Ok.field-0; tree = c.in-Ok.read.tree }) c.law_limits.ensures c.requires
     (subst (IsExact c.args.text.now) c.in-Ok.is c.in_ok-read.ensures.exact) c.in_ok-best_of-in-Ok.ensures.own c.in_ok-best_of-in-Ok.ensures.held refl

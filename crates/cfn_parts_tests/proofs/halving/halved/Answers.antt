@@ -8,4 +8,4 @@ use Rattle.cfn_parts_tests.proofs.halving.halved.Goals as goal
 pub of-requires-clause-tame : goal.of-requires-clause-tame
 of-requires-clause-tame c =
     subst (λ nodes. Tame c.args.task.network c.args.task.task.path (tree_of nodes)) (sym (c.in_ok-split.ensures.ok ∙ ap (λ nodes. split_at nodes 0 (Is 0 0)) c.in_ok-tree.ensures))
-    (half_tame c.args.task.network c.args.task.task.path 0 c.kept.ensures.tame)
+    (half_tame c.args.task.network c.args.task.task.path 0 c.law_kept.ensures.tame)

@@ -23,4 +23,4 @@ sound E P (Ok l) budget threshold nodes network upper one own is =
 sound E P (Err e) budget threshold nodes network upper one own is = tt
 
 pub returns-clause-sound : goal.returns-clause-sound
-returns-clause-sound c = sound _ c.args.network.now c.start.result c.args.budget c.ub.result c.in_ok-tree.tree c.limits.ensures c.ub.ensures c.in_ok-tree.ensures c.start.ensures.network c.start.ensures.pool
+returns-clause-sound c = sound _ c.args.network.now c.start.result c.args.budget c.ub.result c.in_ok-tree.tree c.law_limits.ensures c.ub.ensures c.in_ok-tree.ensures c.start.ensures.network c.start.ensures.pool

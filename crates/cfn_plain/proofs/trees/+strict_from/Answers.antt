@@ -12,7 +12,7 @@ use Rattle.cfn_plain.proofs.trees.+strict_from.Goals.{then-branch+in_ok-strict_f
 
 pub returns-in_default : goal.returns-in_default
 returns-in_default t c =
-    (λ yes. strict_at_leaf c.args.network.now c.args.history.now c.args.tree.now c.args.id.number c.node-node.result.now c.linked.ensures.linked c.requires c.node-node.ensures c.in_default.not-Split, λ v. refl)
+    (λ yes. strict_at_leaf c.args.network.now c.args.history.now c.args.tree.now c.args.id.number c.node-node.result.now c.law_linked.ensures.linked c.requires c.node-node.ensures c.in_default.not-Split, λ v. refl)
 
 pub returns-then-not-is_strict_split : goal.returns-then-not-is_strict_split
 returns-then-not-is_strict_split t c =
@@ -20,7 +20,7 @@ returns-then-not-is_strict_split t c =
     let h = c.args.history.now in
     let node = c.node-node.result.now in
     let d = c.in-Split.decision in
-    let at = strict_at P h c.args.tree.now c.args.id.number node (Split d c.in-Split.first c.in-Split.second) c.linked.ensures.linked c.requires c.node-node.ensures c.in-Split.is in
+    let at = strict_at P h c.args.tree.now c.args.id.number node (Split d c.in-Split.first c.in-Split.second) c.law_linked.ensures.linked c.requires c.node-node.ensures c.in-Split.is in
     let behind = c.as_slice.ensures.value ∙ c.in_ok-behind.ensures in (
       λ no. absurd (false≢true no),
       λ strict. sym c.if-not-is_strict_split.true ∙ c.is_strict_split.ensures.1 (subst (λ h. IsStrictSplit P h d) (sym behind) (at.1 strict).0),
@@ -28,12 +28,12 @@ returns-then-not-is_strict_split t c =
 
 pub strict_from-requires : goal.strict_from-requires
 strict_from-requires t c =
-    let kids = family c.args.tree.now c.args.id.number c.node-node.result.now c.in-Split.decision c.in-Split.first c.in-Split.second c.linked.ensures.linked c.requires c.node-node.ensures c.in-Split.is in
+    let kids = family c.args.tree.now c.args.id.number c.node-node.result.now c.in-Split.decision c.in-Split.first c.in-Split.second c.law_linked.ensures.linked c.requires c.node-node.ensures c.in-Split.is in
     (omega (arith, kids.first_behind, kids.first_there), kids.first_there)
 
 pub strict_from-requires-then-branch : goal.strict_from-requires-then-branch
 strict_from-requires-then-branch t c =
-    let kids = family c.args.tree.now c.args.id.number c.node-node.result.now c.in-Split.decision c.in-Split.first c.in-Split.second c.linked.ensures.linked c.requires c.node-node.ensures c.in-Split.is in
+    let kids = family c.args.tree.now c.args.id.number c.node-node.result.now c.in-Split.decision c.in-Split.first c.in-Split.second c.law_linked.ensures.linked c.requires c.node-node.ensures c.in-Split.is in
     (omega (arith, kids.second_behind, kids.second_there), kids.second_there)
 
 pub returns : goal.returns
@@ -45,7 +45,7 @@ returns t c =
     let first = c.in-Split.first in
     let second = c.in-Split.second in
     let d = c.in-Split.decision in
-    let at = strict_at P h nodes c.args.id.number node (Split d first second) c.linked.ensures.linked c.requires c.node-node.ensures c.in-Split.is in
+    let at = strict_at P h nodes c.args.id.number node (Split d first second) c.law_linked.ensures.linked c.requires c.node-node.ensures c.in-Split.is in
     let behind = c.as_slice.ensures.value ∙ c.in_ok-behind.ensures in
     let here = subst (λ h. IsStrictSplit P h d) behind (c.is_strict_split.ensures.0 c.if-not-is_strict_split.false) in
     let yes = side_is (Took d) node.block h _ _ _ _ c.as_slice-3.ensures.value c.in_ok-took.ensures.0 c.as_slice-2.ensures.value c.in_ok-behind.ensures in

@@ -15,14 +15,14 @@ returns-then-not-branch t c =
     let P = c.args.network.now in
     let h = c.args.history.now in (
       λ no. absurd (false≢true no),
-      λ valid. sym c.if-not-branch.true ∙ c.in_ok-block_runs.ensures.1 (valid_runs P h c.args.k c.args.tree.now c.args.id.number c.node-node.result.now c.linked.ensures.linked c.requires c.node-node.ensures valid),
+      λ valid. sym c.if-not-branch.true ∙ c.in_ok-block_runs.ensures.1 (valid_runs P h c.args.k c.args.tree.now c.args.id.number c.node-node.result.now c.law_linked.ensures.linked c.requires c.node-node.ensures valid),
     )
 
 pub returns-in-Free : goal.returns-in-Free
 returns-in-Free t c =
     let P = c.args.network.now in
     let h = c.args.history.now in
-    let at = valid_at P h c.args.k c.args.tree.now c.args.id.number c.node-node.result.now Free c.linked.ensures.linked c.requires c.node-node.ensures c.in-Free.is in
+    let at = valid_at P h c.args.k c.args.tree.now c.args.id.number c.node-node.result.now Free c.law_linked.ensures.linked c.requires c.node-node.ensures c.in-Free.is in
     let run = c.in_ok-block_runs.ensures.0 c.if-not-branch.false in
     (λ yes. at.0 run, λ valid. refl)
 
@@ -31,7 +31,7 @@ returns-in-Shut t c =
     let P = c.args.network.now in
     let h = c.args.history.now in
     let k = c.args.k in
-    let at = valid_at P h k c.args.tree.now c.args.id.number c.node-node.result.now Shut c.linked.ensures.linked c.requires c.node-node.ensures c.in-Shut.is in
+    let at = valid_at P h k c.args.tree.now c.args.id.number c.node-node.result.now Shut c.law_linked.ensures.linked c.requires c.node-node.ensures c.in-Shut.is in
     let run = c.in_ok-block_runs.ensures.0 c.if-not-branch.false in
     let behind = c.as_slice.ensures.value ∙ c.in_ok-behind.ensures in (
       λ yes. at.0 (run, subst (λ h. CanClose P h k) behind (c.can_close.ensures.0 yes)),
@@ -40,19 +40,19 @@ returns-in-Shut t c =
 
 pub returns-then-not-is_decision : goal.returns-then-not-is_decision
 returns-then-not-is_decision t c =
-    let at = valid_at c.args.network.now c.args.history.now c.args.k c.args.tree.now c.args.id.number c.node-node.result.now (Split c.in-Split.decision c.in-Split.first c.in-Split.second) c.linked.ensures.linked c.requires c.node-node.ensures c.in-Split.is in (
+    let at = valid_at c.args.network.now c.args.history.now c.args.k c.args.tree.now c.args.id.number c.node-node.result.now (Split c.in-Split.decision c.in-Split.first c.in-Split.second) c.law_linked.ensures.linked c.requires c.node-node.ensures c.in-Split.is in (
       λ no. absurd (false≢true no),
       λ valid. sym c.if-not-is_decision.true ∙ c.is_decision.ensures.1 (at.1 valid).1,
     )
 
 pub valid_from-requires : goal.valid_from-requires
 valid_from-requires t c =
-    let kids = family c.args.tree.now c.args.id.number c.node-node.result.now c.in-Split.decision c.in-Split.first c.in-Split.second c.linked.ensures.linked c.requires c.node-node.ensures c.in-Split.is in
+    let kids = family c.args.tree.now c.args.id.number c.node-node.result.now c.in-Split.decision c.in-Split.first c.in-Split.second c.law_linked.ensures.linked c.requires c.node-node.ensures c.in-Split.is in
     (omega (arith, kids.first_behind, kids.first_there), kids.first_there)
 
 pub valid_from-requires-then-branch : goal.valid_from-requires-then-branch
 valid_from-requires-then-branch t c =
-    let kids = family c.args.tree.now c.args.id.number c.node-node.result.now c.in-Split.decision c.in-Split.first c.in-Split.second c.linked.ensures.linked c.requires c.node-node.ensures c.in-Split.is in
+    let kids = family c.args.tree.now c.args.id.number c.node-node.result.now c.in-Split.decision c.in-Split.first c.in-Split.second c.law_linked.ensures.linked c.requires c.node-node.ensures c.in-Split.is in
     (omega (arith, kids.second_behind, kids.second_there), kids.second_there)
 
 pub returns : goal.returns
@@ -65,7 +65,7 @@ returns t c =
     let first = c.in-Split.first in
     let second = c.in-Split.second in
     let d = c.in-Split.decision in
-    let at = valid_at P h k nodes c.args.id.number node (Split d first second) c.linked.ensures.linked c.requires c.node-node.ensures c.in-Split.is in
+    let at = valid_at P h k nodes c.args.id.number node (Split d first second) c.law_linked.ensures.linked c.requires c.node-node.ensures c.in-Split.is in
     let run = c.in_ok-block_runs.ensures.0 c.if-not-branch.false in
     let value = c.is_decision.ensures.0 c.if-not-is_decision.false in
     let yes = side_is (Took d) node.block h _ _ _ _ c.as_slice-in-Split-2.ensures.value c.in_ok-took-in-Split.ensures.0 c.as_slice-in-Split.ensures.value c.in_ok-behind.ensures in

@@ -12,7 +12,7 @@ tuples_allow-requires-clause-fits c =
     let dims = dims_at P f in
     let some : (i : ℕ) → i < length dims → 0 < get_or dims i 0 = λ i there.
     let here : i < length (scope_at P f) = omega (arith, length-dims P.sizes (scope_at P f)) in
-    omega (arith, get_or-dims P.sizes (scope_at P f) i here, (c.limits.ensures.sizes _ ((c.limits.ensures.functions f c.requires).variables i here)).0) in
+    omega (arith, get_or-dims P.sizes (scope_at P f) i here, (c.law_limits.ensures.sizes _ ((c.law_limits.ensures.functions f c.requires).variables i here)).0) in
     let scope = c.scope-places.ensures ∙ ap (scope_at P) c.function_in.ensures in
     let is = c.as_mut_slice.ensures.value ∙ c.in_ok-tuple.ensures.items_if_clones_equal (λ y h. h) ∙ ap (λ n. replicate n 0) (ap length scope ∙ sym (length-dims P.sizes (scope_at P f))) in
     subst (λ (tuple : List ℕ). Fits dims tuple) (sym is) (Fits-zeros dims some)

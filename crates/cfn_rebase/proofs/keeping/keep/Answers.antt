@@ -26,4 +26,4 @@ pub loop-more-smaller : goal.loop-more-smaller
 loop-more-smaller c = falls _ c.loop-more.more _ _ c.loop-more-test.true c.in_ok-more.ensures.less (λ e. ap (λ ws. weights c.args.old.now (reverse ws)) (c.in_ok-more.ensures.none e))
 
 pub returns : goal.returns
-returns c = record { kept = walk_ends c.args.network.now c.args.threshold c.args.old.now c.loop-more.walk c.linked.ensures.linked c.loop-more.invariant.walks (c.loop-more.invariant.none c.loop-more-test.false) }
+returns c = record { kept = walk_ends c.args.network.now c.args.threshold c.args.old.now c.loop-more.walk c.law_linked.ensures.linked c.loop-more.invariant.walks (c.loop-more.invariant.none c.loop-more-test.false) }

@@ -6,7 +6,7 @@ use Rattle.cfn_rebase.proofs.Tested.{cost_reaches, events_in_place, tuple_reache
 use Rattle.cfn_rebase.proofs.testing.can_cut_tuple.Goals as goal
 
 pub residual_balance-requires-clause-range : goal.residual_balance-requires-clause-range
-residual_balance-requires-clause-range c = events_in_place c.args.network.now c.args.store.now c.args.events.now c.requires.network c.requires.events c.exact.ensures
+residual_balance-requires-clause-range c = events_in_place c.args.network.now c.args.store.now c.args.events.now c.requires.network c.requires.events c.law_exact.ensures
 
 pub returns-in-Some : goal.returns-in-Some
 returns-in-Some c = cost_reaches c.args.store.now c.args.threshold c.args.f c.args.number c.floor.result c.in-Some.cost (record { more = c.from.result; less = 0 }) c.reaches.result

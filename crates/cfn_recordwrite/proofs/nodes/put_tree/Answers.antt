@@ -10,13 +10,13 @@ use Rattle.cfn_recordwrite.proofs.nodes.put_tree.Goals as goal
 
 pub loop-next-init : goal.loop-next-init
 loop-next-init g c = record {
-  there = c.linked.ensures.linked.some;
-  left = start _ _ _ _ c.requires (ap text (tree_in_order c.args.tree.now c.linked.ensures.linked)) c.new-batch.ensures;
+  there = c.law_linked.ensures.linked.some;
+  left = start _ _ _ _ c.requires (ap text (tree_in_order c.args.tree.now c.law_linked.ensures.linked)) c.new-batch.ensures;
 }
 
 pub returns-in_err-gather_node : goal.returns-in_err-gather_node
 returns-in_err-gather_node g c =
-    let own = own_first c.args.tree.now c.in-Some.id.number c.linked.ensures.linked (rw c.in-Some.is at c.loop-next.invariant.there) in
+    let own = own_first c.args.tree.now c.in-Some.id.number c.law_linked.ensures.linked (rw c.in-Some.is at c.loop-next.invariant.there) in
     let first = c.loop-next.batch ++ text (node_lines (node_at c.args.tree.now c.in-Some.id.number)) in
     halt {first = first} _ c.from_residual.ensures.0 _ (text_left c.loop-next.batch c.args.tree.now _ c.in-Some.id own.0 c.in-Some.is own.1) c.loop-next.invariant.left (rw c.node.ensures at c.in_err-gather_node.ensures).err
 

@@ -9,7 +9,7 @@ use Rattle.cfn_replay.proofs.judging.certificate.Goals as goal
 
 pub invariant_of-result : goal.invariant_of-result
 invariant_of-result c =
-    let upper = c.limits.ensures.upper in
+    let upper = c.law_limits.ensures.upper in
     let low = bound_low c.args.leaves.network [] (tree_of (pool_tree c.args.leaves)) c.threshold.result in
     let best = best_low c.args.network.now (solution_of c.args.best) c.requires.best in
     record {
@@ -20,15 +20,15 @@ invariant_of-result c =
 
 pub returns-clause-spelled : goal.returns-clause-spelled
 returns-clause-spelled c =
-    let upper = c.limits.ensures.upper in
+    let upper = c.law_limits.ensures.upper in
     let low = bound_low c.args.leaves.network [] (tree_of (pool_tree c.args.leaves)) c.threshold.result in
     let best = best_low c.args.network.now (solution_of c.args.best) c.requires.best in
     record {
-      variables = omega (arith, c.variables.ensures, c.limits.ensures.few);
-      functions = omega (arith, c.functions.ensures, c.limits.ensures.few_functions);
+      variables = omega (arith, c.variables.ensures, c.law_limits.ensures.few);
+      functions = omega (arith, c.functions.ensures, c.law_limits.ensures.few_functions);
       upper = omega (arith, c.ub.ensures, upper);
-      best = best_spelled c.args.network.now (solution_of c.args.best) c.limits.ensures c.requires.best;
+      best = best_spelled c.args.network.now (solution_of c.args.best) c.law_limits.ensures c.requires.best;
       lower = omega (arith, c.bound-lower.ensures, low, c.threshold.ensures, best, upper);
-      tree = spelled_law c.share.new.self c.linked.ensures;
+      tree = spelled_law c.share.new.self c.law_linked.ensures;
       has_tree = lines_law c.share.new.self;
     }

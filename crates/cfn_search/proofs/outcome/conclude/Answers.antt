@@ -22,10 +22,10 @@ pub invariant_of-outcome : goal.invariant_of-outcome
 invariant_of-outcome g c =
     let P = g.M.Incumbent.network in
     let held = pool c.args.held in
-    let upper = c.limits.ensures.upper in
+    let upper = c.law_limits.ensures.upper in
     let same = ap (λ (Q : Network). Q.upper) c.requires.own in
     let low = bound_low P [] (tree_of held.tree) held.view.seen in
-    let seen = c.kept.ensures.pool.sound.seen in
+    let seen = c.law_kept.ensures.pool.sound.seen in
     record {
       upper_fits = omega (arith, c.ub.ensures, upper);
       lower_fits = omega (arith, c.bound-lower.ensures, low, seen, same, upper);
@@ -39,19 +39,19 @@ returns-clause-outcome g c =
     let finished = c.finish-finished.result in
     let timed = g.H.Halt.limited c.args.halt.now in
     let limits = timed_nodes held.budget timed in
-    let network = subst IsNetwork c.requires.own c.limits.ensures in
+    let network = subst IsNetwork c.requires.own c.law_limits.ensures in
     let certificate : Certificate = record { version = Second; variables = c.variables.result; functions = c.functions.result; upper = c.ub.result; best = solution_of c.below.result; lower = c.bound-lower.result; tree = nodes.tree_of finished.tree } in
     subst (λ (Q : Network). IsSearched Q g.M.Incumbent.start limits finished.nodes certificate finished.rows.items c.stop_of-stop.result) (sym c.requires.own)
     (subst (λ (rows : List Row). IsSearched P g.M.Incumbent.start limits finished.nodes certificate rows c.stop_of-stop.result) (sym c.finish-finished.ensures.rows)
     (subst (λ (n : ℕ). IsSearched P g.M.Incumbent.start limits n certificate held.rows c.stop_of-stop.result) (sym c.finish-finished.ensures.nodes)
-    (searched P held network c.kept.ensures.pool c.kept.ensures.rows g.M.Incumbent.start c.requires.ended c.requires.last certificate c.stop_of-stop.result timed
+    (searched P held network c.law_kept.ensures.pool c.law_kept.ensures.rows g.M.Incumbent.start c.requires.ended c.requires.last certificate c.stop_of-stop.result timed
     (c.variables.ensures ∙ ap (λ (Q : Network). Rattle.std.proofs.Common.length Q.sizes) c.requires.own)
     (c.functions.ensures ∙ ap (λ (Q : Network). Rattle.std.proofs.Common.length Q.functions) c.requires.own)
     (c.ub.ensures ∙ ap (λ (Q : Network). Q.upper) c.requires.own)
     (best_held P c.end-best.result.0 finished.holder c.below.result c.end-best.ensures.best c.below.ensures.best)
     (price_held P c.end-best.result.0 finished.holder held.view c.below.result c.end-best.ensures.best c.finish-finished.ensures.view c.requires.last.seen c.below.ensures.priced c.below.ensures.price)
     c.finish-finished.ensures.tree
-    (spelled_law finished.tree c.linked.ensures)
+    (spelled_law finished.tree c.law_linked.ensures)
     (lines_law finished.tree)
     c.bound-lower.ensures
     (subst (IsStop c.stop_of-stop.result (open_leaves (tree_of held.tree)) held.nodes held.budget timed) c.requires.others
@@ -75,7 +75,7 @@ returns-clause-history g c =
     let finished = c.finish-finished.result in
     let certificate : Certificate = record { version = Second; variables = c.variables.result; functions = c.functions.result; upper = c.ub.result; best = solution_of c.below.result; lower = c.bound-lower.result; tree = nodes.tree_of finished.tree } in
     subst (λ (Q : Network). IfSome finished.history (IsRecorded Q held.budget certificate)) (sym c.requires.own)
-    (good_record P held c.args.held.recorded finished.history certificate c.finish-finished.ensures.same c.requires.recorded c.kept.ensures.pool
+    (good_record P held c.args.held.recorded finished.history certificate c.finish-finished.ensures.same c.requires.recorded c.law_kept.ensures.pool
     (c.variables.ensures ∙ ap (λ (Q : Network). Rattle.std.proofs.Common.length Q.sizes) c.requires.own)
     (c.functions.ensures ∙ ap (λ (Q : Network). Rattle.std.proofs.Common.length Q.functions) c.requires.own)
     (c.ub.ensures ∙ ap (λ (Q : Network). Q.upper) c.requires.own)

@@ -19,4 +19,4 @@ returns-clause-seen g c =
     ap (λ (h : Holding). h.seen) c.look.ensures.seen
     ∙ c.look.ensures.whole (ap (λ (h : Holding). h.shares) c.lower.ensures.seen ∙ c.requires.all)
     ∙ ap (λ (h : Option Solution). threshold_of P.upper h) lowered
-    ∙ sym (price_is P c.args.best.now.held (subst (λ Q. IsPriced Q c.args.best.now.held) c.requires.own c.priced.ensures))
+    ∙ sym (price_is P c.args.best.now.held (subst (λ Q. IsPriced Q c.args.best.now.held) c.requires.own c.law_priced.ensures))

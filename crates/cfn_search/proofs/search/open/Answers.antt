@@ -14,10 +14,10 @@ pub sweep-requires-clause-search : goal.sweep-requires-clause-search
 sweep-requires-clause-search g c =
     let start = g.M.Incumbent.start in
     let opening = opening_search g.M.Incumbent.network start c.args.part c.args.holder.shares c.args.budget (tree_of c.args.tree) (values_of c.args.holder.held)
-    c.parts.ensures.sets c.requires.begun c.requires.first c.requires.aside in
+    c.law_parts.ensures.sets c.requires.begun c.requires.first c.requires.aside in
     subst (λ (p : Pool). IsSearch start p) (sym (c.record_if.ensures.pool ∙ c.in-Ok.ensures.pool)) opening
 
 pub returns-clause-others : goal.returns-clause-others
 returns-clause-others g c =
     opened_others c.args.part (tree_of c.args.tree) (pool c.in-Ok.held).tree g.M.Incumbent.start.aside c.others_among-others.result
-    c.parts.ensures.counts (ap (λ (p : Pool). p.tree) c.in-Ok.ensures.pool) c.others_among-others.ensures c.requires.aside
+    c.law_parts.ensures.counts (ap (λ (p : Pool). p.tree) c.in-Ok.ensures.pool) c.others_among-others.ensures c.requires.aside

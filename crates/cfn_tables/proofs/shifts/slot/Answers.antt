@@ -11,7 +11,7 @@ pub slots-requires-clause-few : goal.slots-requires-clause-few
 slots-requires-clause-few c =
     let e = ap length c.scope.ensures in
     let t = length-take-le c.args.place c.scope.result.now (omega (arith, e, c.requires.place)) in
-    omega (arith, t, arity_small c.args.network.now c.args.f c.limits.ensures c.requires.function, c.requires.place)
+    omega (arith, t, arity_small c.args.network.now c.args.f c.law_limits.ensures c.requires.function, c.requires.place)
 
 before : (c : goal.After-slots) → c.slots.result ≡ slots (take c.args.place (dims_at c.args.network.now c.args.f))
 before c =
@@ -22,7 +22,7 @@ before c =
 pub overflow_add-result : goal.overflow_add-result
 overflow_add-result c =
     let P = c.args.network.now in
-    let limits = c.limits.ensures in
+    let limits = c.law_limits.ensures in
     let scope = scope_at P c.args.f in
     let few = slots_few (dims_at P c.args.f) 4096 (λ i l. let m : i < length scope = omega (arith, l, length-dims P.sizes scope) in let most = (limits.sizes (get_or scope i 0) ((limits.functions c.args.f c.requires.function).variables i m)).1 in omega (arith, most, get_or-dims P.sizes scope i m)) in
     let below = slot_below (dims_at P c.args.f) c.args.place c.args.value (omega (arith, c.requires.place, length-dims P.sizes scope)) c.requires.value in

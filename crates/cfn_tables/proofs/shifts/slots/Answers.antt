@@ -14,5 +14,5 @@ loop-x-preserved c =
     let x = c.requires.scope c.loop-x.x-index l in
     record {
       rest = omega (arith, c.loop-x.invariant.rest, c.size.ensures, more, here);
-      small = omega (arith, c.loop-x.invariant.small, c.size.ensures, (c.limits.ensures.sizes _ x).1);
+      small = omega (arith, c.loop-x.invariant.small, c.size.ensures, (c.law_limits.ensures.sizes _ x).1);
     }

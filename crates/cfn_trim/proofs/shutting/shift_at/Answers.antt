@@ -13,7 +13,7 @@ use Rattle.cfn_trim.proofs.shutting.shift_at.Goals as goal
 pub returns-then-is_empty : goal.returns-then-is_empty
 returns-then-is_empty c = λ before values old. elim c.then-is_empty.branch [
   | then-is_empty-via-then-is_empty w ↦ (let t = w.if-is_empty.true in let e = c.is_empty.ensures in let s = ap length c.scope-scope.ensures in let n = ap (λ N. arity N c.args.f) c.network-network.ensures in
-      shift_empty before c.args.store.now values c.args.k (length c.args.store.now.network.sizes) c.args.f (grind (arith, t, e, s, n)) (range_of c.args.store.now.network (history c.args.store.now) c.exact.ensures) old)
+      shift_empty before c.args.store.now values c.args.k (length c.args.store.now.network.sizes) c.args.f (grind (arith, t, e, s, n)) (range_of c.args.store.now.network (history c.args.store.now) c.law_exact.ensures) old)
   | then-is_empty-via-else-is_empty+then-lacks-eq0 w ↦ (let l = w.lacks.ensures in let z = w.if-lacks-eq0.true in
       shift_none before c.args.store.now values c.args.k (length c.args.store.now.network.sizes) c.args.f (λ low. (let bad = low in omega (arith, l, z, bad))) old)
 ]
@@ -34,7 +34,7 @@ pub returns : goal.returns
 returns c = λ before values old.
     (let s = c.args.store.now in let P = s.network in let f = c.args.f in let x = slice_index c.scope-scope.result.now 0 in let a = c.value_of-a.result in
     let scope : c.scope-scope.result.now ≡ scope_at P f = c.scope-scope.ensures ∙ ap (λ N. scope_at N f) c.network-network.ensures in
-    let net = subst IsNetwork c.network-network.ensures c.limits.ensures in
+    let net = subst IsNetwork c.network-network.ensures c.law_limits.ensures in
     let some : 0 < arity P f = (let t = c.if-is_empty.false in let e = c.is_empty.ensures in let n = ap length scope in grind (arith, t, e, n)) in
     let at : x ≡ variable_at P f 0 = ap (λ l. slice_index l 0) scope in
     let lacking : floor P (history s) < c.args.k = (let l = c.lacks.ensures in let z = c.if-lacks-eq0.false in omega (arith, l, z)) in

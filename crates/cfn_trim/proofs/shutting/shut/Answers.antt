@@ -24,5 +24,5 @@ returns-clause-closed c =
     let shut = (c.shift_all.ensures c.args.store.now c.requires.leaf.0 (subst (λ (N : Network). IsShutting c.args.store.now c.lift_all.new.store c.requires.leaf.0 c.args.k (length N.sizes) 0) (sym (c.lift_all.ensures c.requires.leaf.0 (none_yet c.args.store.now c.requires.leaf.0 c.args.k c.requires.leaf.1 c.requires.room)).adds.network) (c.lift_all.ensures c.requires.leaf.0 (none_yet c.args.store.now c.requires.leaf.0 c.args.k c.requires.leaf.1 c.requires.room)))) in
     let network = shut.adds.network ∙ sym (c.lift_all.ensures c.requires.leaf.0 (none_yet c.args.store.now c.requires.leaf.0 c.args.k c.requires.leaf.1 c.requires.room)).adds.network in
     reached (floor c.shift_all.new.store.network (history c.shift_all.new.store)) c.args.k
-    (all_shut c.args.store.now c.shift_all.new.store c.requires.leaf.0 c.args.k c.equivalence.ensures (subst IsNetwork c.network.ensures c.limits.ensures) c.exact.ensures
+    (all_shut c.args.store.now c.shift_all.new.store c.requires.leaf.0 c.args.k c.law_equivalence.ensures (subst IsNetwork c.network.ensures c.law_limits.ensures) c.law_exact.ensures
     (subst (λ (N : Network). IsShutting c.args.store.now c.shift_all.new.store c.requires.leaf.0 c.args.k (length N.sizes) (length N.functions)) (sym network) shut))

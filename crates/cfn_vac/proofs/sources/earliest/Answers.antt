@@ -12,7 +12,7 @@ use Rattle.cfn_vac.proofs.sources.earliest.Goals as goal
 
 pub overflow_cast-place-end : goal.overflow_cast-place-end
 overflow_cast-place-end c =
-    let few = few_places c.args.network.now c.args.target.function c.limits.ensures c.requires.function in
+    let few = few_places c.args.network.now c.args.target.function c.law_limits.ensures c.requires.function in
     let same = ap length c.scope-scope.ensures in
     omega (arith, few, same)
 
@@ -27,7 +27,7 @@ loop-place-preserved c = λ tuple fits cell.
     } in
     let at = c.value_at-value.ensures.value tuple fits cell in
     let x = ap (λ l. slice_index l n) c.scope-scope.ensures in
-    let inside = within P rows (variable_at P f n) value c.requires.shape (value_of P f n value c.limits.ensures place) in
+    let inside = within P rows (variable_at P f n) value c.requires.shape (value_of P f n value c.law_limits.ensures place) in
     let is : item rows (variable_at P f n) value ≡ c.get-position.result = ap (λ v. item rows v value) (sym x) ∙ item_is (row_at rows (slice_index c.scope-scope.result.now n)) value c.get-position.result (subst (λ v. value < length (row_at rows v)) (sym x) inside.1) c.get-position.ensures in
     elim c.if-place-target.branch [
       | then-place-target+then-position-first w ↦

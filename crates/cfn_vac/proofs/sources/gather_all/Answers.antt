@@ -20,7 +20,7 @@ earliest-requires-clause-number c =
 pub cut-requires-clause-room : goal.cut-requires-clause-room
 cut-requires-clause-room c =
     let P = c.args.plan.now.network in let s = c.args.store.now in let now = c.loop-number.store in let t = c.args.target in let earlier = c.args.earlier.now in
-    let net = subst IsNetwork (c.network.ensures ∙ c.requires.network) c.limits.ensures in
+    let net = subst IsNetwork (c.network.ensures ∙ c.requires.network) c.law_limits.ensures in
     let g = c.loop-number.invariant.gathering in
     let found = found_at P c.network-in-Some.result.now s now t.function t.place t.value t.amount c.args.q c.in-Some.number earlier c.args.plan.now.steps c.loop-number.plan.steps c.args.positions.now c.in-Some-earliest.source c.network-in-Some.ensures net c.requires.positions c.requires.live g c.in-Some.ensures (λ tuple fits cell. c.in-Some-earliest.ensures tuple fits cell) in
     found_room P s now c.args.q t.function t.place t.value t.amount earlier c.args.plan.now.steps c.loop-number.plan.steps c.in-Some-earliest.source g found
@@ -28,7 +28,7 @@ cut-requires-clause-room c =
 pub loop-number-smaller : goal.loop-number-smaller
 loop-number-smaller c =
     let P = c.args.plan.now.network in let s = c.args.store.now in let now = c.loop-number.store in let t = c.args.target in let earlier = c.args.earlier.now in
-    let net = subst IsNetwork (c.network.ensures ∙ c.requires.network) c.limits.ensures in
+    let net = subst IsNetwork (c.network.ensures ∙ c.requires.network) c.law_limits.ensures in
     let g = c.loop-number.invariant.gathering in
     let found = found_at P c.network-in-Some.result.now s now t.function t.place t.value t.amount c.args.q c.in-Some.number earlier c.args.plan.now.steps c.loop-number.plan.steps c.args.positions.now c.in-Some-earliest.source c.network-in-Some.ensures net c.requires.positions c.requires.live g c.in-Some.ensures (λ tuple fits cell. c.in-Some-earliest.ensures tuple fits cell) in
     found_nearer P now c.cut.new.store c.args.q t.function t.place t.value earlier c.in-Some-earliest.source found (c.in_ok-cut-in-Some-earliest.ensures.cut ∙ ap (λ Q. with_step now (CutValue (variable_at Q t.function c.in-Some-earliest.source.place) c.in-Some-earliest.source.value)) c.loop-number.invariant.network)
@@ -36,7 +36,7 @@ loop-number-smaller c =
 pub loop-number-preserved : goal.loop-number-preserved
 loop-number-preserved c =
     let P = c.args.plan.now.network in let s = c.args.store.now in let now = c.loop-number.store in let t = c.args.target in let earlier = c.args.earlier.now in
-    let net = subst IsNetwork (c.network.ensures ∙ c.requires.network) c.limits.ensures in
+    let net = subst IsNetwork (c.network.ensures ∙ c.requires.network) c.law_limits.ensures in
     let g = c.loop-number.invariant.gathering in
     let found = found_at P c.network-in-Some.result.now s now t.function t.place t.value t.amount c.args.q c.in-Some.number earlier c.args.plan.now.steps c.loop-number.plan.steps c.args.positions.now c.in-Some-earliest.source c.network-in-Some.ensures net c.requires.positions c.requires.live g c.in-Some.ensures (λ tuple fits cell. c.in-Some-earliest.ensures tuple fits cell) in
     record {
@@ -47,5 +47,5 @@ loop-number-preserved c =
 pub unreachable-requires : goal.unreachable-requires
 unreachable-requires c =
     let P = c.args.plan.now.network in let s = c.args.store.now in let now = c.loop-number.store in let t = c.args.target in let earlier = c.args.earlier.now in
-    let net = subst IsNetwork (c.network.ensures ∙ c.requires.network) c.limits.ensures in
+    let net = subst IsNetwork (c.network.ensures ∙ c.requires.network) c.law_limits.ensures in
     none_at P c.network-in-Some.result.now s now t.function t.place t.value t.amount c.args.q c.in-Some.number earlier c.args.plan.now.steps c.loop-number.plan.steps c.args.positions.now c.network-in-Some.ensures net c.requires.place.function c.requires.positions c.requires.live c.requires.enough c.loop-number.invariant.gathering c.in-Some.ensures (λ tuple fits cell. c.in-None.ensures tuple fits cell)

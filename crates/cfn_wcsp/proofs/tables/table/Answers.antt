@@ -88,7 +88,7 @@ returns c =
     let plus : int_lt count (pos 0) ≡ false = search (rules, ints, to_z-of_z) in
     let read : count_at P.sizes (tables_of P numbers) c.args.arity variables (state c.args.words.now) ≡ Ok (count, state c.count.new.words) = search (rules, ints, to_z-of_z) in
     let begun : c.begin.new.self ≡ with_function P (function_of P.sizes P.upper variables c.args.default []) = c.in_ok-begin.ensures.ok ∙ ap (λ v. with_function P (function_of P.sizes P.upper v c.args.default [])) c.variables-2.ensures.value in
-    let same = has_own_table c.listing_law.ensures P (tables_of P numbers) c.args.arity variables c.args.default (state c.args.words.now) count (state c.count.new.words) plus read in
+    let same = has_own_table c.law_listing.ensures P (tables_of P numbers) c.args.arity variables c.args.default (state c.args.words.now) count (state c.count.new.words) plus read in
     let number : c.unsigned_abs-number.result ≡ unsigned_abs count = search (rules, ints, to_z-of_z) in
     let all : listings_into c.begin.new.self (dims c.args.scope.now.sizes variables) c.unsigned_abs-number.result (state c.count.new.words) ≡ table_onto P (tables_of P numbers) c.args.arity variables c.args.default (state c.args.words.now) =
     rw (begun, number, c.requires.sizes) same in

@@ -15,7 +15,7 @@ returns-in-Ok-Verified-clause-ends g c =
     let v = subst (λ answer. IsChecked c.args.network.now c.args.text.now answer) c.in-Ok-Verified.field-0-is c.in-Ok-Verified.ensures.checked in
     let k = v.certificate in
     let said = ends_saying old.calls old new (list_verified_text c.in-Ok-Verified.lower c.in-Ok-Verified.count) c.write_list_verified.result Done c.ending.result refl c.write_list_verified.ensures c.ending.ensures in
-    verified k (record { spells = v.spells; good = v.good; network = c.limits.ensures; others = λ values fits other. others_cost_more c.args.network.now k values c.limits.ensures v.good fits other })
+    verified k (record { spells = v.spells; good = v.good; network = c.law_limits.ensures; others = λ values fits other. others_cost_more c.args.network.now k values c.law_limits.ensures v.good fits other })
     (subst (λ m. Ends (record { calls = old.calls; text = list_verified_text k.lower m; status = Done }) new.calls c.ending.result) (sym v.count_is)
     (subst (λ n. Ends (record { calls = old.calls; text = list_verified_text n c.in-Ok-Verified.count; status = Done }) new.calls c.ending.result) (sym v.lower_is) said))
 

@@ -7,7 +7,7 @@ pub returns-in-Ok-Good-clause-taken : goal.returns-in-Ok-Good-clause-taken
 returns-in-Ok-Good-clause-taken g c =
     let good = subst (λ j. IsJudged c.args.network.now c.deref.result.now j) c.in-Ok-Good.field-0-is c.in-Ok-Good.ensures in
     takes c.args.network.now c.args.name.now c.args.number (g.D.Desk.outside c.args.desk.now) (g.D.Desk.outside c.load_bytes.new.desk) c.in_ok-text.text.items c.deref.result.now c.in_ok-text.ensures.has c.in_ok-text.ensures.loaded
-    c.deref.ensures.value c.in-Ok-Good.found c.limits.ensures good
+    c.deref.ensures.value c.in-Ok-Good.found c.law_limits.ensures good
 
 pub returns-in-Ok-Refused-clause-untaken : goal.returns-in-Ok-Refused-clause-untaken
 returns-in-Ok-Refused-clause-untaken g c =

@@ -12,7 +12,7 @@ pub returns-in-Ok-Verified : goal.returns-in-Ok-Verified
 returns-in-Ok-Verified g c =
     let v = subst (λ answer. IsChecked c.args.network.now c.args.text.now answer) c.in-Ok-Verified.field-0-is c.in-Ok-Verified.ensures.checked in
     let k = v.certificate in
-    upgraded k (record { spells = v.spells; good = v.good; network = c.limits.ensures; bounds = λ values fits. lower_bounds c.args.network.now k values c.limits.ensures v.good fits })
+    upgraded k (record { spells = v.spells; good = v.good; network = c.law_limits.ensures; bounds = λ values fits. lower_bounds c.args.network.now k values c.law_limits.ensures v.good fits })
     (subst (λ t. Rewrites t c.args.out.now (g.D.Desk.outside c.args.desk.now) (g.D.Desk.outside c.write_upgraded.new.desk) c.write_upgraded.result) (is_upgraded c.args.text.now k v.spells) c.write_upgraded.ensures)
 
 pub returns-in-Ok-Refused : goal.returns-in-Ok-Refused

@@ -8,4 +8,4 @@ pub returns-clause-ends : goal.returns-clause-ends
 returns-clause-ends g c = ends_saying _ _ _ (canonical c.args.network.now) c.write.result Done _ refl c.write.ensures c.ending.ensures
 
 pub returns-clause-again : goal.returns-clause-again
-returns-clause-again g c = c.reads_back.ensures c.args.network.now c.limits.ensures
+returns-clause-again g c = c.law_reads_back.ensures c.args.network.now c.law_limits.ensures

@@ -11,7 +11,7 @@ pub returns-in-Certificate : goal.returns-in-Certificate
 returns-in-Certificate g c =
     let P = c.args.network.now in
     let is = subst (IsAnswer P c.args.text.now) c.in-Certificate.is c.replay.ensures in
-    replayed (certificate_in P c.args.text.now c.in-Certificate.bytes.items is) (comes_to P c.args.text.now c.in-Certificate.bytes.items c.limits.ensures is)
+    replayed (certificate_in P c.args.text.now c.in-Certificate.bytes.items is) (comes_to P c.args.text.now c.in-Certificate.bytes.items c.law_limits.ensures is)
     (subst (λ text. WritesAgain text c.args.out.now (g.D.Desk.outside c.args.desk.now) (g.D.Desk.outside c.write_again.new.desk) c.write_again.result) is.comes.exact (rw c.deref.ensures.value at c.write_again.ensures))
 
 pub returns-in-Refused : goal.returns-in-Refused

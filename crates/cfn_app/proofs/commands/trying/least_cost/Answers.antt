@@ -18,5 +18,5 @@ returns-in-Done g c =
     let P = c.args.network.now in
     let k = certificate_of o.certificate in
     least_when_done P (fresh P) _ o.nodes k o.rows.items
-    (promised P (fresh P) _ o.nodes k o.rows.items Done c.limits.ensures (subst (λ stop. IsSearched P (fresh P) (nodes_alone GREATEST) o.nodes k o.rows.items stop) c.in-Done.is (subst (λ start. IsSearched P start (nodes_alone GREATEST) o.nodes k o.rows.items o.stop) c.in_ok-begin.ensures.start c.in_ok-found.ensures.outcome)))
+    (promised P (fresh P) _ o.nodes k o.rows.items Done c.law_limits.ensures (subst (λ stop. IsSearched P (fresh P) (nodes_alone GREATEST) o.nodes k o.rows.items stop) c.in-Done.is (subst (λ start. IsSearched P start (nodes_alone GREATEST) o.nodes k o.rows.items o.stop) c.in_ok-begin.ensures.start c.in_ok-found.ensures.outcome)))
     c.requires.allowed

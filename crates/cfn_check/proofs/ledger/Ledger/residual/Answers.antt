@@ -15,7 +15,7 @@ use Rattle.cfn_check.proofs.ledger.Ledger.residual.Goals as goal
 use Rattle.cfn_check.proofs.ledger.Ledger.residual.Goals.{After-original-residual, After-slots-slot, After-size-size, After-shifted-residual}
 
 few : (c : After-original-residual) → length c.scope-scope.result.now ≤ 1048576
-few c = omega (arith, arity_small c.args.network.now c.args.f c.limits.ensures c.requires.number.function, ap length c.scope-scope.ensures)
+few c = omega (arith, arity_small c.args.network.now c.args.f c.law_limits.ensures c.requires.number.function, ap length c.scope-scope.ensures)
 
 pub slots-slot-requires-clause-few : goal.slots-slot-requires-clause-few
 slots-slot-requires-clause-few c = few c
@@ -23,7 +23,7 @@ slots-slot-requires-clause-few c = few c
 pub loop-place-init : goal.loop-place-init
 loop-place-init c =
     let P = c.args.network.now in
-    let limits = c.limits.ensures in
+    let limits = c.law_limits.ensures in
     let capped = (limits.functions c.args.f c.requires.number.function).capped c.args.number in
     let cost = subst (λ (z : ℤ). IsCost z) (sym c.original-residual.ensures) (first_cost (nat_lt 0 (arity P c.args.f)) (get_or (function_at P c.args.f).entries c.args.number 0) (omega (arith, capped, limits.upper))) in
     let written = to_z-of_z w128 c.original-residual.result (omega (arith, ints, cost.low, cost.high)) in
@@ -62,11 +62,11 @@ ends P history f scope entry first c front slot place rest tuple same written no
 
 pub overflow_sub-slot : goal.overflow_sub-slot
 overflow_sub-slot c =
-    (before c.args.network.now c.args.f _ c.scope-scope.result.now _ c.args.number c.loop-place.front c.loop-place.slot c.loop-place.place c.size-size.result _ c.limits.ensures c.requires.number.function c.scope-scope.ensures c.loop-place-test.true c.size-size.ensures c.loop-place.invariant).slots.fits_in
+    (before c.args.network.now c.args.f _ c.scope-scope.result.now _ c.args.number c.loop-place.front c.loop-place.slot c.loop-place.place c.size-size.result _ c.law_limits.ensures c.requires.number.function c.scope-scope.ensures c.loop-place-test.true c.size-size.ensures c.loop-place.invariant).slots.fits_in
 
 pub shifted-residual-requires-clause-slot : goal.shifted-residual-requires-clause-slot
 shifted-residual-requires-clause-slot c =
-    let b = before c.args.network.now c.args.f _ c.scope-scope.result.now _ c.args.number c.loop-place.front c.loop-place.slot c.loop-place.place c.size-size.result _ c.limits.ensures c.requires.number.function c.scope-scope.ensures c.loop-place-test.true c.size-size.ensures c.loop-place.invariant in
+    let b = before c.args.network.now c.args.f _ c.scope-scope.result.now _ c.args.number c.loop-place.front c.loop-place.slot c.loop-place.place c.size-size.result _ c.law_limits.ensures c.requires.number.function c.scope-scope.ensures c.loop-place-test.true c.size-size.ensures c.loop-place.invariant in
     rw (← c.requires.same, ← c.scope-scope.ensures) b.slots.below
 
 pub overflow_sub-residual : goal.overflow_sub-residual
@@ -74,7 +74,7 @@ overflow_sub-residual c =
     let t = c.loop-place.invariant in
     let small = c.shifted-residual.ensures.small in
     let value = c.shifted-residual.ensures.value in
-    let most = arity_small c.args.network.now c.args.f c.limits.ensures c.requires.number.function in
+    let most = arity_small c.args.network.now c.args.f c.law_limits.ensures c.requires.number.function in
     let same = ap length c.scope-scope.ensures in
     let shift = to_z-of_z w128 c.shifted-residual.result (omega (arith, ints, value, small.low, small.high)) in
     omega (arith, ints, t.low, t.high, most, same, shift, value, small.low, small.high)
@@ -84,7 +84,7 @@ loop-place-preserved c =
     let P = c.args.network.now in
     let h = c.args.self.now.history in
     let s = λ (n : ℕ). shifted P h c.args.f n in
-    let b = before P c.args.f s c.scope-scope.result.now _ c.args.number c.loop-place.front c.loop-place.slot c.loop-place.place c.size-size.result _ c.limits.ensures c.requires.number.function c.scope-scope.ensures c.loop-place-test.true c.size-size.ensures c.loop-place.invariant in
+    let b = before P c.args.f s c.scope-scope.result.now _ c.args.number c.loop-place.front c.loop-place.slot c.loop-place.place c.size-size.result _ c.law_limits.ensures c.requires.number.function c.scope-scope.ensures c.loop-place-test.true c.size-size.ensures c.loop-place.invariant in
     let small = rw (← c.requires.same) at c.shifted-residual.ensures.small in
     let value = rw (← c.requires.same) at c.shifted-residual.ensures.value in
     let shift = to_z-of_z w128 c.shifted-residual.result (omega (arith, ints, value, small.low, small.high)) in
@@ -95,9 +95,9 @@ pub returns : goal.returns
 returns c = λ tuple fits is.
     let P = c.args.network.now in
     let h = c.args.self.now.history in
-    let differences = rw (← c.requires.same) at c.differences.ensures in
+    let differences = rw (← c.requires.same) at c.law_differences.ensures in
     let sum = differences c.args.f tuple fits in
-    let limits = c.limits.ensures in
+    let limits = c.law_limits.ensures in
     let capped = (limits.functions c.args.f c.requires.number.function).capped c.args.number in
     let cost = subst (λ (z : ℤ). IsCost z) (sym c.original-residual.ensures) (first_cost (nat_lt 0 (arity P c.args.f)) (get_or (function_at P c.args.f).entries c.args.number 0) (omega (arith, capped, limits.upper))) in
     let written = to_z-of_z w128 c.original-residual.result (omega (arith, ints, cost.low, cost.high)) in

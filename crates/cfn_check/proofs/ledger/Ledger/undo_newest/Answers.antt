@@ -11,7 +11,7 @@ use Rattle.cfn_check.proofs.ledger.Ledger.undo_newest.Goals as goal
 pub revert-requires-clause-room : goal.revert-requires-clause-room
 revert-requires-clause-room c =
     let same : c.args.network.now ≡ c.self.inside.network.value = c.requires.same ∙ sym (ap (λ s. s.network) c.self.view_is) in
-    subst (λ (P : Network). HasRoom P c.self.inside.costs) (sym same) (room _ _ _ (subst (λ (P : Network). IsNetwork P) same c.limits.ensures) c.self.invariant)
+    subst (λ (P : Network). HasRoom P c.self.inside.costs) (sym same) (room _ _ _ (subst (λ (P : Network). IsNetwork P) same c.law_limits.ensures) c.self.invariant)
 
 pub revert-requires-clause-flag : goal.revert-requires-clause-flag
 revert-requires-clause-flag c =

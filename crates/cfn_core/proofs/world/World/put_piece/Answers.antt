@@ -26,7 +26,7 @@ invariant_of-self c =
     let own : piece.network ≡ m.network = c.requires.network ∙ ap (λ (n : Machine). n.network) (sym c.self.view_is) in
     let can : CanGive (world_of m) (piece_of piece) c.args.note = subst (λ (old : Machine). CanGive (world_of old) (piece_of piece) c.args.note) (sym c.self.view_is) c.requires.can in
     let hands = c.let_go.ensures ∙ ap (λ n. without n m.hands) (c.leaf.ensures ∙ ap (λ (t : Task). t.leaf) c.task.ensures.task) in
-    changed m _ c.self.inside.best c.self.inside.seats.items (Give (piece_of piece) c.args.note) Done c.self.invariant (subst (λ (P : Network). IsPiece P (piece_of piece)) own c.kept.ensures.piece)
+    changed m _ c.self.inside.best c.self.inside.seats.items (Give (piece_of piece) c.args.note) Done c.self.invariant (subst (λ (P : Network). IsPiece P (piece_of piece)) own c.law_kept.ensures.piece)
     (put_in m piece c.args.note c.give.new.self (reverse c.let_go.new.hands.items) can (gives c.self.inside.leaves c.give.new.self c.in_ok-given.given piece c.in_ok-given.ensures c.in-Done.ensures.gives) hands) refl c.in-Done.ensures.network
 
 pub returns-in-Done-clause-acts : goal.returns-in-Done-clause-acts

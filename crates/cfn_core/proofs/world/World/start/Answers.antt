@@ -40,7 +40,7 @@ returns-clause-world c =
 
 pub invariant_of-result : goal.invariant_of-result
 invariant_of-result c = record {
-  machine = is_opened c.args.network.now c.args.workers c.args.budget _ refl c.in_ok-leaves.ensures.network (returns-clause-world c) c.limits.ensures c.requires.few;
+  machine = is_opened c.args.network.now c.args.workers c.args.budget _ refl c.in_ok-leaves.ensures.network (returns-clause-world c) c.law_limits.ensures c.requires.few;
   own = ap (λ (s : Scoring). s.network) c.in_ok-empty.ensures;
   each = c.in_ok-new_seats.ensures.each;
 }

@@ -22,4 +22,4 @@ pub returns-then-costs_nothing_still : goal.returns-then-costs_nothing_still
 returns-then-costs_nothing_still c =
     let s = c.args.store.now in
     let found = c.costs_nothing_still.ensures c.if-costs_nothing_still.true in
-    least_zero s.network (history s) c.args.pair c.args.value found.0 (subst IsNetwork c.network.ensures c.limits.ensures) c.exact.ensures c.requires.pair found.1
+    least_zero s.network (history s) c.args.pair c.args.value found.0 (subst IsNetwork c.network.ensures c.law_limits.ensures) c.law_exact.ensures c.requires.pair found.1

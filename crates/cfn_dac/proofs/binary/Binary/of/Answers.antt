@@ -9,7 +9,7 @@ unaries-requires c =
     let s = c.args.store.now in let pair = c.args.pair in let is = c.requires in
     let side = c.in_ok-side.ensures.1 pair.other is.other is.different in
     subst (λ y. y < length s.network.sizes) (sym (c.other-second.ensures s.network (history s) pair.function pair.place pair.other side))
-    (((subst IsNetwork c.network.ensures c.limits.ensures).functions pair.function is.function).variables pair.other is.other)
+    (((subst IsNetwork c.network.ensures c.law_limits.ensures).functions pair.function is.function).variables pair.other is.other)
 
 pub returns : goal.returns
 returns c =

@@ -17,7 +17,7 @@ returns-clause-diving c =
     let n = c.args.backtracks in
     let m = c.in_ok-tree.tree in
     let now = c.replay.new.self in
-    let tame = subst (λ Q. TameAlong Q path) c.requires.task c.kept.ensures.tame in
+    let tame = subst (λ Q. TameAlong Q path) c.requires.task c.law_kept.ensures.tame in
     let begun : c.of.result.value ≡ path = c.of.ensures ∙ c.path-3.ensures in
     let stands : now.base ≡ path = c.in_ok-replay.ensures.ok.0 ∙ c.path.ensures in
     record {
@@ -30,7 +30,7 @@ returns-clause-diving c =
         stack = subst (λ ws. Stack m 0 c.of.result.value (record { leaf = 0; path = now.base }) (places ws)) (sym c.clear.ensures.items)
             (subst (λ l. Stack l 0 c.of.result.value (record { leaf = 0; path = now.base }) []) (sym c.in_ok-tree.ensures) (root_stack now.base c.of.result.value (stands ∙ sym begun)));
         block = c.in_ok-replay.ensures.ok.1;
-        floor = c.floor.ensures ∙ c.kept.ensures.floor ∙ ap (λ Q. floor Q path) c.requires.task ∙ ap (floor P) (sym stands);
+        floor = c.floor.ensures ∙ c.law_kept.ensures.floor ∙ ap (λ Q. floor Q path) c.requires.task ∙ ap (floor P) (sym stands);
         since = tt;
         root = λ e. stands ∙ sym c.path-2.ensures ∙ c.is_empty.ensures.0 e;
       };

@@ -30,7 +30,7 @@ pub returns-in-None-clause-expanded : goal.returns-in-None-clause-expanded
 returns-in-None-clause-expanded c =
     let p = c.args.self.now in
     let closing = c.requires.closing in
-    let ends = closed_end p.store.network p c.args.growth.now c.args.leaf c.args.block c.close.new.self c.linked.ensures.linked c.linked-2.ensures.linked c.close.ensures closing (none_waits p.waiting c.in-None.ensures.cases.0) in
+    let ends = closed_end p.store.network p c.args.growth.now c.args.leaf c.args.block c.close.new.self c.law_linked.ensures.linked c.law_linked-2.ensures.linked c.close.ensures closing (none_waits p.waiting c.in-None.ensures.cases.0) in
     record {
       diving = record {
         kept = record {
@@ -55,7 +55,7 @@ returns-in-Some-clause-expanded c =
     let leaf = c.go_back.result in
     let is = c.go_back.ensures in
     let was = popped P g.tree g.base.value c.args.leaf.number p.store p.waiting.items ws w refl c.in-Some.ensures.items closing.kept.waiting closing.stack in
-    let back = closed_back P p g c.args.leaf c.args.block c.close.new.self c.linked.ensures.linked c.linked-2.ensures.linked c.close.ensures closing ws w c.in-Some.ensures.items (g.left - 1) (let l = closing.left in omega (arith, l)) in
+    let back = closed_back P p g c.args.leaf c.args.block c.close.new.self c.law_linked.ensures.linked c.law_linked-2.ensures.linked c.close.ensures closing ws w c.in-Some.ensures.items (g.left - 1) (let l = closing.left in omega (arith, l)) in
     let place : place_of w ≡ record { leaf = leaf.id.number; path = now.base } = ap (λ n. record { leaf = n; path = (place_of w).path }) (ap (λ (i : NodeId). i.number) (sym is.leaf)) ∙ ap (λ h. record { leaf = leaf.id.number; path = h }) (sym is.base) in
     subst (λ (q : Parts). IsExpanded P g (record g { tree = c.close.new.self; current = Some leaf; nodes = g.nodes + 1; left = g.left - 1 }) q) (sym is.same) (record {
       diving = record {

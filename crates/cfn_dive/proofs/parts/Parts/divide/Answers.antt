@@ -52,7 +52,7 @@ returns-clause-expanded c =
             values = expanding.kept.of.values;
             offer = expanding.kept.of.offer;
           };
-          grown = divided P p g c.args.leaf c.in_ok-block.block d m c.linked.ensures.linked c.linked-2.ensures.linked is expanding c.in_ok-block.ensures decision (split_strict p.store d c.requires.splits) c.block_stays_tame.ensures (enforced_here P p.store g.threshold c.args.settled refl c.requires.threshold c.requires.settled c.requires.groups);
+          grown = divided P p g c.args.leaf c.in_ok-block.block d m c.law_linked.ensures.linked c.law_linked-2.ensures.linked is expanding c.in_ok-block.ensures decision (split_strict p.store d c.requires.splits) c.law_block_stays_tame.ensures (enforced_here P p.store g.threshold c.args.settled refl c.requires.threshold c.requires.settled c.requires.groups);
           waiting = subst (AreWaiting P) (sym items) (waiting_push P p.waiting.items w expanding.kept.waiting (record {
             network = ap (λ (n : Standing). n.network) c.mark.ensures;
             decision = decision;
@@ -62,7 +62,7 @@ returns-clause-expanded c =
         };
         at = record {
           stack = subst (λ l. Stack m 0 g.base.value (record { leaf = one.number; path = now.base }) (places l)) (sym items)
-              (stack_divided P p g c.args.leaf c.in_ok-block.block d m c.linked.ensures.linked c.linked-2.ensures.linked is expanding c.in_ok-block.ensures one two w now.base c.in_ok-first.ensures.children.0 c.in_ok-first.ensures.children.1 refl refl c.mark.ensures base);
+              (stack_divided P p g c.args.leaf c.in_ok-block.block d m c.law_linked.ensures.linked c.law_linked-2.ensures.linked is expanding c.in_ok-block.ensures one two w now.base c.in_ok-first.ensures.children.0 c.in_ok-first.ensures.children.1 refl refl c.mark.ensures base);
           block = ap (λ (n : Standing). n.block) c.take.ensures;
           floor = c.floor-floor.ensures ∙ taken_floor (floor P (history p.store)) ∙ ap (floor P) (sym base);
           since = subst (λ o. IfSome o (IsBehindSettled now)) (sym c.since.ensures)

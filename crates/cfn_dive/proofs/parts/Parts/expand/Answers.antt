@@ -21,7 +21,7 @@ close-requires g c =
     let reached = c.if-leaf-from.true in
     let from = c.from.ensures in
     record {
-      closing = closes_at_once p.store.network p old c.args.leaf c.look-growth.result c.new.result c.requires.diving c.requires.current (omega (arith, falls, at)) c.new.ensures (omega (arith, reached, from)) c.block_stays_tame.ensures c.requires.left c.requires.few;
+      closing = closes_at_once p.store.network p old c.args.leaf c.look-growth.result c.new.result c.requires.diving c.requires.current (omega (arith, falls, at)) c.new.ensures (omega (arith, reached, from)) c.law_block_stays_tame.ensures c.requires.left c.requires.few;
     }
 
 pub enforce-requires-clause-diving : goal.enforce-requires-clause-diving

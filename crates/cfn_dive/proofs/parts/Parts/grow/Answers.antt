@@ -16,14 +16,14 @@ returns-then-floor-from-clause-made g c =
     let task = c.args.task.now.task in
     let timed = g.H.Halt.limited c.args.halt.now in
     let seen = c.look.new.holder.seen in
-    let upper = c.kept.ensures.seen in
-    let great = c.limits.ensures.upper in
+    let upper = c.law_kept.ensures.seen in
+    let great = c.law_limits.ensures.upper in
     let reached = c.if-floor-from.true in
     let from = c.from.ensures in
     let is_floor = c.floor.ensures in
     let is_seen = c.seen.ensures in
     made_ok c.closed_at_once.result (λ made. IsMade P task c.args.backtracks timed seen made.tree made.cut) c.closed_at_once.ensures.tree c.closed_at_once.ensures.cut
-    (λ made tree cut. closed_made P task c.args.backtracks timed seen made.tree made.cut tree cut (subst (λ Q. IsTask Q task) c.requires.task c.kept-2.ensures) (omega (arith, reached, from, is_floor, is_seen)) (omega (arith, upper, great, ap (λ (Q : Network). Q.upper) (c.requires.word ∙ sym c.requires.network))) c.requires.some)
+    (λ made tree cut. closed_made P task c.args.backtracks timed seen made.tree made.cut tree cut (subst (λ Q. IsTask Q task) c.requires.task c.law_kept-2.ensures) (omega (arith, reached, from, is_floor, is_seen)) (omega (arith, upper, great, ap (λ (Q : Network). Q.upper) (c.requires.word ∙ sym c.requires.network))) c.requires.some)
 
 pub loop-next-init : goal.loop-next-init
 loop-next-init g c =
@@ -31,7 +31,7 @@ loop-next-init g c =
     let start = c.in_ok-growth.growth in
     let nodes = begins.nodes in
     let left = begins.left in
-    let some = c.kept-2.ensures.some in
+    let some = c.law_kept-2.ensures.some in
     let grants = c.grant-grant.ensures in
     let back = c.requires.some in
     record {
@@ -60,8 +60,8 @@ returns-clause-made g c =
     let none = next_none c.loop-next.next c.in_default.not-Some in
     let grants = c.grant-grant.ensures in
     let few = inv.few in
-    let upper = c.kept-3.ensures.seen in
-    let great = c.limits.ensures.upper in
+    let upper = c.law_kept-3.ensures.seen in
+    let great = c.law_limits.ensures.upper in
     subst (λ (tree : List Node). IsMade P c.args.task.now.task c.args.backtracks timed c.loop-next.holder.seen tree (c.loop-next.growth.left == 0)) (sym c.in_ok-shared.ensures)
     (made P c.loop-next.self c.loop-next.growth c.args.task.now.task c.args.backtracks timed c.loop-next.holder.seen _ inv.diving inv.base inv.threshold
     (omega (arith, upper, great, ap (λ (Q : Network). Q.upper) (c.requires.word ∙ sym c.requires.network))) inv.granted (inv.some none) (omega (arith, few, grants))

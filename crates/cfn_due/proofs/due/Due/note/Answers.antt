@@ -7,7 +7,7 @@ use Rattle.cfn_due.proofs.due.Due.note.Goals as goal
 pub returns-in-Did-clause-keeps : goal.returns-in-Did-clause-keeps
 returns-in-Did-clause-keeps c = λ history debts holds.
     let P = c.args.network.now in
-    holding_goes_on P history c.args.event.now c.args.self.now c.note_step.new.self c.limits.ensures c.requires.place debts
+    holding_goes_on P history c.args.event.now c.args.self.now c.note_step.new.self c.law_limits.ensures c.requires.place debts
     (subst (λ e. IsNoted P e c.args.self.now c.note_step.new.self) (sym c.in-Did.is) c.note_step.ensures.noted)
     holds
 
@@ -22,4 +22,4 @@ returns-in-Took-clause-noted c = noted c
 
 pub returns-in-Took-clause-keeps : goal.returns-in-Took-clause-keeps
 returns-in-Took-clause-keeps c = λ history debts holds.
-    holding_goes_on c.args.network.now history c.args.event.now c.args.self.now c.lose.new.self c.limits.ensures c.requires.place debts (noted c) holds
+    holding_goes_on c.args.network.now history c.args.event.now c.args.self.now c.lose.new.self c.law_limits.ensures c.requires.place debts (noted c) holds

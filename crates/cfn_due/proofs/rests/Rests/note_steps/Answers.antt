@@ -22,7 +22,7 @@ pub note_step-requires-clause-range : goal.note_step-requires-clause-range
 note_step-requires-clause-range c =
     let s = c.args.store.now in
     let there = c.loop-i-test.true in
-    let range = (exact_here s.network (history s) c.exact.ensures).range in
+    let range = (exact_here s.network (history s) c.law_exact.ensures).range in
     subst (λ P. InRange P c.step.result) (sym c.network-network.ensures)
     (subst (InRange s.network) (c.step.ensures c.step.result) (step_in_range s.network s.block s.base c.loop-i.i c.step.result (omega (arith, there, c.block_len-i-end.ensures)) range))
 
@@ -44,5 +44,5 @@ returns c = λ sure.
     let s = c.args.store.now in
     let long = length-drop c.args.start s.block in
     let all = take_all (c.loop-i.i - c.args.start) (drop c.args.start s.block) (omega (arith, long, c.loop-i-test.false, c.block_len-i-end.ensures)) in
-    sure_along s.network s.block s.base c.args.start c.args.self.now c.loop-i.self (subst IsNetwork c.network-network.ensures c.limits.ensures) c.exact.ensures
+    sure_along s.network s.block s.base c.args.start c.args.self.now c.loop-i.self (subst IsNetwork c.network-network.ensures c.law_limits.ensures) c.law_exact.ensures
     (subst (λ steps. AreDoubted c.args.self.now c.loop-i.self (GoesWithOne (GoesFull s.network) steps)) all c.loop-i.invariant.doubted) sure

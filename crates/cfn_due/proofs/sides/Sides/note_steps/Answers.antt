@@ -15,7 +15,7 @@ pub note_step-requires-clause-range : goal.note_step-requires-clause-range
 note_step-requires-clause-range c =
     let s = c.args.store.now in
     let there = c.loop-i-test.true in
-    let range = (exact_here s.network (history s) c.exact.ensures).range in
+    let range = (exact_here s.network (history s) c.law_exact.ensures).range in
     subst (λ P. InRange P c.step.result) (sym c.requires.incidence)
     (subst (InRange s.network) (c.step.ensures c.step.result) (step_in_range s.network s.block s.base c.loop-i.i c.step.result (omega (arith, there, c.block_len-i-end.ensures)) range))
 
@@ -30,6 +30,6 @@ returns-clause-known c = λ known.
     let s = c.args.store.now in
     let long = length-drop c.args.start s.block in
     let all = take_all (c.loop-i.i - c.args.start) (drop c.args.start s.block) (omega (arith, long, c.loop-i-test.false, c.block_len-i-end.ensures)) in
-    supported_along s.network s.block s.base c.args.start c.args.self.now c.loop-i.self c.exact.ensures
+    supported_along s.network s.block s.base c.args.start c.args.self.now c.loop-i.self c.law_exact.ensures
     (subst (λ P. AreAsked P c.args.self.now c.loop-i.self (GoesWithSteps P (drop c.args.start s.block))) c.requires.incidence
     (subst (λ steps. AreAsked c.args.incidence.now c.args.self.now c.loop-i.self (GoesWithSteps c.args.incidence.now steps)) all c.loop-i.invariant)) known

@@ -33,7 +33,7 @@ loop-place-preserved c =
           (let pair = w.in-Some.pair in
           let arm : IsArmAt P h (place_at places n) pair = subst (λ N. IsArmAt N h (place_at places n) pair) net w.in-Some.ensures in
           let y = ap (λ l. slice_index l pair.other) w.scope.ensures in
-          let within = has_mark P h (place_at places n) pair c.loop-place.self-inside.met.items c.loop-place.self-inside.pairs.items _ c.limits.ensures v.marks arm y in
+          let within = has_mark P h (place_at places n) pair c.loop-place.self-inside.met.items c.loop-place.self-inside.pairs.items _ c.law_limits.ensures v.marks arm y in
           let unseen = mark_is P c.loop-place.self-inside.met.items pair _ w.index.result.now false within y w.index.ensures w.if-not-index.true in
           let items = ap (λ s. s.pairs.items) w.self-inside-is ∙ w.push_reserved.ensures.items in
           record {
@@ -49,7 +49,7 @@ loop-place-preserved c =
           (let pair = w.in-Some.pair in
           let arm : IsArmAt P h (place_at places n) pair = subst (λ N. IsArmAt N h (place_at places n) pair) net w.in-Some.ensures in
           let y = ap (λ l. slice_index l pair.other) w.scope.ensures in
-          let within = has_mark P h (place_at places n) pair c.loop-place.self-inside.met.items c.loop-place.self-inside.pairs.items _ c.limits.ensures v.marks arm y in
+          let within = has_mark P h (place_at places n) pair c.loop-place.self-inside.met.items c.loop-place.self-inside.pairs.items _ c.law_limits.ensures v.marks arm y in
           record {
             network = ap (λ s. s.network.now) w.self-inside-is ∙ v.network;
             room = (let cap = ap (λ s. vec_capacity s.pairs) w.self-inside-is in let room = v.room in omega (arith, cap, room));

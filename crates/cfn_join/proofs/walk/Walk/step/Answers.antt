@@ -30,7 +30,7 @@ returns c =
           let part = part_at first second sources i c.index.result.now c.part-ending.result.0.now block c.part-ending.result.1 _ c.requires.there c.index.ensures c.part-ending.ensures c.in_ok-block.ensures t.in-Split.is in
           let split = t.in_ok-split_behind-in-Split.ensures.ok in
           let len = ap (λ (u : Walk). length u.tree) t.self-is ∙ ap length split in
-          let few : length (split_behind_at nodes i block d) ≤ 4294967296 = omega (arith, c.linked.ensures.linked.few, len) in
+          let few : length (split_behind_at nodes i block d) ≤ 4294967296 = omega (arith, c.law_linked.ensures.linked.few, len) in
           let more : t.push-in-Split.new.self.items ≡ sources ++ a ∷ b ∷ [] =
           t.in_ok-push-in-Split-2.ensures.items ∙ ap (λ (l : List Source). l ++ b ∷ []) t.in_ok-push-in-Split.ensures.items ∙ append_assoc sources (a ∷ []) (b ∷ []) in
           subst now (sym t.self-is) (subst (λ ns. IsWalking first second ns t.push-in-Split.new.self.items (i + 1)) (sym split)

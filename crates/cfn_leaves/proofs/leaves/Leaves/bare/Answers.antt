@@ -11,7 +11,7 @@ use Rattle.cfn_leaves.proofs.leaves.Leaves.bare.Goals as goal
 pub place-requires-clause-fit : goal.place-requires-clause-fit
 place-requires-clause-fit c =
     let spots : c.deref.result.now ≡ spots_of c.args.tree c.constants.result = c.deref.ensures.value ∙ c.in_ok-walk.ensures.spots in
-    subst (All (FitsPlace 1)) (sym spots) (root_fits c.args.network.now c.args.tree c.constants.result c.linked.ensures.linked)
+    subst (All (FitsPlace 1)) (sym spots) (root_fits c.args.network.now c.args.tree c.constants.result c.law_linked.ensures.linked)
 
 pub invariant_of-result-3 : goal.invariant_of-result-3
 invariant_of-result-3 c =
@@ -23,7 +23,7 @@ invariant_of-result-3 c =
     let listed = c.place.ensures.listed (subst (λ t. IsListed t c.reserve.new.list.leaves) (sym none) (nothing_listed c.reserve.new.list.leaves no_leaf)) in
     let size : length c.deref.result.now ≡ c.len-more.result = c.deref.ensures.len ∙ sym c.len-more.ensures in
     let long : length c.place.new.list.leaves ≡ length c.deref.result.now = omega (arith, c.place.ensures.len, ap length no_leaf) in
-    let o = opened P c.args.tree c.deref.result.now c.place.new.table.items c.place.new.list c.same_before.ensures.once c.linked.ensures.linked spots table listed long
+    let o = opened P c.args.tree c.deref.result.now c.place.new.table.items c.place.new.list c.law_same_before.ensures.once c.law_linked.ensures.linked spots table listed long
     (omega (arith, c.in_ok-reserve.ensures.few, size)) in
     all_kept P c.of.result.value c.args.tree _ c.place.new.table.items c.place.new.list _ (length c.deref.result.now) c.len-more.result c.args.budget c.in_ok-with_capacity.field-0.items (vec_capacity c.in_ok-with_capacity.field-0)
     c.of.ensures c.tree.view_is c.list-2.view_is (sym size) c.in_ok-with_capacity.ensures.items c.in_ok-with_capacity.ensures.capacity o.body
@@ -38,7 +38,7 @@ returns c =
     let listed = c.place.ensures.listed (subst (λ t. IsListed t c.reserve.new.list.leaves) (sym none) (nothing_listed c.reserve.new.list.leaves no_leaf)) in
     let size : length c.deref.result.now ≡ c.len-more.result = c.deref.ensures.len ∙ sym c.len-more.ensures in
     let long : length c.place.new.list.leaves ≡ length c.deref.result.now = omega (arith, c.place.ensures.len, ap length no_leaf) in
-    let o = opened P c.args.tree c.deref.result.now c.place.new.table.items c.place.new.list c.same_before.ensures.once c.linked.ensures.linked spots table listed long
+    let o = opened P c.args.tree c.deref.result.now c.place.new.table.items c.place.new.list c.law_same_before.ensures.once c.law_linked.ensures.linked spots table listed long
     (omega (arith, c.in_ok-reserve.ensures.few, size)) in
     record {
       network = c.of.ensures;

@@ -20,5 +20,5 @@ returns c =
     let items = c.deref-held-items.result.now in
     let all : c.loop-held.least ≡ least_floor c.args.threshold items = sym (at_drop_all (least_floor c.loop-held.least) items c.loop-held.held-index (omega (arith, c.loop-held-test.false))) ∙ c.loop-held.invariant in
     let low : c.loop-held.least ≡ bound m.network [] (tree_of (pool_tree m)) c.args.threshold =
-    all ∙ ap (least_floor c.args.threshold) c.deref-held-items.ensures.value ∙ least_bound m.network c.args.threshold m.tree m.table (pool_tree m) c.same_before.ensures.once c.self.invariant.body.are in
+    all ∙ ap (least_floor c.args.threshold) c.deref-held-items.ensures.value ∙ least_bound m.network c.args.threshold m.tree m.table (pool_tree m) c.law_same_before.ensures.once c.self.invariant.body.are in
     subst (λ (old : Holding). c.loop-held.least ≡ bound old.network [] (tree_of (pool_tree old)) c.args.threshold) c.self.view_is low

@@ -12,7 +12,7 @@ invariant_of-self c =
     let m = value c.self.inside in
     let inside = c.self.invariant in
     record {
-      body = kept_aside (has_leaf (Some c.in-Some.part)) m.network m.tree c.self.inside.opened c.self.inside.granted m.table c.set_aside.new.table.items c.self.inside.list c.set_aside.new.list c.set_aside.result c.same_before.ensures.once inside.body
+      body = kept_aside (has_leaf (Some c.in-Some.part)) m.network m.tree c.self.inside.opened c.self.inside.granted m.table c.set_aside.new.table.items c.self.inside.list c.set_aside.new.list c.set_aside.result c.law_same_before.ensures.once inside.body
           c.set_aside.ensures.ok c.set_aside.ensures.table c.set_aside.ensures.list;
       within = inside.within;
       few = inside.few;
@@ -26,7 +26,7 @@ returns-in_default c =
     let none = subst (λ (h : Holding). outs h.table ≡ 0) (sym c.self.view_is) c.requires.free in
     record {
       ok = subst (λ p. SetsAside (has_leaf p) c.args.self.now c.args.self.now) (sym c.in_default.is)
-          (subst (λ (h : Holding). SetsAside (has_leaf None) h h) c.self.view_is (record { same = refl; tree_is = none_aside m.network (body c.self.inside) c.same_before.ensures.once none inside.body; len = refl }));
+          (subst (λ (h : Holding). SetsAside (has_leaf None) h h) c.self.view_is (record { same = refl; tree_is = none_aside m.network (body c.self.inside) c.law_same_before.ensures.once none inside.body; len = refl }));
     }
 
 pub returns : goal.returns
@@ -37,5 +37,5 @@ returns c =
     record {
       ok = subst (λ p. OnOk c.set_aside.result (SetsAside (has_leaf p) c.args.self.now new)) (sym c.in-Some.is)
           (subst (λ (h : Holding). OnOk c.set_aside.result (SetsAside (has_leaf (Some c.in-Some.part)) h new)) c.self.view_is
-          (aside_in (has_leaf (Some c.in-Some.part)) m c.self.inside.opened c.self.inside.granted c.set_aside.new.table.items c.self.inside.list c.set_aside.new.list c.set_aside.result c.same_before.ensures.once inside.body c.set_aside.ensures.ok));
+          (aside_in (has_leaf (Some c.in-Some.part)) m c.self.inside.opened c.self.inside.granted c.set_aside.new.table.items c.self.inside.list c.set_aside.new.list c.set_aside.result c.law_same_before.ensures.once inside.body c.set_aside.ensures.ok));
     }

@@ -20,7 +20,7 @@ returns-in_default c =
       | inr other ↦ omega (arith, other)
     ] in
     subst (λ (h : Holding). (view : View) → HasNone (pool_of h view) AllOut) c.self.view_is
-    (λ view. (some, c.if-self.false, inl (none_free m.network (body c.self.inside) (pool_tree m) c.same_before.ensures.once inside.body c.in_default.ensures)))
+    (λ view. (some, c.if-self.false, inl (none_free m.network (body c.self.inside) (pool_tree m) c.law_same_before.ensures.once inside.body c.in_default.ensures)))
 
 pub returns : goal.returns
 returns c =
@@ -29,4 +29,4 @@ returns c =
     let at : entry_at m.table c.in-Some.first.leaf ≡ Some c.in-Some-held.entry = ap (λ l. entry_at l c.in-Some.first.leaf) (sym c.deref.ensures.value) ∙ sym c.held.ensures ∙ c.in-Some-held.is in
     let due : Due = record { leaf = c.in-Some.first; node = c.in-Some-held.entry.node; left = m.budget - (m.nodes + c.self.inside.granted) } in
     subst (λ (h : Holding). IsNext h due) c.self.view_is
-    (next_is m (body c.self.inside) c.in-Some.first c.in-Some-held.entry due c.same_before.ensures.once refl refl inside.body c.in-Some.ensures at refl refl (omega (arith, inside.within)) c.if-left-eq0.false c.if-self.false)
+    (next_is m (body c.self.inside) c.in-Some.first c.in-Some-held.entry due c.law_same_before.ensures.once refl refl inside.body c.in-Some.ensures at refl refl (omega (arith, inside.within)) c.if-left-eq0.false c.if-self.false)

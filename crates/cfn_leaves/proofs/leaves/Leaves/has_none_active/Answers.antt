@@ -10,7 +10,7 @@ returns-then-len-eq0 c =
     let m = value c.self.inside in
     let b = body c.self.inside in
     let held = c.self.invariant.body in
-    let once = c.same_before.ensures.once in
+    let once = c.law_same_before.ensures.once in
     subst (λ (h : Holding). (IsTrue (nat_eq c.self.inside.granted 0) → active_leaves (pool_tree h) ≡ 0) × (active_leaves (pool_tree h) ≡ 0 → IsTrue (nat_eq c.self.inside.granted 0))) c.self.view_is (
       λ none. none_then m.network b (pool_tree m) once held (sym c.len.ensures ∙ c.if-len-eq0.true) (eqb-true _ _ none),
       λ none. eq-eqb _ _ (nothing_granted m.network b (pool_tree m) once held none),
@@ -21,7 +21,7 @@ returns-else-len-eq0 c =
     let m = value c.self.inside in
     let b = body c.self.inside in
     let held = c.self.invariant.body in
-    let once = c.same_before.ensures.once in
+    let once = c.law_same_before.ensures.once in
     subst (λ (h : Holding). (IsTrue (nat_eq c.len.result 0) → active_leaves (pool_tree h) ≡ 0) × (active_leaves (pool_tree h) ≡ 0 → IsTrue (nat_eq c.len.result 0))) c.self.view_is (
       λ none. absurd (c.if-len-eq0.false (eqb-true _ _ none)),
       λ none. absurd (c.if-len-eq0.false (c.len.ensures ∙ nothing_listed m.network b (pool_tree m) once held none)),

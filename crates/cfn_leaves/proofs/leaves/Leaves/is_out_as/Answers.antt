@@ -12,7 +12,7 @@ pub is_at-requires : goal.is_at-requires
 is_at-requires c =
     let m = value c.self.inside in
     let entry = subst (λ (h : Holding). IsOutEntry h c.leaf.result c.from-worker.result c.grant.result c.in-Some.entry) (sym c.self.view_is) c.in-Some.ensures in
-    (is_held m.network (body c.self.inside) (pool_tree m) c.leaf.result c.in-Some.entry c.same_before.ensures.once c.self.invariant.body entry.is).there
+    (is_held m.network (body c.self.inside) (pool_tree m) c.leaf.result c.in-Some.entry c.law_same_before.ensures.once c.self.invariant.body entry.is).there
 
 pub returns-in-Some : goal.returns-in-Some
 returns-in-Some c =
@@ -26,6 +26,6 @@ returns-in-Some c =
     (subst (λ g. T c.leaf.result c.from-worker.result g) c.grant.ensures
     (subst (λ (h : Holding). IsOutEntry h c.leaf.result c.from-worker.result c.grant.result e) (sym c.self.view_is) c.in-Some.ensures))) in
     subst (λ (h : Holding). IsTrue c.is_at.result ↔ IsTaskOut h task) c.self.view_is (
-      λ yes. path_out m (body c.self.inside) task e c.same_before.ensures.once refl refl c.self.invariant.body entry (subst (IsPathOf m.tree e.node.number) c.path.ensures (c.is_at.ensures.0 yes)),
-      λ out. c.is_at.ensures.1 (subst (IsPathOf m.tree e.node.number) (sym c.path.ensures) (out_path m (body c.self.inside) task e c.same_before.ensures.once refl refl c.self.invariant.body entry (record { best = None; seen = 0; shares = 0 }) out)),
+      λ yes. path_out m (body c.self.inside) task e c.law_same_before.ensures.once refl refl c.self.invariant.body entry (subst (IsPathOf m.tree e.node.number) c.path.ensures (c.is_at.ensures.0 yes)),
+      λ out. c.is_at.ensures.1 (subst (IsPathOf m.tree e.node.number) (sym c.path.ensures) (out_path m (body c.self.inside) task e c.law_same_before.ensures.once refl refl c.self.invariant.body entry (record { best = None; seen = 0; shares = 0 }) out)),
     )

@@ -11,7 +11,7 @@ overflow_sub-self c =
     let m = value c.self.inside in
     let entry = subst (λ (h : Holding). IsOutEntry h c.args.leaf c.args.worker c.args.grant c.in-Some.entry) (sym c.self.view_is) c.in-Some.ensures in
     let step = freed m c.self.inside.list c.free.new.list c.self.inside.opened c.self.inside.granted c.args.leaf c.args.worker c.args.grant c.in-Some.entry c.free.new.table.items
-    c.same_before.ensures.once c.self.invariant.body entry.is entry.mark c.free.ensures.leaves c.free.ensures.room c.free.ensures.table in
+    c.law_same_before.ensures.once c.self.invariant.body entry.is entry.mark c.free.ensures.leaves c.free.ensures.room c.free.ensures.table in
     omega (arith, step.few, c.self.invariant.body.granted)
 
 pub invariant_of-self : goal.invariant_of-self
@@ -19,7 +19,7 @@ invariant_of-self c =
     let m = value c.self.inside in
     let entry = subst (λ (h : Holding). IsOutEntry h c.args.leaf c.args.worker c.args.grant c.in-Some.entry) (sym c.self.view_is) c.in-Some.ensures in
     let step = freed m c.self.inside.list c.free.new.list c.self.inside.opened c.self.inside.granted c.args.leaf c.args.worker c.args.grant c.in-Some.entry c.free.new.table.items
-    c.same_before.ensures.once c.self.invariant.body entry.is entry.mark c.free.ensures.leaves c.free.ensures.room c.free.ensures.table in
+    c.law_same_before.ensures.once c.self.invariant.body entry.is entry.mark c.free.ensures.leaves c.free.ensures.room c.free.ensures.table in
     record { body = step.body; within = omega (arith, c.self.invariant.within); few = c.self.invariant.few; place = c.self.invariant.place }
 
 pub returns-clause-back : goal.returns-clause-back
@@ -27,7 +27,7 @@ returns-clause-back c = λ yes view floor path.
     let m = value c.self.inside in
     let entry = subst (λ (h : Holding). IsOutEntry h c.args.leaf c.args.worker c.args.grant c.in-Some.entry) (sym c.self.view_is) c.in-Some.ensures in
     let step = freed m c.self.inside.list c.free.new.list c.self.inside.opened c.self.inside.granted c.args.leaf c.args.worker c.args.grant c.in-Some.entry c.free.new.table.items
-    c.same_before.ensures.once c.self.invariant.body entry.is entry.mark c.free.ensures.leaves c.free.ensures.room c.free.ensures.table in
+    c.law_same_before.ensures.once c.self.invariant.body entry.is entry.mark c.free.ensures.leaves c.free.ensures.room c.free.ensures.table in
     let task = task_at c.args.leaf c.args.worker c.args.grant floor path in
     let new : Holding = record m { table = c.free.new.table.items } in
     subst (λ (old : Holding). PoolReturns (pool_of old view) task (pool_of new view)) c.self.view_is (returned m c.free.new.table.items _ task step view)

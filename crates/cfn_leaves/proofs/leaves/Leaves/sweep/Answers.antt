@@ -32,7 +32,7 @@ close-requires-clause-there c =
     let i = c.loop-place.place in
     let at : entry_at m.table.items leaf.leaf ≡ Some c.in-Some.entry = ap (λ l. entry_at l leaf.leaf) (sym c.deref.ensures.value) ∙ sym c.held.ensures ∙ c.in-Some.is in
     let on = next_high c.args.word first m i leaf c.loop-place.invariant (omega (arith, c.loop-place-test.true, c.len-place-end.ensures)) c.at-leaf.ensures (omega (arith, c.if-leaf-k.true, c.from-k.ensures)) in
-    (is_next m.network.value c.args.word (marked first.tree first.table.items) (length first.table.items) (body m) leaf (ahead c.args.word first.list.leaves (i + 1)) (stay c.args.word first.list.leaves) c.in-Some.entry c.same_before.ensures.once on at).there
+    (is_next m.network.value c.args.word (marked first.tree first.table.items) (length first.table.items) (body m) leaf (ahead c.args.word first.list.leaves (i + 1)) (stay c.args.word first.list.leaves) c.in-Some.entry c.law_same_before.ensures.once on at).there
 
 pub close-requires-clause-free : goal.close-requires-clause-free
 close-requires-clause-free c =
@@ -42,7 +42,7 @@ close-requires-clause-free c =
     let i = c.loop-place.place in
     let at : entry_at m.table.items leaf.leaf ≡ Some c.in-Some.entry = ap (λ l. entry_at l leaf.leaf) (sym c.deref.ensures.value) ∙ sym c.held.ensures ∙ c.in-Some.is in
     let on = next_high c.args.word first m i leaf c.loop-place.invariant (omega (arith, c.loop-place-test.true, c.len-place-end.ensures)) c.at-leaf.ensures (omega (arith, c.if-leaf-k.true, c.from-k.ensures)) in
-    (is_next m.network.value c.args.word (marked first.tree first.table.items) (length first.table.items) (body m) leaf (ahead c.args.word first.list.leaves (i + 1)) (stay c.args.word first.list.leaves) c.in-Some.entry c.same_before.ensures.once on at).free
+    (is_next m.network.value c.args.word (marked first.tree first.table.items) (length first.table.items) (body m) leaf (ahead c.args.word first.list.leaves (i + 1)) (stay c.args.word first.list.leaves) c.in-Some.entry c.law_same_before.ensures.once on at).free
 
 pub loop-place-preserved : goal.loop-place-preserved
 loop-place-preserved c =
@@ -61,7 +61,7 @@ loop-place-preserved c =
           let high = w.if-leaf-k.true in
           let on = next_high k first m i leaf inv (omega (arith, below, len)) c.at-leaf.ensures (omega (arith, high, from)) in
           let closed = closes m.network.value k (marked first.tree first.table.items) (length first.table.items) (body m) leaf (ahead k first.list.leaves (i + 1)) (stay k first.list.leaves) w.in-Some.entry w.close.new.tree w.close.new.table.items
-          c.same_before.ensures.once on at w.close.ensures.tree w.close.ensures.linked w.close.ensures.table in
+          c.law_same_before.ensures.once on at w.close.ensures.tree w.close.ensures.linked w.close.ensures.table in
           subst (λ now. SweepsOn k first now (i + 1)) (sym w.self-inside-is)
           (record { sweeping = closed.1; list = inv.list; network = inv.network; granted = inv.granted; budget = inv.budget; begun = inv.begun; nodes = inv.nodes; rows = inv.rows }))
       | then-leaf-k+in_default w ↦
@@ -81,7 +81,7 @@ invariant_of-self c =
     let m = c.loop-place.self-inside in
     let inv = c.loop-place.invariant in
     let kept = subst (λ n. IsPermutation (filter (is_below n) m.list.leaves) c.keep_below.new.self.leaves) c.from-k.ensures c.keep_below.ensures.leaves in
-    let e = all_swept k first m c.loop-place.place c.keep_below.new.self c.same_before.ensures.once inv (omega (arith, c.loop-place-test.false, c.len-place-end.ensures)) kept c.keep_below.ensures.room in
+    let e = all_swept k first m c.loop-place.place c.keep_below.new.self c.law_same_before.ensures.once inv (omega (arith, c.loop-place-test.false, c.len-place-end.ensures)) kept c.keep_below.ensures.room in
     record {
       body = e.1;
       within = omega (arith, c.self.invariant.within, inv.nodes, inv.granted, inv.budget);
@@ -96,7 +96,7 @@ returns-clause-sweeps c = λ view.
     let m = c.loop-place.self-inside in
     let inv = c.loop-place.invariant in
     let kept = subst (λ n. IsPermutation (filter (is_below n) m.list.leaves) c.keep_below.new.self.leaves) c.from-k.ensures c.keep_below.ensures.leaves in
-    let e = all_swept k first m c.loop-place.place c.keep_below.new.self c.same_before.ensures.once inv (omega (arith, c.loop-place-test.false, c.len-place-end.ensures)) kept c.keep_below.ensures.room in
+    let e = all_swept k first m c.loop-place.place c.keep_below.new.self c.law_same_before.ensures.once inv (omega (arith, c.loop-place-test.false, c.len-place-end.ensures)) kept c.keep_below.ensures.room in
     let old = value first in
     subst (λ (old : Holding). PoolSweeps old.network (pool_of old view) k (pool_of (value m) (record view { seen = k }))) c.self.view_is
     (same_pool (record view { seen = k }) (e.0 ∙ ap (λ (n : _). swept n.value k (pool_tree old) []) inv.network) inv.sweeping.long inv.budget inv.begun inv.nodes (ap (λ r. r.items) inv.rows))

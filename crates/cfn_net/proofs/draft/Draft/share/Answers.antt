@@ -14,7 +14,7 @@ cells-cells-requires c =
 
 pub invariant_of-self-2 : goal.invariant_of-self-2
 invariant_of-self-2 c =
-    IsOpen-share c.behind.new.network c.args.self.now c.args.earlier c.args.scope.now c.copy.new.self (c.in_ok-open.ensures.network ∙ c.self.view_is) c.limits.ensures c.requires.room c.requires.earlier c.requires.dims (c.copy.ensures.function ∙ ap (share_of c.behind.new.network c.args.earlier) (ap (λ (f : Function). f.scope) c.in_ok-open.ensures.function)) c.copy.ensures.shares
+    IsOpen-share c.behind.new.network c.args.self.now c.args.earlier c.args.scope.now c.copy.new.self (c.in_ok-open.ensures.network ∙ c.self.view_is) c.law_limits.ensures c.requires.room c.requires.earlier c.requires.dims (c.copy.ensures.function ∙ ap (share_of c.behind.new.network c.args.earlier) (ap (λ (f : Function). f.scope) c.in_ok-open.ensures.function)) c.copy.ensures.shares
 
 pub returns-clause-cells : goal.returns-clause-cells
 returns-clause-cells c =

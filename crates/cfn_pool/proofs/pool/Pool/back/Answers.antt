@@ -16,7 +16,7 @@ invariant_of-self g c =
     let part = c.self.inside.holder in
     record {
       room = c.freed.ensures.room;
-      held = kept_by_step g.M.Incumbent.network (held c.self.inside.leaves part c.self.inside.recording) (held c.back.new.self part c.freed.new.self) 0 (steps.Returns c.args.task.now.task) c.kept.ensures.reached (c.back.ensures.network ∙ c.self.invariant.held.own) c.self.invariant.held tt
+      held = kept_by_step g.M.Incumbent.network (held c.self.inside.leaves part c.self.inside.recording) (held c.back.new.self part c.freed.new.self) 0 (steps.Returns c.args.task.now.task) c.law_kept.ensures.reached (c.back.ensures.network ∙ c.self.invariant.held.own) c.self.invariant.held tt
           (c.back.ensures.back c.if-back.true (view_of part)) c.freed.ensures.adds;
     }
 
@@ -40,4 +40,4 @@ freed-requires-clause-spelled g c =
     let task = c.args.task.now.task in
     let back = c.back.ensures.back c.if-back.true (view_of part) in
     out_spelled g.M.Incumbent.network (pool_of c.self.inside.leaves (view_of part)) task.leaf task.worker task.grant back.path (was_out c.self.inside.leaves c.back.new.self part task back) (value_of c.self.inside.recording)
-    c.self.invariant.held.pool_is c.numbered.ensures c.self.invariant.held.recorded
+    c.self.invariant.held.pool_is c.law_numbered.ensures c.self.invariant.held.recorded

@@ -22,7 +22,7 @@ begin_with-requires-clause-few g c = let none = ap (λ (ns : List Node). count (
 
 pub begin_with-requires-clause-kept : goal.begin_with-requires-clause-kept
 begin_with-requires-clause-kept g c =
-    kept_at_first g.M.Incumbent.network c.in-Ok.tree c.args.holder.held (subst IsNetwork c.requires.own c.limits.ensures) c.in-Ok.ensures c.requires.none
+    kept_at_first g.M.Incumbent.network c.in-Ok.tree c.args.holder.held (subst IsNetwork c.requires.own c.law_limits.ensures) c.in-Ok.ensures c.requires.none
 
 pub begin_with-requires-clause-seen : goal.begin_with-requires-clause-seen
 begin_with-requires-clause-seen g c = c.requires.seen ∙ sym (ap (λ (h : Option Solution). price g.M.Incumbent.network (values_of h)) c.requires.none)

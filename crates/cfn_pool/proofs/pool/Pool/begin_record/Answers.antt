@@ -23,6 +23,6 @@ invariant_of-self g c =
         recorded = first_told P c.requires.opening.0 history (pool now) 3 (ap pool c.self.view_is ∙ c.requires.opening.1 ∙ ap (opening_pool P c.requires.opening.0) budget)
             (c.reserve.ensures.happened ∙ ap (λ (h : HistoryValue). h.happened) c.new-history.ensures)
             (let few = c.requires.budget in let is = ap (λ (h : Held). (pool h).budget) c.self.view_is in omega (arith, few, budget, is))
-            (let top = c.limits.ensures.upper in let same = ap (λ (Q : Network). Q.upper) c.requires.own in omega (arith, top, same));
+            (let top = c.law_limits.ensures.upper in let same = ap (λ (Q : Network). Q.upper) c.requires.own in omega (arith, top, same));
       };
     }

@@ -39,7 +39,7 @@ invariant_of-result g c =
       room = tt;
       held = record {
         own = c.in-Ok.ensures.network ∙ c.requires.own;
-        pool_is = subst (IsPool P) (sym (returns-in-Ok-clause-pool g c)) (opens_part (has_leaf c.args.part) P c.args.holder.shares c.args.budget (tree_of c.args.tree) best (subst IsNetwork c.requires.own c.limits.ensures) c.requires.kept);
+        pool_is = subst (IsPool P) (sym (returns-in-Ok-clause-pool g c)) (opens_part (has_leaf c.args.part) P c.args.holder.shares c.args.budget (tree_of c.args.tree) best (subst IsNetwork c.requires.own c.law_limits.ensures) c.requires.kept);
         rows = subst (AreReached P) (sym (ap (λ (p : Pool). p.rows) (returns-in-Ok-clause-pool g c))) (upper_reached P k (nat_lt k P.upper) refl (reached P best c.requires.kept.fits), tt);
         recorded = tt;
       };

@@ -31,8 +31,8 @@ invariant_of-self g c =
     let below = c.heed-seen.ensures.below in
     record {
       room = c.gave.ensures.room;
-      held = kept_by_step g.M.Incumbent.network (held c.self.inside.leaves part c.self.inside.recording) (held c.give.new.self now c.gave.new.self) c.heed-seen.result (steps.Gives (piece_of c.args.piece)) c.kept-2.ensures.reached (c.in-Done.ensures.network ∙ c.self.invariant.held.own) c.self.invariant.held
-          (subst (λ (Q : Network). IsPiece Q (piece_of c.args.piece)) c.requires.own c.kept.ensures.piece, omega (arith, below, c.requires.seen), c.heed-seen.ensures.falls)
+      held = kept_by_step g.M.Incumbent.network (held c.self.inside.leaves part c.self.inside.recording) (held c.give.new.self now c.gave.new.self) c.heed-seen.result (steps.Gives (piece_of c.args.piece)) c.law_kept-2.ensures.reached (c.in-Done.ensures.network ∙ c.self.invariant.held.own) c.self.invariant.held
+          (subst (λ (Q : Network). IsPiece Q (piece_of c.args.piece)) c.requires.own c.law_kept.ensures.piece, omega (arith, below, c.requires.seen), c.heed-seen.ensures.falls)
           (given c.self.inside.leaves c.give.new.self part now c.args.piece c.heed-seen.result c.heed-seen.ensures.seen c.in-Done.ensures.gives)
           (c.gave.ensures.adds c.args.piece c.in-Ok.ensures);
     }
@@ -41,7 +41,7 @@ pub returns-in-Done : goal.returns-in-Done
 returns-in-Done g c =
     let part = c.self.inside.holder in
     let now = c.heed-seen.new.holder in
-    let price = price_is g.M.Incumbent.network part.held (subst (λ (s : Scoring). IsPriced s.network s.held) c.best.ensures c.priced.ensures) in
+    let price = price_is g.M.Incumbent.network part.held (subst (λ (s : Scoring). IsPriced s.network s.held) c.best.ensures c.law_priced.ensures) in
     record {
       gives = subst (λ (old : Held). IsGiven g.M.Incumbent.network (pool old) c.args.piece c.args.note (pool (held c.give.new.self now c.gave.new.self))) c.self.view_is (record {
         word = c.heed-seen.result;
@@ -72,10 +72,10 @@ pub gave-requires-clause-spelled : goal.gave-requires-clause-spelled
 gave-requires-clause-spelled g c =
     let part = c.self.inside.holder in
     let below = c.heed-seen.ensures.below in
-    let top = c.kept.ensures.threshold in
+    let top = c.law_kept.ensures.threshold in
     copy_spelled (value_of c.self.inside.recording) c.in-Ok.copy c.args.piece c.heed-seen.result c.in-Ok.ensures
     (out_spelled g.M.Incumbent.network (pool_of c.self.inside.leaves (view_of part)) c.args.piece.task.leaf c.args.piece.task.worker c.args.piece.task.grant c.args.piece.task.path
-    (was_out c.self.inside.leaves c.give.new.self part c.args.piece c.heed-seen.result c.in-Done.ensures.gives) (value_of c.self.inside.recording) c.self.invariant.held.pool_is c.numbered.ensures c.self.invariant.held.recorded)
+    (was_out c.self.inside.leaves c.give.new.self part c.args.piece c.heed-seen.result c.in-Done.ensures.gives) (value_of c.self.inside.recording) c.self.invariant.held.pool_is c.law_numbered.ensures c.self.invariant.held.recorded)
     top (omega (arith, below, c.requires.seen, top))
 
 pub returns-in-Gone : goal.returns-in-Gone

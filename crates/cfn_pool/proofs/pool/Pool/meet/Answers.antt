@@ -34,9 +34,9 @@ invariant_of-self g c =
     let leaves = c.self.inside.leaves in
     record {
       room = c.self.invariant.room;
-      held = kept_by_step g.M.Incumbent.network (held leaves one c.self.inside.recording) (held leaves new c.self.inside.recording) 0 (steps.Meets (view_of c.args.other)) c.kept.ensures.reached c.self.invariant.held.own c.self.invariant.held
-          (fits_is g.M.Incumbent.network c.args.other.held (subst (λ (s : Scoring). IsPriced s.network s.held) c.best-2.ensures c.priced-2.ensures))
-          (meets g.M.Incumbent.network c.args.self.now leaves c.self.inside.recording one c.args.other new c.self.view_is (subst (λ (s : Scoring). IsPriced s.network s.held) c.best.ensures c.priced.ensures) (subst (λ (s : Scoring). IsPriced s.network s.held) c.best-2.ensures c.priced-2.ensures) c.requires.shares c.meet.ensures)
+      held = kept_by_step g.M.Incumbent.network (held leaves one c.self.inside.recording) (held leaves new c.self.inside.recording) 0 (steps.Meets (view_of c.args.other)) c.law_kept.ensures.reached c.self.invariant.held.own c.self.invariant.held
+          (fits_is g.M.Incumbent.network c.args.other.held (subst (λ (s : Scoring). IsPriced s.network s.held) c.best-2.ensures c.law_priced-2.ensures))
+          (meets g.M.Incumbent.network c.args.self.now leaves c.self.inside.recording one c.args.other new c.self.view_is (subst (λ (s : Scoring). IsPriced s.network s.held) c.best.ensures c.law_priced.ensures) (subst (λ (s : Scoring). IsPriced s.network s.held) c.best-2.ensures c.law_priced-2.ensures) c.requires.shares c.meet.ensures)
           refl;
     }
 
@@ -46,4 +46,4 @@ returns-clause-meets g c =
     let new = c.meet.new.holder in
     let leaves = c.self.inside.leaves in
     subst (λ (old : Held). PoolMeets g.M.Incumbent.network (pool old) (view_of c.args.other) (pool_of leaves (view_of new))) c.self.view_is
-    (meets g.M.Incumbent.network c.args.self.now leaves c.self.inside.recording one c.args.other new c.self.view_is (subst (λ (s : Scoring). IsPriced s.network s.held) c.best.ensures c.priced.ensures) (subst (λ (s : Scoring). IsPriced s.network s.held) c.best-2.ensures c.priced-2.ensures) c.requires.shares c.meet.ensures)
+    (meets g.M.Incumbent.network c.args.self.now leaves c.self.inside.recording one c.args.other new c.self.view_is (subst (λ (s : Scoring). IsPriced s.network s.held) c.best.ensures c.law_priced.ensures) (subst (λ (s : Scoring). IsPriced s.network s.held) c.best-2.ensures c.law_priced-2.ensures) c.requires.shares c.meet.ensures)

@@ -22,4 +22,4 @@ returns-clause-hold g c =
     let part = c.self.inside.holder in
     let tree = tree_of (pool (held c.self.inside.leaves part c.self.inside.recording)).tree in
     subst (AreBounds P) (sym (row_is P c.self.inside.leaves.network c.args.network.now tree part.seen c.seen-seen.result c.ub.result _ c.self.invariant.held.own c.requires.own c.seen-seen.ensures c.ub.ensures c.bound.ensures c.below.ensures))
-    (row_holds P tree part.seen (subst IsNetwork c.requires.own c.limits.ensures) c.kept.ensures.seen c.self.invariant.held.pool_is.sound.valid c.kept.ensures.reached)
+    (row_holds P tree part.seen (subst IsNetwork c.requires.own c.law_limits.ensures) c.law_kept.ensures.seen c.self.invariant.held.pool_is.sound.valid c.law_kept.ensures.reached)

@@ -13,6 +13,6 @@ invariant_of-self g c =
     let notes = subst (λ (Q : Network). PoolNotes Q (pool_of c.self.inside.leaves (view_of part)) (pool_of c.note.new.self (view_of part))) c.self.invariant.held.own (c.note.ensures.notes (view_of part) (sym c.seen.ensures)) in
     record {
       room = c.self.invariant.room;
-      held = kept_by_step g.M.Incumbent.network (held c.self.inside.leaves part c.self.inside.recording) (held c.note.new.self part c.self.inside.recording) 0 steps.Notes c.kept.ensures.reached (c.note.ensures.network ∙ c.self.invariant.held.own) c.self.invariant.held
-          (subst IsNetwork c.requires.own c.limits.ensures) notes refl;
+      held = kept_by_step g.M.Incumbent.network (held c.self.inside.leaves part c.self.inside.recording) (held c.note.new.self part c.self.inside.recording) 0 steps.Notes c.law_kept.ensures.reached (c.note.ensures.network ∙ c.self.invariant.held.own) c.self.invariant.held
+          (subst IsNetwork c.requires.own c.law_limits.ensures) notes refl;
     }

@@ -28,7 +28,7 @@ invariant_of-self g c =
     let new = held c.sweep.new.self now c.swept.new.self in
     record {
       room = c.swept.ensures.room;
-      held = kept_by_step g.M.Incumbent.network old new c.look-word.result steps.Sweeps c.kept.ensures.reached (c.sweep.ensures.network ∙ c.self.invariant.held.own) c.self.invariant.held c.look-word.ensures.falls
+      held = kept_by_step g.M.Incumbent.network old new c.look-word.result steps.Sweeps c.law_kept.ensures.reached (c.sweep.ensures.network ∙ c.self.invariant.held.own) c.self.invariant.held c.look-word.ensures.falls
           (swept g.M.Incumbent.network c.self.inside.leaves c.sweep.new.self part now c.look-word.result c.self.invariant.held.own c.look-word.ensures.seen c.sweep.ensures.sweeps)
           c.swept.ensures.adds;
     }
@@ -37,7 +37,7 @@ pub returns-clause-sweeps : goal.returns-clause-sweeps
 returns-clause-sweeps g c =
     let part = c.self.inside.holder in
     let now = c.look-word.new.holder in
-    let price = price_is g.M.Incumbent.network part.held (subst (λ (s : Scoring). IsPriced s.network s.held) c.best.ensures c.priced.ensures) in
+    let price = price_is g.M.Incumbent.network part.held (subst (λ (s : Scoring). IsPriced s.network s.held) c.best.ensures c.law_priced.ensures) in
     subst (λ (old : Held). Sweeps g.M.Incumbent.network (pool old) (pool (held c.sweep.new.self now c.swept.new.self))) c.self.view_is (record {
       word = c.look-word.result;
       falls = c.look-word.ensures.falls;

@@ -53,7 +53,7 @@ took-requires-clause-spelled g c =
     let told = ap (λ (h : Held). h.recorded) (ap (both c.self.inside.holder leaves) c.make_room.ensures.same ∙ c.self.view_is) in
     let sound = subst (λ (Q : Network). IsPool Q (pool_of leaves (view_of c.self.inside.holder))) (sym c.self.invariant.held.own) c.self.invariant.held.pool_is in
     subst (λ o. IfSome o (λ r. IsSpelledTaken c.args.want c.take-taken.result)) (sym told)
-    (where_recorded c.args.self.now.recorded (λ most. taken_spelled leaves c.take-taken.new.self (view_of c.self.inside.holder) c.args.worker c.args.want c.take-taken.result sound c.numbered.ensures most c.take-taken.ensures.takes) c.requires.most)
+    (where_recorded c.args.self.now.recorded (λ most. taken_spelled leaves c.take-taken.new.self (view_of c.self.inside.holder) c.args.worker c.args.want c.take-taken.result sound c.law_numbered.ensures most c.take-taken.ensures.takes) c.requires.most)
 
 pub invariant_of-self-2 : goal.invariant_of-self-2
 invariant_of-self-2 g c =
@@ -62,7 +62,7 @@ invariant_of-self-2 g c =
     let before = subst (λ r. IsHeld P (both part c.self.inside.leaves r)) (sym c.make_room.ensures.same) c.self.invariant.held in
     record {
       room = c.took.ensures.room;
-      held = kept P part c.self.inside.leaves c.take-taken.new.self c.make_room.new.self c.took.new.self c.args.worker c.args.want c.take-taken.result c.kept.ensures.reached before (c.take-taken.ensures.network ∙ c.self.invariant.held.own) c.take-taken.ensures.takes c.took.ensures.adds;
+      held = kept P part c.self.inside.leaves c.take-taken.new.self c.make_room.new.self c.took.new.self c.args.worker c.args.want c.take-taken.result c.law_kept.ensures.reached before (c.take-taken.ensures.network ∙ c.self.invariant.held.own) c.take-taken.ensures.takes c.took.ensures.adds;
     }
 
 pub returns : goal.returns

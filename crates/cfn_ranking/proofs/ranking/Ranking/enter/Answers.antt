@@ -28,17 +28,17 @@ returns-clause-ranked c =
     let same : record { cost = c.args.cost; values = c.in_ok-values.values.items } ≡ s = ap (λ v. record { cost = c.args.cost; values = v }) c.in_ok-values.ensures.items in
     let leaves = subst (λ t. (history : List Event) → Before r.nodes c.args.leaf.number history → Leaves P history r.threshold c.args.block t) (sym same) c.requires.leaves in
     let place : IsPlaceOf r.list s c.in-Some.place = subst (λ l. IsPlaceOf l s c.in-Some.place) (ap (λ (t : Ranked). t.list) c.self.view_is) (subst (λ l. IsPlaceOf (solutions_of l) s c.in-Some.place) c.deref.ensures.value c.in-Some.ensures) in
-    let done = enters P r now c.args.leaf c.args.block c.in-Some.place c.price-self-inside.result _ c.requires.ranked c.requires.waits leaves (subst (λ t. IsPlaceOf r.list t c.in-Some.place) (sym same) place) c.in_ok-exchange.ensures.ok c.linked.ensures (c.price-self-inside.ensures ∙ ap (λ u. threshold_of u now.count now.list) c.ub.ensures) in
+    let done = enters P r now c.args.leaf c.args.block c.in-Some.place c.price-self-inside.result _ c.requires.ranked c.requires.waits leaves (subst (λ t. IsPlaceOf r.list t c.in-Some.place) (sym same) place) c.in_ok-exchange.ensures.ok c.law_linked.ensures (c.price-self-inside.ensures ∙ ap (λ u. threshold_of u now.count now.list) c.ub.ensures) in
     subst (λ (t : Ranked). IsRanked P (record t { threshold = c.price-self-inside.result })) (sym c.self-2.view_is) done
 
 pub invariant_of-exchange-clause-cost_fits : goal.invariant_of-exchange-clause-cost_fits
-invariant_of-exchange-clause-cost_fits c = (listable c.args.network.now c.args.self.now c.args.leaf c.args.block (record { cost = c.args.cost; values = c.args.values.now }) c.limits.ensures c.requires.ranked c.requires.waits c.requires.leaves).cost
+invariant_of-exchange-clause-cost_fits c = (listable c.args.network.now c.args.self.now c.args.leaf c.args.block (record { cost = c.args.cost; values = c.args.values.now }) c.law_limits.ensures c.requires.ranked c.requires.waits c.requires.leaves).cost
 
 pub invariant_of-exchange-clause-values_some : goal.invariant_of-exchange-clause-values_some
-invariant_of-exchange-clause-values_some c = let l = ap length c.in_ok-values.ensures.items in let n = (listable c.args.network.now c.args.self.now c.args.leaf c.args.block (record { cost = c.args.cost; values = c.args.values.now }) c.limits.ensures c.requires.ranked c.requires.waits c.requires.leaves).some in omega (arith, l, n)
+invariant_of-exchange-clause-values_some c = let l = ap length c.in_ok-values.ensures.items in let n = (listable c.args.network.now c.args.self.now c.args.leaf c.args.block (record { cost = c.args.cost; values = c.args.values.now }) c.law_limits.ensures c.requires.ranked c.requires.waits c.requires.leaves).some in omega (arith, l, n)
 
 pub invariant_of-exchange-clause-values_fit : goal.invariant_of-exchange-clause-values_fit
-invariant_of-exchange-clause-values_fit c = subst (λ v. AllByRecursion (λ a. a ≤ GREATEST) v) (sym c.in_ok-values.ensures.items) (listable c.args.network.now c.args.self.now c.args.leaf c.args.block (record { cost = c.args.cost; values = c.args.values.now }) c.limits.ensures c.requires.ranked c.requires.waits c.requires.leaves).small
+invariant_of-exchange-clause-values_fit c = subst (λ v. AllByRecursion (λ a. a ≤ GREATEST) v) (sym c.in_ok-values.ensures.items) (listable c.args.network.now c.args.self.now c.args.leaf c.args.block (record { cost = c.args.cost; values = c.args.values.now }) c.law_limits.ensures c.requires.ranked c.requires.waits c.requires.leaves).small
 
 pub returns-clause-paths : goal.returns-clause-paths
 returns-clause-paths c =

@@ -38,7 +38,7 @@ returns-clause-ok c =
       others = others;
       less = less;
       list_is = refl;
-      linked = c.linked.ensures.linked;
+      linked = c.law_linked.ensures.linked;
       room = room;
       is = ap (λ n. record (entered mid c.args.leaf c.args.block c.min-place.result (solution_of c.args.listed)) { nodes = n; list = solutions_of c.put_at.new.list.items; leaves = c.put_at-2.new.list.items }) c.leave.ensures
           ∙ ap (λ l. record (entered mid c.args.leaf c.args.block c.min-place.result (solution_of c.args.listed)) { list = l; leaves = c.put_at-2.new.list.items }) (ap solutions_of c.put_at.ensures ∙ map_insert rest c.min-place.result c.args.listed)

@@ -29,4 +29,4 @@ returns c =
     let v = ap (λ (r : Ranked). floor_at r.floors c.args.i) c.self.view_is in
     let k = ap (λ (r : Ranked). r.threshold) c.self.view_is in
     omega (arith, t, f, x, v, k))
-    c.shut_own.ensures c.linked-2.ensures
+    c.shut_own.ensures c.law_linked-2.ensures

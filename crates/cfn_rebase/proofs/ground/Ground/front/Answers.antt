@@ -15,7 +15,7 @@ loop-step-preserved c = making_made c.args.self.now c.loop-step.self c.step.new.
 
 pub returns-then-not-made-clause-front : goal.returns-then-not-made-clause-front
 returns-then-not-made-clause-front c = front_stops c.args.self.now c.loop-step.self c.step.new.self c.args.block.now c.loop-step.step-iterator c.next.new.self c.in-Some.step c.args.threshold c.loop-step.invariant c.in-Some.ensures.steps
-    (subst (λ b. IsTried c.loop-step.self c.args.threshold c.in-Some.step c.step.new.self b) c.if-not-made.true c.in_ok-made.ensures) c.stays_tame.ensures
+    (subst (λ b. IsTried c.loop-step.self c.args.threshold c.in-Some.step c.step.new.self b) c.if-not-made.true c.in_ok-made.ensures) c.law_stays_tame.ensures
 
 pub returns-clause-front : goal.returns-clause-front
-returns-clause-front c = front_ends c.args.self.now c.loop-step.self c.args.block.now c.loop-step.step-iterator c.args.threshold c.loop-step.invariant c.in-None.ensures.steps.0 c.stays_tame-2.ensures
+returns-clause-front c = front_ends c.args.self.now c.loop-step.self c.args.block.now c.loop-step.step-iterator c.args.threshold c.loop-step.invariant c.in-None.ensures.steps.0 c.law_stays_tame-2.ensures

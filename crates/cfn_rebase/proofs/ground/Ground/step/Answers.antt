@@ -24,4 +24,4 @@ returns c =
     (is.network ∙ ap (λ (t : Standing). t.network) c.self.view_is)
     (is.base ∙ ap (λ (t : Standing). t.base) c.self.view_is)
     (is.block ∙ ap (λ (t : Standing). t.block) c.self.view_is)
-    c.go.ensures (subst (λ (t : Standing). CanMake t c.args.threshold c.args.step) c.self.view_is (c.if-not-may_make.ensures.can refl)) c.exact.ensures
+    c.go.ensures (subst (λ (t : Standing). CanMake t c.args.threshold c.args.step) c.self.view_is (c.if-not-may_make.ensures.can refl)) c.law_exact.ensures

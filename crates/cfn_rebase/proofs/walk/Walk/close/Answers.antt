@@ -18,7 +18,7 @@ returns-clause-walks c =
     record {
       due = r.at.due;
       walking = subst (λ ns. IsWalking w.ground.network w.threshold c.args.old.now ns r.at.due w.ground (leaves_of ws) ws) (sym c.close.ensures)
-          (ends_closed w.ground.network w.threshold c.args.old.now w.tree r.at.due w.ground c.args.id.number c.args.leaf.number ws r.at.walking r.at.here r.at.there c.linked.ensures.linked c.args.block r.block_is r.ending);
+          (ends_closed w.ground.network w.threshold c.args.old.now w.tree r.at.due w.ground c.args.id.number c.args.leaf.number ws r.at.walking r.at.here r.at.there c.law_linked.ensures.linked c.args.block r.block_is r.ending);
       threshold = refl;
     }
 

@@ -19,7 +19,7 @@ returns-clause-walks c =
     let ws = reverse w.waiting.items in
     let a : Waiting = record { old = c.args.first; leaf = c.in_ok-one.one; spot = c.spot-above.result; side = Holds c.args.decision } in
     let b : Waiting = record { old = c.args.second; leaf = c.in_ok-one.two; spot = c.spot-spot.result; side = Fails c.args.decision } in
-    let made = ends_parted w.ground.network w.threshold old w.tree r.at.due w.ground c.args.id.number c.args.leaf.number ws r.at.walking r.at.here r.at.there c.linked.ensures.linked c.args.block r.block_is
+    let made = ends_parted w.ground.network w.threshold old w.tree r.at.due w.ground c.args.id.number c.args.leaf.number ws r.at.walking r.at.here r.at.there c.law_linked.ensures.linked c.args.block r.block_is
     c.args.decision c.args.first c.args.second r.ending a b c.in_ok-one.ensures.children.0 c.in_ok-one.ensures.children.1 refl refl refl refl c.spot-above.ensures c.spot-spot.ensures in
     let order = two_more w.waiting.items c.push_reserved.new.self.items c.push_reserved-2.new.self.items a b (c.push_reserved.ensures.items ∙ ap (λ l. l ++ b ∷ []) c.in_ok-reserve.ensures.items) c.push_reserved-2.ensures.items in
     record {
@@ -37,7 +37,7 @@ returns-clause-less c =
     let ws = reverse w.waiting.items in
     let a : Waiting = record { old = c.args.first; leaf = c.in_ok-one.one; spot = c.spot-above.result; side = Holds c.args.decision } in
     let b : Waiting = record { old = c.args.second; leaf = c.in_ok-one.two; spot = c.spot-spot.result; side = Fails c.args.decision } in
-    let less = fewer w.ground.network w.threshold old w.tree r.at.due w.ground c.args.id.number c.args.leaf.number ws r.at.walking r.at.here r.at.there c.linked.ensures.linked c.args.block r.block_is
+    let less = fewer w.ground.network w.threshold old w.tree r.at.due w.ground c.args.id.number c.args.leaf.number ws r.at.walking r.at.here r.at.there c.law_linked.ensures.linked c.args.block r.block_is
     c.args.decision c.args.first c.args.second r.ending a b c.in_ok-one.ensures.children.0 c.in_ok-one.ensures.children.1 refl refl refl refl c.spot-above.ensures c.spot-spot.ensures in
     let order = two_more w.waiting.items c.push_reserved.new.self.items c.push_reserved-2.new.self.items a b (c.push_reserved.ensures.items ∙ ap (λ l. l ++ b ∷ []) c.in_ok-reserve.ensures.items) c.push_reserved-2.ensures.items in
     let e = ap (weights old) order in

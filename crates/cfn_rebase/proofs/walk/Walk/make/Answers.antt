@@ -16,7 +16,7 @@ returns c =
             (starts c.args.network.now c.args.threshold old c.in_ok-tree.tree g c.in_ok-ground.ensures.network c.in_ok-ground.ensures.base c.in_ok-tree.ensures);
         threshold = refl;
         here = refl;
-        there = c.linked.ensures.linked.some;
+        there = c.law_linked.ensures.linked.some;
       };
       none = c.in_ok-ground.ensures.block;
     }

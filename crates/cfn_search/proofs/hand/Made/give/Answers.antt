@@ -18,20 +18,20 @@ returns-in-Done-clause-goes g c =
     let made = ap (λ (p : PieceValue). p.threshold) is in
     let least = c.requires.least in
     let note = c.note-note.ensures.least in
-    goes_given g.M.Incumbent.network g.M.Incumbent.start (pool c.args.held.now) (pool c.give.new.self) c.self.inside.piece c.note-note.result c.kept.ensures.pool.numbered
-    (subst (λ P. IsPiece P (piece_of c.self.inside.piece)) own c.kept-2.ensures.piece) (omega (arith, made, least, note)) c.in-Done.ensures.gives c.requires.search
+    goes_given g.M.Incumbent.network g.M.Incumbent.start (pool c.args.held.now) (pool c.give.new.self) c.self.inside.piece c.note-note.result c.law_kept.ensures.pool.numbered
+    (subst (λ P. IsPiece P (piece_of c.self.inside.piece)) own c.law_kept-2.ensures.piece) (omega (arith, made, least, note)) c.in-Done.ensures.gives c.requires.search
 
 pub returns-clause-goes : goal.returns-clause-goes
 returns-clause-goes g c =
     let start = g.M.Incumbent.start in
     let same = c.in-Memory.ensures.gives.2 in
-    let piece = c.kept-2.ensures.piece in
+    let piece = c.law_kept-2.ensures.piece in
     let some = piece.some in
     let few = piece.few in
     let given = ap (λ (p : PieceValue). p.task.grant) c.in-Memory.ensures.gives.0 in
     let of = ap (λ (t : Task). t.grant) c.task-in-Memory.ensures.task in
     subst (λ (held : Held). GoesOn start (pool held) (pool c.back.new.self)) same
     (goes_back g.M.Incumbent.network start c.give.new.self c.back.new.self c.task-in-Memory.result.now.task
-    (subst (λ (held : Held). AreNumbered (pool held)) (sym same) c.kept.ensures.pool.numbered) (omega (arith, some, few, given, of))
+    (subst (λ (held : Held). AreNumbered (pool held)) (sym same) c.law_kept.ensures.pool.numbered) (omega (arith, some, few, given, of))
     (by_answer c.back.result c.back.ensures.back c.back.ensures.none c.back.ensures.same)
     (subst (λ (held : Held). IsSearch start (pool held)) (sym same) c.requires.search))

@@ -15,7 +15,7 @@ returns-clause-state c =
     let state : State = record { sums = c.in_ok-at_root.field-0; live = c.in_ok-make.field-0; cuts = c.in_ok-at_root-2.field-0; peaks = c.in_ok-vec.field-0; trail = c.new.result } in
     record {
       keeps = subst (λ h. Keeps c.args.network.now h state) none (none_kept c.args.network.now state c.in_ok-at_root.ensures c.in_ok-at_root-2.ensures (ap (λ (s : Sets). s.sizes) c.in_ok-make.ensures ∙ c.sizes.ensures) (ap (λ (s : Sets). s.history) c.in_ok-make.ensures));
-      exact = subst (IsExactAlong c.args.network.now) none (exact_at_root c.args.network.now c.limits.ensures);
+      exact = subst (IsExactAlong c.args.network.now) none (exact_at_root c.args.network.now c.law_limits.ensures);
       lifts = subst LiftsFit none (tt {0});
       peaks = subst (λ h. ArePeaks c.args.network.now h state.peaks.items) none (none_known c.args.network.now [] state.peaks.items (c.in_ok-vec.ensures.items_if_clones_equal (λ y e. e) ∙ ap (λ n. replicate n unknown) c.variables.ensures));
     }

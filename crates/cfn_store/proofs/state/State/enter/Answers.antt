@@ -15,6 +15,6 @@ returns-clause-room c = λ room has. (let r = c.change.ensures.room room has in 
 pub returns-clause-state : goal.returns-clause-state
 returns-clause-state c =
     let new : State = record c.change.new.self { peaks = c.forget_changed.new.peaks; trail = c.push_reserved.new.self } in
-    entered c.args.network.now c.args.event c.args.self.now new (c.push_reserved.ensures.items ∙ ap (λ t. t.items ++ c.args.event ∷ []) c.change.ensures.trail) c.requires.state c.requires.exact c.known.ensures
+    entered c.args.network.now c.args.event c.args.self.now new (c.push_reserved.ensures.items ∙ ap (λ t. t.items ++ c.args.event ∷ []) c.change.ensures.trail) c.requires.state c.requires.exact c.law_lifted.ensures
     (same_kept c.args.network.now (c.args.event ∷ _) c.change.new.self new refl refl refl c.change.ensures.keeps)
     (subst (λ p. AreForgotten c.args.network.now c.args.event p.items c.forget_changed.new.peaks.items) c.change.ensures.peaks c.forget_changed.ensures)

@@ -6,7 +6,7 @@ use Rattle.cfn_store.proofs.States.{project_made, extend_made, lift_made, tuple_
 use Rattle.cfn_store.proofs.state.State.make.Goals as goal
 
 pub lift-requires-clause-room : goal.lift-requires-clause-room
-lift-requires-clause-room c = floor_room c.args.network.now c.args.self.now c.requires.room.0 c.limits.ensures c.requires.state c.requires.room.1 c.requires.room.2
+lift-requires-clause-room c = floor_room c.args.network.now c.args.self.now c.requires.room.0 c.law_limits.ensures c.requires.state c.requires.room.1 c.requires.room.2
 
 pub cut-requires-clause-room : goal.cut-requires-clause-room
 cut-requires-clause-room c = live_room c.args.network.now c.args.self.now c.requires.room.0 c.requires.state c.requires.room.1 c.requires.room.2

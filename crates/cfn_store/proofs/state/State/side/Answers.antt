@@ -12,10 +12,10 @@ may_ask_zero : (P : Network) (f : ℕ) (pin : Pin) → IsNetwork P → f < lengt
 may_ask_zero P f pin net there zero p place e = (let s = net.sizes (variable_at P f p) ((net.functions f there).variables p place) in let l = s.0 in omega (arith, l, zero))
 
 pub scan-scan-requires-clause-one : goal.scan-scan-requires-clause-one
-scan-scan-requires-clause-one c = may_ask_zero c.args.network.now c.args.f (record { place = c.args.place; value = 0 }) c.limits.ensures c.requires.function refl
+scan-scan-requires-clause-one c = may_ask_zero c.args.network.now c.args.f (record { place = c.args.place; value = 0 }) c.law_limits.ensures c.requires.function refl
 
 pub scan-scan-requires-clause-two : goal.scan-scan-requires-clause-two
-scan-scan-requires-clause-two c = may_ask_zero c.args.network.now c.args.f (record { place = c.args.place; value = 0 }) c.limits.ensures c.requires.function refl
+scan-scan-requires-clause-two c = may_ask_zero c.args.network.now c.args.f (record { place = c.args.place; value = 0 }) c.law_limits.ensures c.requires.function refl
 
 pub of-requires-clause-spot : goal.of-requires-clause-spot
 of-requires-clause-spot c =

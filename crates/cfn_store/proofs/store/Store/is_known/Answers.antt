@@ -10,7 +10,7 @@ is_live_number-requires c =
     let s = c.args.self.now in
     let side = seen s c.args.f c.args.place c.args.side.now c.requires.place.place c.requires.side in
     let x = c.other.ensures s.network (history s) c.args.f c.args.place (1 - c.args.place) side.2 in
-    subst (λ n. n < length s.network.sizes) (sym x) (((subst IsNetwork c.network.ensures c.limits.ensures).functions c.args.f c.requires.place.function).variables (1 - c.args.place) side.0)
+    subst (λ n. n < length s.network.sizes) (sym x) (((subst IsNetwork c.network.ensures c.law_limits.ensures).functions c.args.f c.requires.place.function).variables (1 - c.args.place) side.0)
 
 pub line-requires : goal.line-requires
 line-requires c =

@@ -7,7 +7,7 @@ use Rattle.cfn_store.proofs.store.Store.lacking_along.Goals as goal
 pub overflow_add-from : goal.overflow_add-from
 overflow_add-from c =
     let s = c.args.self.now in
-    let net = subst IsNetwork c.network.ensures c.limits.ensures in
+    let net = subst IsNetwork c.network.ensures c.law_limits.ensures in
     let small = next_small s.network c.args.f c.args.place c.in-Some.doubt.value net c.in-Some.ensures.place in
     omega (arith, small)
 

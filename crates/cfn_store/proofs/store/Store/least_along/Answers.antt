@@ -23,7 +23,7 @@ pub returns : goal.returns
 returns c =
     let s = c.args.self.now in
     let y = ap (λ l. slice_index l c.args.other) c.scope.ensures ∙ ap (λ P. variable_at P c.args.f c.args.other) c.network-2.ensures in
-    let net = subst IsNetwork c.network.ensures c.limits.ensures in
+    let net = subst IsNetwork c.network.ensures c.law_limits.ensures in
     subst (λ (t : Option Extreme). MatchOption t (NonePicked s.network (history s) c.args.f c.args.place c.args.value) (IsExtreme s.network (history s) c.args.f c.args.place c.args.value Least)) (sym c.tuple-2.ensures)
     (found_all s c.args.f c.args.place c.args.value c.args.other c.live-value-items.result.now c.loop-value.value-index (tuple_of c.loop-value.nearest) c.requires.other
     (subst (λ x. AreLive (sets_of s) x c.live-value-items.result.now) y c.live-value-items.ensures)

@@ -14,7 +14,7 @@ subtract-requires-2-clause-place c =
 pub returns : goal.returns
 returns c =
     let P = c.args.network.now in let s = c.args.self.now in let f = c.args.f in let i = c.args.place in let a = c.args.value in
-    let value : IsValue P (variable_at P f i) a = value_there P f i a c.limits.ensures c.requires.place in
+    let value : IsValue P (variable_at P f i) a = value_there P f i a c.law_limits.ensures c.requires.place in
     let whole = takes P s f i a c.args.amount c.requires.shape c.requires.place value c.ranges.amount.fits in
     let givens : c.subtract.new.rows ≡ has_less s.given (variable_at P f i) a c.args.amount = c.subtract.ensures ∙ ap (λ l. has_less s.given (slice_index l i) a c.args.amount) c.scope.ensures in
     let shift_rows = c.subtract-2.ensures ∙ ap (λ n. has_less s.shifts f n c.args.amount) c.slot_of-at.ensures in

@@ -15,8 +15,8 @@ invariant_of-self-2 c =
     let x = slice_index c.scope.result.now j in
     let place = subst (λ (N : Network). IsPlace N f j b) (sym (ap (λ (p : Planned). p.network) c.self.view_is)) c.requires.place in
     let x_is = ap (λ l. slice_index l j) c.scope.ensures in
-    let inside = within P c.self.inside.wants (variable_at P f j) b c.self.invariant.wants.shape (value_of P f j b c.limits.ensures place) in
+    let inside = within P c.self.inside.wants (variable_at P f j) b c.self.invariant.wants.shape (value_of P f j b c.law_limits.ensures place) in
     let wanted = sym (item_is (row_at c.self.inside.wants x) b c.get-wanted.result (subst (λ v. b < length (row_at c.self.inside.wants v)) (sym x_is) inside.1) c.get-wanted.ensures) in
     subst (λ l. IsPlanned P l c.set.new.self) (sym c.in_ok-push.ensures.items)
-    (planned_extend P c.self.inside.steps.items c.self.inside.wants c.set.new.self f j b c.args.amount x c.get-wanted.result c.limits.ensures c.self.invariant place c.requires.amount.0 c.requires.amount.1 x_is wanted
+    (planned_extend P c.self.inside.steps.items c.self.inside.wants c.set.new.self f j b c.args.amount x c.get-wanted.result c.law_limits.ensures c.self.invariant place c.requires.amount.0 c.requires.amount.1 x_is wanted
     (c.set.ensures ∙ ap (λ n. written c.self.inside.wants x b n) c.min.ensures))

@@ -1,5 +1,0 @@
-use Rattle.cfn_check.proofs.Along.{residual_along}
-use Rattle.cfn_check.proofs.ledger.Ledger.differences.Goals as goal
-
-pub returns : goal.returns
-returns c = rw (← c.self.view_is) (λ f tuple fits. residual_along _ _ f tuple c.self.invariant.trail fits)

@@ -1,5 +1,0 @@
-use Rattle.cfn_core.proofs.Always.{always_holds}
-use Rattle.cfn_core.proofs.laws.every_order.Goals as goal
-
-pub returns : goal.returns
-returns c = always_holds

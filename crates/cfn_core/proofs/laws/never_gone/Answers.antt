@@ -1,5 +1,0 @@
-use Rattle.cfn_core.proofs.Refusing.{never_gone}
-use Rattle.cfn_core.proofs.laws.never_gone.Goals as goal
-
-pub returns : goal.returns
-returns c = never_gone

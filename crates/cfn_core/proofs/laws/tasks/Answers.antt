@@ -1,5 +1,0 @@
-use Rattle.cfn_core.proofs.Tasks.{hands_out}
-use Rattle.cfn_core.proofs.laws.tasks.Goals as goal
-
-pub returns : goal.returns
-returns c = hands_out

@@ -1,9 +1,0 @@
-use Rattle.cfn_machine.proofs.Agreeing.{agreed}
-use Rattle.cfn_machine.proofs.Covering.{covered}
-use Rattle.cfn_machine.proofs.laws.covered.Goals as goal
-
-pub returns-clause-agreed : goal.returns-clause-agreed
-returns-clause-agreed c = agreed
-
-pub returns-clause-covered : goal.returns-clause-covered
-returns-clause-covered c = covered

@@ -1,5 +1,0 @@
-use Rattle.cfn_machine.proofs.Keeping.{joins}
-use Rattle.cfn_machine.proofs.laws.views.Goals as goal
-
-pub returns : goal.returns
-returns c = joins

@@ -1,5 +1,0 @@
-use Rattle.cfn_model.proofs.Equivalence.{equivalence}
-use Rattle.cfn_model.proofs.laws.equivalence.Goals as goal
-
-pub returns : goal.returns
-returns c = equivalence

@@ -1,6 +1,0 @@
-use Rattle.std.proofs.Common.{arith}
-use Rattle.cfn_recordwrite.proofs.Spellings.{record_spelled}
-use Rattle.cfn_recordwrite.proofs.whole.spelled.Goals as goal
-
-pub returns : goal.returns
-returns c = record_spelled c.args.history.now c.args.certificate.now c.spelled.ensures.budget c.spelled.ensures.entries (omega arith) (omega arith) c.requires

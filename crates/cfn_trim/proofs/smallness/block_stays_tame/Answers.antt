@@ -1,5 +1,0 @@
-use Rattle.cfn_trim.proofs.Small.{tame_block}
-use Rattle.cfn_trim.proofs.smallness.block_stays_tame.Goals as goal
-
-pub returns : goal.returns
-returns c = tame_block _ _ _ c.exact.ensures

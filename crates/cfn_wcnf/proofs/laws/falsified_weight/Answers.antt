@@ -1,5 +1,0 @@
-use Rattle.cfn_wcnf.proofs.Weights.{reads_as_formula}
-use Rattle.cfn_wcnf.proofs.laws.falsified_weight.Goals as goal
-
-pub returns : goal.returns
-returns c = reads_as_formula

@@ -1,5 +1,0 @@
-use Rattle.cfn_wcspwrite.proofs.Functions.{reads_back}
-use Rattle.cfn_wcspwrite.proofs.network.reads_back.Goals as goal
-
-pub returns : goal.returns
-returns c = reads_back
