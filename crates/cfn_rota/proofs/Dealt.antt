@@ -1,11 +1,11 @@
 -- Facts of all items of a list, and of the lanes that workers steal from.
-use Rattle.std.proofs.Common.{◌≡◌, ℕ, zero, suc, ◌+◌, ◌-◌, ◌<◌, ◌≤◌, List, [], ◌∷◌, ◌++◌, map, reverse, set, get_or, All, length, refl, sym, ap, ◌∙◌, subst, arith, inl, inr, append_assoc}
-use lib.Seq.{take-append_seam, drop-append_seam}
+use Rattle.std.proofs.Common.{◌≡◌, ℕ, zero, suc, ◌+◌, ◌-◌, ◌<◌, ◌≤◌, List, [], ◌∷◌, ◌++◌, map, reverse, set, get_or, take, drop, All, length, refl, sym, ap, ◌∙◌, subst, arith, inl, inr, append_assoc}
+use lib.Seq.{take-append_seam, drop-append_seam, split_at}
 use Rattle.atomic_blocks.specs.Lent.{RowsId}
 use Rattle.std.proofs.lemmas.Bool.{cases_eq}
-use Rattle.std.proofs.lemmas.List.{get_or-set_same, get_or-set_other, get_or_default, get_or-reverse, reverse-append, length-reverse, length-map, map_push, nil_from_length}
+use Rattle.std.proofs.lemmas.List.{set_split, length-append, get_or-set_same, get_or-set_other, get_or_default, get_or-reverse, reverse-append, length-reverse, length-map, map_push, nil_from_length}
 use Rattle.std.proofs.lemmas.List.Elements.{All-append, All-cons, All-nil, All-head, All-take, All-drop, All-map}
-use Rattle.cfn_rota.specs.Values.{Stolen, lanes_of, Access, own_lanes, IsOneOf, AreAll}
+use Rattle.cfn_rota.specs.Values.{Stolen, lanes_of, Access, own_lanes, IsOneOf, OneTook, AreAll}
 
 -- a fact of all items, after one more and before the last
 module _ {X : Type 0} (P : X → Type 0) where
@@ -81,3 +81,37 @@ module _ {X R : Type 0} (f : X → R) where
   same_map [] i d y there same = refl
   same_map (z ∷ xs) zero d y there same = ap (λ r. r ∷ map f xs) same
   same_map (z ∷ xs) (suc i) d y there same = ap (λ rs. f z ∷ rs) (same_map xs i d y (omega (arith, there)) same)
+
+-- the one whose item was replaced took the task
+module _ {T : Type 0} where
+  pub one_took : (xs : List (Stolen T)) (i : ℕ) (d y : Stolen T) (task : T) → i < length xs → y ≡ record (get_or xs i d) { taken = (get_or xs i d).taken ++ task ∷ [] } → OneTook task xs (set xs i y)
+  one_took xs i d y task there is = record {
+    before = take i xs;
+    thief = get_or xs i d;
+    behind = drop (suc i) xs;
+    was = split_at xs i d there;
+    is = set_split xs i y there ∙ ap (λ z. take i xs ++ z ∷ drop (suc i) xs) is;
+  }
+
+  -- the same behind other thieves
+  took_behind : (earlier old new : List (Stolen T)) (task : T) → OneTook task old new → OneTook task (earlier ++ old) (earlier ++ new)
+  took_behind earlier old new task took = record {
+    before = earlier ++ took.before;
+    thief = took.thief;
+    behind = took.behind;
+    was = ap (λ xs. earlier ++ xs) took.was ∙ sym (append_assoc earlier took.before _);
+    is = ap (λ xs. earlier ++ xs) took.is ∙ sym (append_assoc earlier took.before _);
+  }
+
+  took_length : (old new : List (Stolen T)) (task : T) → OneTook task old new → length new ≡ length old
+  took_length old new task took = ap length took.is ∙ length-append took.before _ ∙ sym (length-append took.before _) ∙ sym (ap length took.was)
+
+  -- where the later of two parts of a list is written back
+  pub took_later : (earlier later new items rest : List (Stolen T)) (len : ℕ) (task : T) → items ≡ earlier ++ later → len ≡ length items → OneTook task later new →
+      OneTook task items (take len (earlier ++ new ++ rest))
+  took_later earlier later new items rest len task is count took =
+      let more : length new ≡ length later = took_length later new task took in
+      let same : len ≡ length (earlier ++ new) = count ∙ ap length is ∙ length-append earlier later ∙ ap (λ n. length earlier + n) (sym more) ∙ sym (length-append earlier new) in
+      let whole : take len (earlier ++ new ++ rest) ≡ earlier ++ new = ap (λ n. take n (earlier ++ new ++ rest)) same ∙ take-append_seam (earlier ++ new) rest in
+      subst (λ xs. OneTook task xs (take len (earlier ++ new ++ rest))) (sym is)
+      (subst (OneTook task (earlier ++ later)) (sym whole) (took_behind earlier later new task took))

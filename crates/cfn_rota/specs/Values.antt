@@ -26,6 +26,22 @@ pub record EndsValue (T : Type 0) : Type 0 where
   pub lane : Owned T
   pub thieves : List (Stolen T)
 
+-- One of some thieves took this task, and the others took nothing.
+pub record OneTook {T : Type 0} (task : T) (old new : List (Stolen T)) : Type 0 where
+  pub before : List (Stolen T)
+  pub thief : Stolen T
+  pub behind : List (Stolen T)
+  pub was : old ≡ before ++ thief ∷ behind
+  pub is : new ≡ before ++ record thief { taken = thief.taken ++ task ∷ [] } ∷ behind
+
+-- A thief of a worker took this task, and no other end of that worker took anything.
+abbrev pub Steals : {T : Type 0} → T → EndsValue T → EndsValue T → Type 0
+Steals task old new = (new ≡ record old { thieves = new.thieves }) × OneTook task old.thieves new.thieves
+
+-- A worker popped this task from its own lane, and stole none.
+abbrev pub Pops : {T : Type 0} → T → EndsValue T → EndsValue T → Type 0
+Pops task old new = new ≡ record old { lane = record old.lane { taken = old.lane.taken ++ task ∷ [] } }
+
 -- Which lanes some thieves steal from.
 abbrev pub lanes_of : {T : Type 0} → List (Stolen T) → List RowsId
 lanes_of {T} thieves = map (λ (t : Stolen T). t.lane) thieves

@@ -1,8 +1,8 @@
 //! The ends that each of several workers has.
 
-ghost use Rattle.std.specs.Prelude.{◌≡◌, ℕ, ◌+◌, ◌<◌, ◌≤◌, [], ◌∷◌, ◌++◌, length, map, reverse, slice_index_or, All, IfOk, IfErr, IfSome, MatchOption};
+ghost use Rattle.std.specs.Prelude.{◌≡◌, ℕ, ◌+◌, ◌<◌, ◌≤◌, ◌⊎◌, [], ◌∷◌, ◌++◌, length, map, reverse, slice_index_or, All, IfOk, IfErr, MatchOption};
 ghost use Rattle.cfn_rota.specs.Balances.{AreWhole, AreWithin};
-ghost use Rattle.cfn_rota.specs.Values.{IsNew, Absorbs, Meets, AreAll, EndsWith, access, lanes_of};
+ghost use Rattle.cfn_rota.specs.Values.{IsNew, Absorbs, Meets, OneTook, Pops, Steals, AreAll, EndsWith, access, lanes_of};
 
 use crate::lane::Lane;
 use crate::rule::Kind;
@@ -50,10 +50,13 @@ impl<T: Drop, K: Kind<T>> Ends<T, K> {
         self.lane.pop()
     }
 
-    /// Takes the first task of its own lane. Where none is there it steals one, as `steal` does.
+    /// Takes the first task of its own lane. Where none is there it steals one, as `steal` does. It takes one task where it
+    /// answers one, and else none.
     pub fn find(&mut self) -> Option<T>
         ensures same { access self.new ≡ access self.old }
-        ensures task { IfSome result K.fits }
+        ensures one { MatchOption result
+            ((self.new ≡ self.old) × (self.old.lane.parts ≡ 128 → AreWhole self.old.lane.pushed self.old.lane.taken []))
+            (λ task. K.fits task × (Pops task self.old self.new ⊎ Steals task self.old self.new)) }
     {
         match self.pop() {
             Some(task) => Some(task),
@@ -62,18 +65,17 @@ impl<T: Drop, K: Kind<T>> Ends<T, K> {
     }
 
     /// Steals from the lanes of the others, beginning with the next worker's, until there is a task. `None` where none was
-    /// found. It takes no memory.
+    /// found. It takes one task where it answers one, and else none. It takes no memory.
     pub fn steal(&mut self) -> Option<T>
-        ensures lane { self.new.lane ≡ self.old.lane }
         ensures same { access self.new ≡ access self.old }
-        ensures task { IfSome result K.fits }
+        ensures one { MatchOption result (self.new ≡ self.old) (λ task. K.fits task × Steals task self.old self.new) }
     {
         let before = self.before.min(self.thieves.len());
         let (earlier, later) = self.thieves.as_mut_slice().split_at_mut(before);
-        match steal_first(later) {
-            Some(task) => Some(task),
-            None => steal_first(earlier),
+        if let Some(task) = steal_first(later) {
+            return Some(task);
         }
+        steal_first(earlier)
     }
 
     /// Absorbs its own last thief, which is of its own lane. It takes no memory.
@@ -116,7 +118,7 @@ impl<T: Drop, K: Kind<T>> Ends<T, K> {
 /// Steals by one end after the other, until there is a task.
 fn steal_first<T, K: Kind<T>>(thieves: &mut [Thief<T, K>]) -> Option<T>
     ensures same { lanes_of thieves.new ≡ lanes_of thieves.old }
-    ensures task { IfSome result K.fits }
+    ensures one { MatchOption result (thieves.new ≡ thieves.old) (λ task. K.fits task × OneTook task thieves.old thieves.new) }
 {
     for thief in thieves {
         if let Some(task) = thief.steal() {
