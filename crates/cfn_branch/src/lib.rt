@@ -5,7 +5,8 @@
 //! - `split_fewest` names the variable of the fewest live values, and halves them where there are many (`fewest.rt`);
 //! - `Rule` says by which of them a search splits (`rule.rt`).
 //!
-//! A caller blames the function by which an enforcing call ended dead; a search keeps the weights for its whole run.
+//! Where enforcing ended dead a caller blames the function that projected last (`blame_newest`); a search keeps the weights for
+//! its whole run.
 #![tactic(auto)]
 
 mod choosing;

@@ -14,13 +14,13 @@ use Rattle.cfn_store.specs.Standing.{Standing, history}
 use Rattle.cfn_trim.specs.Trimming.{IsBegin}
 use Rattle.cfn_gain.specs.declared.settling.Settling.{Settling}
 use Rattle.cfn_gain.specs.declared.settling.Settling.TheVariants.{Settled, Spent}
-use Rattle.cfn_dive.specs.Enforcing.{GoesOn, Finds, Groups, IsSpent}
+use Rattle.cfn_dive.specs.Enforcing.{GoesOn, Finds, Groups, IsSpent, IsRooted}
 use Rattle.cfn_dive.specs.Limit.{step_limit}
 use Rattle.cfn_dive.proofs.Grouping.{block_groups}
 use Rattle.cfn_dive.specs.declared.parts.Parts.{Parts}
 use Rattle.cfn_dive.specs.declared.growth.Growth.{Growth}
 use Rattle.cfn_dive.specs.declared.growth.Leaf.{Leaf}
-use Rattle.cfn_dive.specs.Growing.{InGroups}
+use Rattle.cfn_dive.specs.Growing.{InGroups, IsRootBlock}
 use Rattle.cfn_dive.specs.Diving.{IsAt, IsDiving, IsClosing, IsSettledOrSpent}
 use Rattle.cfn_dive.proofs.Trees.{grown_lower}
 
@@ -88,8 +88,10 @@ pub spent_alive : (P : Network) (path : List Event) (k : ℕ) (found : Settling)
 spent_alive P path k found is finds = (subst (Finds P path k) is finds).0
 
 -- what was made at a leaf, at the root and below it
-pub groups_made : {E : Type 0} (is_root : Bool) (before now : Standing) (result : Result Settling E) → (is_root ≡ true → before.base ≡ []) → now.base ≡ before.base → before.block ≡ [] → (is_root ≡ false → IfOk result (Groups before now)) → OnOk result (InGroups now.network now.base now.block)
-groups_made true before now (Ok found) root base empty gains = inl (base ∙ root refl)
-groups_made false before now (Ok found) root base empty gains = inr (block_groups before now found empty (gains refl))
-groups_made true before now (Err e) root base empty gains = tt
-groups_made false before now (Err e) root base empty gains = tt
+pub groups_made : {E : Type 0} (is_root : Bool) (before now : Standing) (result : Result Settling E) → (is_root ≡ true → before.base ≡ []) → now.network ≡ before.network → now.base ≡ before.base → before.block ≡ [] → (is_root ≡ false → IfOk result (Groups before now)) → OnOk result (IsRooted before.network before now)
+    → OnOk result (InGroups now.network now.base now.block)
+groups_made true before now (Ok found) root network base empty gains rooted =
+    inl (base ∙ root refl, subst (λ P. IsRootBlock P now.block) (sym network) (record { before = before; now = now; network = refl; base = root refl; begins = empty; rooted = rooted; block_is = refl }))
+groups_made false before now (Ok found) root network base empty gains rooted = inr (block_groups before now found empty (gains refl))
+groups_made true before now (Err e) root network base empty gains rooted = tt
+groups_made false before now (Err e) root network base empty gains rooted = tt

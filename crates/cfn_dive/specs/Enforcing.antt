@@ -1,5 +1,5 @@
 -- What a search asks of propagation.
-use Rattle.std.specs.Prelude.{◌≡◌, ℕ, ◌<◌, ◌≤◌, Bool, true, false, List, ◌++◌, length, slice_index, Option, Some, None, IsTrue}
+use Rattle.std.specs.Prelude.{◌≡◌, ℕ, zero, suc, ◌<◌, ◌≤◌, Bool, true, false, List, ◌++◌, length, slice_index, Option, Some, None, IsTrue}
 use Rattle.cfn_model.specs.declared.step.Step.{Step}
 use Rattle.cfn_model.specs.declared.step.Event.{Event}
 use Rattle.cfn_model.specs.Network.{Network}
@@ -11,6 +11,7 @@ use Rattle.cfn_gain.specs.declared.settling.Settling.{Settling}
 use Rattle.cfn_gain.specs.declared.settling.Settling.TheVariants.{Settled, Dead, Spent}
 use Rattle.cfn_store.specs.Standing.{Standing, history}
 use Rattle.cfn_gain.specs.Gains.{Gained, IsOpen}
+use Rattle.cfn_vac.specs.Roots.{HasLifted}
 
 -- Between two standings there are steps alone, which run at k.
 pub record GoesOn (before now : Standing) (k : ℕ) : Type 0 where
@@ -37,6 +38,33 @@ abbrev pub Groups : Standing → Standing → Settling → Type 0
 Groups before now Settled = Gained before now
 Groups before now Dead = IsOpen before now
 Groups before now Spent = IsOpen before now
+
+-- A standing differs from another one at most in how many more events it has room for.
+pub record IsAtPlace (before now : Standing) : Type 0 where
+  pub network : now.network ≡ before.network
+  pub base : now.base ≡ before.base
+  pub block : now.block ≡ before.block
+
+-- A round at the root: lifts by virtual arc consistency, and then groups, the last of which may be unfinished.
+pub record IsRound (P : Network) (before now : Standing) : Type 0 where
+  pub start : Standing
+  pub at : IsAtPlace before start
+  pub lifted : Standing
+  pub lifts : HasLifted P start lifted
+  pub groups : IsOpen lifted now
+
+-- A number of rounds one after another.
+abbrev pub AreRounds : Network → ℕ → Standing → Standing → Type 0
+AreRounds P zero before now = IsAtPlace before now
+AreRounds P (suc n) before now = (mid : Standing) × AreRounds P n before mid × IsRound P mid now
+
+-- What is enforced at the root: groups, the last of which may be unfinished, and then four rounds at most.
+pub record IsRooted (P : Network) (before now : Standing) : Type 0 where
+  pub settled : Standing
+  pub groups : IsOpen before settled
+  pub rounds : ℕ
+  pub few : rounds ≤ 4
+  pub are : AreRounds P rounds settled now
 
 -- Where it is neither, the block has at least so many steps.
 abbrev pub IsSpent : ℕ → Standing → Settling → Type 0

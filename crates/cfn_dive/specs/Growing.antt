@@ -11,13 +11,25 @@ use Rattle.cfn_consistency.specs.Consistency.{AreFullyConsistent}
 use Rattle.cfn_consistency.specs.Groups.{AreOpenGroups}
 use Rattle.cfn_proof.specs.declared.tree.Node.{Node}
 use Rattle.cfn_proof.specs.Nodes.{tree_of}
+use Rattle.cfn_store.specs.Standing.{Standing}
+use Rattle.cfn_dive.specs.Enforcing.{IsRooted}
 use Rattle.cfn_dive.specs.Limit.{step_limit}
 use Rattle.cfn_explore.specs.Backtracks.{backtracks}
 
--- The steps of a block fall into groups, each of which gains something; the last one may be unfinished. At the root of the whole
--- tree, where virtual arc consistency makes steps too, nothing is said.
+-- The steps of a block are what is enforced at the root of the whole tree, where virtual arc consistency makes steps too.
+pub record IsRootBlock (P : Network) (block : List Step) : Type 0 where
+  pub before : Standing
+  pub now : Standing
+  pub network : before.network ≡ P
+  pub base : before.base ≡ []
+  pub begins : before.block ≡ []
+  pub rooted : IsRooted P before now
+  pub block_is : now.block ≡ block
+
+-- The steps of a block fall into groups, each of which gains something, and at the root into lifts and groups; the last one may
+-- be unfinished.
 abbrev pub InGroups : Network → List Event → List Step → Type 0
-InGroups P history block = (history ≡ []) ⊎ AreOpenGroups P history block
+InGroups P history block = ((history ≡ []) × IsRootBlock P block) ⊎ AreOpenGroups P history block
 
 -- A block's steps fall into groups, and behind it the network is fully consistent at its upper bound, or the block has all steps
 -- that it may have.

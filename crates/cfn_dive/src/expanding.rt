@@ -126,7 +126,7 @@ impl<'n> Parts<'n> {
         )
     }
 
-    /// Blames the function by which a leaf was found dead, where there is one, and closes the leaf by those steps of the store's
+    /// Blames the function that projected last at a dead leaf, where one did, and closes the leaf by those steps of the store's
     /// block that its closing needs. An `Err` is want of memory.
     fn close_dead(
         &mut self,
@@ -144,9 +144,7 @@ impl<'n> Parts<'n> {
         ensures dive { IsSameDive growth.old growth.new }
         ensures of { IsOf self.old.store.network self.new }
     {
-        if let Some(f) = self.enforcer.blamed() {
-            self.weights.blame(f);
-        }
+        self.weights.blame_newest(&self.store);
         let block = self
             .trimmer
             .closing_block(alloc, &mut self.store, mark, growth.threshold)?;

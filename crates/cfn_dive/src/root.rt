@@ -1,11 +1,11 @@
 //! What is enforced at the root: full consistency, and then rounds of virtual arc consistency and full consistency, while the
 //! floor rises (Cooper et al. 2010). Each call in a round may make as many steps as one at a node.
 
-ghost use Rattle.std.specs.Prelude.{◌≡◌, ◌+◌, ◌*◌, ◌≤◌, ◌^◌, false, [], length, IfOk, IfSome, OnOk, None};
+ghost use Rattle.std.specs.Prelude.{◌≡◌, ℕ, ◌+◌, ◌*◌, ◌≤◌, ◌^◌, false, [], length, IfOk, IfSome, OnOk, None};
 ghost use Rattle.cfn_model.specs.Tree.{CanClose};
 ghost use Rattle.cfn_store.specs.Standing.{history};
 ghost use Rattle.cfn_edac.specs.Settling.{IsBehindSettled};
-ghost use Rattle.cfn_dive.specs.Enforcing.{GoesOn, Finds, Groups, IsSpent};
+ghost use Rattle.cfn_dive.specs.Enforcing.{GoesOn, Finds, Groups, IsRound, AreRounds, IsRooted, IsSpent};
 
 use crate::propagation::{Asked, propagate, settle};
 use cfn_clock::Halt;
@@ -28,7 +28,7 @@ pub struct Around {
 
 /// Enforces at a node, with rounds at the root, and answers whether the store is dead then, or fully consistent, or
 /// neither, and then by all the steps that are asked for. Below the root its steps fall into groups, each of which gains
-/// something. An `Err` is want of memory; of the store the contract says only that it has gone on by steps, if by any.
+/// something; at the root the steps of virtual arc consistency are lifts by the plans of derivations. An `Err` is want of memory; of the store the contract says only that it has gone on by steps, if by any.
 pub fn enforce<H: Halt>(
     alloc: Global,
     enforcer: &mut Enforcer<'_>,
@@ -47,6 +47,7 @@ pub fn enforce<H: Halt>(
     ensures goes { GoesOn store.old store.new asked.threshold }
     ensures finds { IfOk result (Finds store.new.network (history store.new) asked.threshold) }
     ensures gains { around.is_root ≡ false → IfOk result (Groups store.old store.new) }
+    ensures rooted { OnOk result (IsRooted store.old.network store.old store.new) }
     ensures spent { IfOk result (IsSpent asked.steps store.new) }
     ensures room { OnOk result (around.more ≤ store.new.spare) }
     ensures same { enforcer.new ≡ enforcer.old }
@@ -79,6 +80,7 @@ fn enforce_root<H: Halt>(
     requires finds { Finds store.old.network (history store.old) asked.threshold found }
     requires spent { IsSpent asked.steps store.old found }
     ensures goes { GoesOn store.old store.new asked.threshold }
+    ensures rounds { (n : ℕ) × (n ≤ 4) × AreRounds store.old.network n store.old store.new }
     ensures finds { Finds store.new.network (history store.new) asked.threshold result }
     ensures spent { IsSpent asked.steps store.new result }
     ensures room { more ≤ store.new.spare }
@@ -112,6 +114,7 @@ fn rounds<H: Halt>(
     requires finds { Finds store.old.network (history store.old) asked.threshold before }
     requires spent { IsSpent asked.steps store.old before }
     ensures goes { GoesOn store.old store.new asked.threshold }
+    ensures rounds { (n : ℕ) × (n ≤ 4) × AreRounds store.old.network n store.old store.new }
     ensures finds { Finds store.new.network (history store.new) asked.threshold result }
     ensures spent { IsSpent asked.steps store.new result }
     ensures room { more ≤ store.new.spare }
@@ -152,6 +155,7 @@ fn round<H: Halt>(
     ensures goes { GoesOn store.old store.new asked.threshold }
     ensures finds { IfSome result (Finds store.new.network (history store.new) asked.threshold) }
     ensures spent { IfSome result (IsSpent asked.steps store.new) }
+    ensures round { IfSome result (λ found. IsRound store.old.network store.old store.new) }
     ensures none { result ≡ None → store.new.block ≡ store.old.block }
     ensures room { more ≤ store.new.spare }
     ensures vac { vac.new.network ≡ vac.old.network }

@@ -1,4 +1,4 @@
--- What a value asks, one arm after another, and which value asks least.
+-- What a value asks, one neighbour after another, and which value asks least.
 use Rattle.std.proofs.Common.{◌≡◌, ◌⊎◌, ℕ, suc, ◌+◌, ◌<◌, ◌≤◌, ◌^◌, min, inl, inr, List, [], ◌∷◌, ◌++◌, length, length-append, refl, sym, ap, ◌∙◌, subst, arith}
 use Rattle.std.proofs.lemmas.Bool.{cases_eq}
 use Rattle.std.proofs.lemmas.Int.{ints}
@@ -14,10 +14,10 @@ use Rattle.cfn_live.specs.Sets.{AreLive}
 use Rattle.cfn_store.specs.Standing.{Standing, history}
 use Rattle.cfn_store.specs.Rooms.{sets_of}
 use Rattle.cfn_dac.specs.declared.pair.Pair.{Pair}
-use Rattle.cfn_eac.specs.Arms.{IsGood, pair_at}
+use Rattle.cfn_eac.specs.Neighbours.{IsGood, pair_at}
 use Rattle.cfn_eac.specs.Asking.{cap, Finds, Asks, IsCheapestBy}
 
--- of no arm it asks its unary cost
+-- of no neighbour it asks its unary cost
 pub asks_start : (P : Network) (history : List Event) (x : ℕ) (pairs : List Pair) (a own : ℕ) → pos own ≡ unary P history x a → own < 2 ^ 64 → Asks P history x pairs a 0 own
 asks_start P history x pairs a own is small = record {
   own = own;
@@ -28,7 +28,7 @@ asks_start P history x pairs a own is small = record {
   sum = omega (arith, small);
 }
 
--- one arm more
+-- one neighbour more
 pub asks_more : (P : Network) (history : List Event) (x : ℕ) (pairs : List Pair) (a n amount more new : ℕ) → Asks P history x pairs a n amount → Finds P history (pair_at pairs n) a more → new ≡ min cap (amount + more) → Asks P history x pairs a (n + 1) new
 asks_more P history x pairs a n amount more new old finds is = record {
   own = old.own;
@@ -45,7 +45,7 @@ asks_more P history x pairs a n amount more new old finds is = record {
   sum = let before = old.sum in let push = sum_by_push (λ i. i) old.found more in omega (arith, is, before, push);
 }
 
--- what a value finds in an arm is one amount
+-- what a value finds in a neighbour is one amount
 finds_least : (P : Network) (history : List Event) (pair : Pair) (a one other : ℕ) → Finds P history pair a one → Finds P history pair a other → one ≤ other
 finds_least P history pair a one other first second = elim (cases_eq other cap) [
   | inl e ↦ (let small = first.capped in omega (arith, small, e))
@@ -68,7 +68,7 @@ sum_grows (x ∷ xs) (y ∷ ys) h each =
     let one = sum_by-cons (λ i. i) x xs in let other = sum_by-cons (λ i. i) y ys in
     omega (arith, first, rest, one, other)
 
--- of more arms it asks no less
+-- of more neighbours it asks no less
 pub asks_grow : (P : Network) (history : List Event) (x : ℕ) (pairs : List Pair) (a n m amount other : ℕ) → n ≤ m → Asks P history x pairs a n amount → Asks P history x pairs a m other → amount ≤ other
 asks_grow P history x pairs a n m amount other le one two =
     let size_one = one.size in let size_two = two.size in

@@ -1,4 +1,4 @@
--- Arms are gathered one place after another.
+-- Neighbours are gathered one place after another.
 use Rattle.std.proofs.Common.{◌≡◌, ◌⊎◌, ℕ, zero, suc, ◌+◌, ◌<◌, ◌≤◌, inl, inr, Bool, true, false, List, [], ◌∷◌, ◌++◌, length, length-append, refl, sym, ap, ◌∙◌, subst, true≢false, arith}
 use Rattle.std.proofs.lemmas.Bool.{cases_eq}
 use Rattle.std.proofs.lemmas.List.{get_or_append_left, get_or_read, get_or-set_other, get_or-set_same, length-set}
@@ -14,8 +14,8 @@ use Rattle.cfn_incidence.specs.Places.{place_at}
 use Rattle.cfn_dac.specs.declared.pair.Pair.{Pair}
 use Rattle.cfn_incidence.specs.Places.{StandsAt, ArePlaces}
 use Rattle.cfn_incidence.proofs.CallerLemmas.{place_found}
-use Rattle.cfn_eac.specs.Arms.{IsArm, IsReached, AreArms, pair_at, other_of}
-use Rattle.cfn_eac.specs.Gathering.{is_met, AreMarks, AreMarked, AreGathered, HasNoArm, IsArmAt}
+use Rattle.cfn_eac.specs.Neighbours.{IsNeighbour, IsReached, AreNeighbours, pair_at, other_of}
+use Rattle.cfn_eac.specs.Gathering.{is_met, AreMarks, AreMarked, AreGathered, HasNoNeighbour, IsNeighbourAt}
 
 pub which : (a b : ℕ) → (a < b) ⊎ (a ≡ b) ⊎ (b < a)
 which zero zero = inr (inl refl)
@@ -90,16 +90,16 @@ longer pairs pair = length-append pairs (pair ∷ [])
 
 still_reached : (P : Network) (pairs : List Pair) (pair : Pair) (f y : ℕ) → IsReached P pairs f y → IsReached P (pairs ++ pair ∷ []) f y
 still_reached P pairs pair f y r =
-    let within = r.within in let first = r.first in let same = old_pair pairs pair r.arm r.within in let long = longer pairs pair in
+    let within = r.within in let first = r.first in let same = old_pair pairs pair r.neighbour r.within in let long = longer pairs pair in
     record {
-      arm = r.arm;
+      neighbour = r.neighbour;
       within = omega (arith, within, long);
       first = subst (λ p. p.function ≤ f) (sym same) first;
       other = ap (other_of P) same ∙ r.other;
     }
 
--- no arm at a place
-pub gathered_skip : (P : Network) (history : List Event) (x : ℕ) (places : List Place) (pairs : List Pair) (n : ℕ) → AreGathered P history x places pairs n → HasNoArm P history (place_at places n) → AreGathered P history x places pairs (n + 1)
+-- no neighbour at a place
+pub gathered_skip : (P : Network) (history : List Event) (x : ℕ) (places : List Place) (pairs : List Pair) (n : ℕ) → AreGathered P history x places pairs n → HasNoNeighbour P history (place_at places n) → AreGathered P history x places pairs (n + 1)
 gathered_skip P history x places pairs n g none = record {
   few = (let few = g.few in omega (arith, few));
   each = g.each;
@@ -112,7 +112,7 @@ gathered_skip P history x places pairs n g none = record {
 }
 
 -- what is found at a place is the one pair there
-pub other_at : (P : Network) (history : List Event) (p : Place) (pair : Pair) (j : ℕ) → IsArmAt P history p pair → HasOpenPair P history p.function p.place j → j ≡ pair.other
+pub other_at : (P : Network) (history : List Event) (p : Place) (pair : Pair) (j : ℕ) → IsNeighbourAt P history p pair → HasOpenPair P history p.function p.place j → j ≡ pair.other
 other_at P history p pair j is open_pair =
     let mine : HasOpenPair P history p.function p.place pair.other = subst (λ i. HasOpenPair P history p.function i pair.other) is.place (subst (λ f. HasOpenPair P history f pair.place pair.other) is.function is.both) in
     elim (which p.place pair.other) [
@@ -129,11 +129,11 @@ other_at P history p pair j is open_pair =
     swapped : HasOpenPair P history p.function p.place pair.other → HasOpenPair P history p.function pair.other p.place
     swapped mine = record { active = mine.active; one = mine.other; other = mine.one; different = λ e. mine.different (sym e) }
 
-other_of_at : (P : Network) (history : List Event) (p : Place) (pair : Pair) (j : ℕ) → IsArmAt P history p pair → HasOpenPair P history p.function p.place j → other_of P pair ≡ variable_at P p.function j
+other_of_at : (P : Network) (history : List Event) (p : Place) (pair : Pair) (j : ℕ) → IsNeighbourAt P history p pair → HasOpenPair P history p.function p.place j → other_of P pair ≡ variable_at P p.function j
 other_of_at P history p pair j is open_pair = ap (λ f. variable_at P f pair.other) is.function ∙ sym (ap (variable_at P p.function) (other_at P history p pair j is open_pair))
 
--- an arm to a variable that is reached already
-pub gathered_met : (P : Network) (history : List Event) (x : ℕ) (places : List Place) (pairs : List Pair) (met : List Bool) (pair : Pair) (n : ℕ) → ArePlaces P x places → n < length places → AreMarks P met pairs 0 → AreGathered P history x places pairs n → IsArmAt P history (place_at places n) pair → is_met met (other_of P pair) ≡ true → AreGathered P history x places pairs (n + 1)
+-- a neighbour to a variable that is reached already
+pub gathered_met : (P : Network) (history : List Event) (x : ℕ) (places : List Place) (pairs : List Pair) (met : List Bool) (pair : Pair) (n : ℕ) → ArePlaces P x places → n < length places → AreMarks P met pairs 0 → AreGathered P history x places pairs n → IsNeighbourAt P history (place_at places n) pair → is_met met (other_of P pair) ≡ true → AreGathered P history x places pairs (n + 1)
 gathered_met P history x places pairs met pair n are within marks g is seen = record {
   few = (let few = g.few in omega (arith, few));
   each = g.each;
@@ -148,14 +148,14 @@ gathered_met P history x places pairs met pair n are within marks g is seen = re
   where
     here : (j : ℕ) → HasOpenPair P history (place_at places n).function (place_at places n).place j → IsReached P pairs (place_at places n).function (variable_at P (place_at places n).function j)
     here j open_pair =
-        let arm = marks.each (other_of P pair) seen in
-        let place = g.from arm.0 arm.2 in
+        let neighbour = marks.each (other_of P pair) seen in
+        let place = g.from neighbour.0 neighbour.2 in
         let less = are.ascend place.0 n place.1 within in
         record {
-          arm = arm.0;
-          within = arm.2;
+          neighbour = neighbour.0;
+          within = neighbour.2;
           first = subst (λ f. f ≤ (place_at places n).function) (sym place.2) (omega (arith, less));
-          other = arm.3 ∙ other_of_at P history (place_at places n) pair j is open_pair;
+          other = neighbour.3 ∙ other_of_at P history (place_at places n) pair j is open_pair;
         }
 
 -- no pair has the other variable of this one
@@ -165,15 +165,15 @@ IsFresh P pairs pair = (k : ℕ) → k < length pairs → other_of P (pair_at pa
 pub fresh : (P : Network) (met : List Bool) (pairs : List Pair) (pair : Pair) → AreMarked P met pairs → is_met met (other_of P pair) ≡ false → IsFresh P pairs pair
 fresh P met pairs pair marked unseen k h same = let seen = marked k h in let e = ap (is_met met) same in cc
 
--- an arm to another variable
-pub gathered_more : (P : Network) (history : List Event) (x : ℕ) (places : List Place) (pairs : List Pair) (pair : Pair) (n : ℕ) → StandsAt P x (place_at places n) → AreGathered P history x places pairs n → IsArmAt P history (place_at places n) pair → IsFresh P pairs pair → AreGathered P history x places (pairs ++ pair ∷ []) (n + 1)
+-- a neighbour to another variable
+pub gathered_more : (P : Network) (history : List Event) (x : ℕ) (places : List Place) (pairs : List Pair) (pair : Pair) (n : ℕ) → StandsAt P x (place_at places n) → AreGathered P history x places pairs n → IsNeighbourAt P history (place_at places n) pair → IsFresh P pairs pair → AreGathered P history x places (pairs ++ pair ∷ []) (n + 1)
 gathered_more P history x places pairs pair n stands g is fresh =
     let long = longer pairs pair in
     record {
       few = (let few = g.few in omega (arith, few, long));
       each = λ k h. elim (cases_eq k (length pairs)) [
-        | inl e ↦ subst (IsArm P history x) (sym (new_pair pairs pair) ∙ ap (pair_at (pairs ++ pair ∷ [])) (sym e)) arm
-        | inr d ↦ (let less : k < length pairs = omega (arith, h, long, d) in subst (IsArm P history x) (sym (old_pair pairs pair k less)) (g.each k less))
+        | inl e ↦ subst (IsNeighbour P history x) (sym (new_pair pairs pair) ∙ ap (pair_at (pairs ++ pair ∷ [])) (sym e)) neighbour
+        | inr d ↦ (let less : k < length pairs = omega (arith, h, long, d) in subst (IsNeighbour P history x) (sym (old_pair pairs pair k less)) (g.each k less))
       ];
       from = λ k h. elim (cases_eq k (length pairs)) [
         | inl e ↦ (n, omega arith, ap (λ p. p.function) (ap (pair_at (pairs ++ pair ∷ [])) e ∙ new_pair pairs pair) ∙ is.function)
@@ -209,14 +209,14 @@ gathered_more P history x places pairs pair n stands g is fresh =
     to_new : (k : ℕ) → k ≡ length pairs → other_of P (pair_at (pairs ++ pair ∷ []) k) ≡ other_of P pair
     to_new k e = ap (λ i. other_of P (pair_at (pairs ++ pair ∷ []) i)) e ∙ ap (other_of P) (new_pair pairs pair)
 
-    arm : IsArm P history x pair
-    arm = record { both = is.both; at = ap (λ f. variable_at P f pair.place) is.function ∙ ap (variable_at P (place_at places n).function) is.place ∙ stands.is }
+    neighbour : IsNeighbour P history x pair
+    neighbour = record { both = is.both; at = ap (λ f. variable_at P f pair.place) is.function ∙ ap (variable_at P (place_at places n).function) is.place ∙ stands.is }
 
     here : (j : ℕ) → HasOpenPair P history (place_at places n).function (place_at places n).place j → IsReached P (pairs ++ pair ∷ []) (place_at places n).function (variable_at P (place_at places n).function j)
     here j open_pair =
         let long = longer pairs pair in
         record {
-          arm = length pairs;
+          neighbour = length pairs;
           within = omega (arith, long);
           first = subst (λ p. p.function ≤ (place_at places n).function) (sym (new_pair pairs pair)) (subst (λ f. f ≤ (place_at places n).function) (sym is.function) (omega arith));
           other = ap (other_of P) (new_pair pairs pair) ∙ other_of_at P history (place_at places n) pair j is open_pair;
@@ -264,7 +264,7 @@ gathered_none P history x places = record {
   reached = λ m j h pair. absurd (omega (arith, h));
 }
 
-pub all_gathered : (P : Network) (history : List Event) (x : ℕ) (places : List Place) (pairs : List Pair) (n : ℕ) → ArePlaces P x places → length places ≤ n → AreGathered P history x places pairs n → AreArms P history x pairs
+pub all_gathered : (P : Network) (history : List Event) (x : ℕ) (places : List Place) (pairs : List Pair) (n : ℕ) → ArePlaces P x places → length places ≤ n → AreGathered P history x places pairs n → AreNeighbours P history x pairs
 all_gathered P history x places pairs n are h g = record {
   each = g.each;
   once = g.once;
@@ -276,17 +276,17 @@ all_gathered P history x places pairs n are h g = record {
 }
 
 -- a mark that is read
-pub has_mark : (P : Network) (history : List Event) (p : Place) (pair : Pair) (met : List Bool) (pairs : List Pair) (y : ℕ) → IsNetwork P → AreMarks P met pairs 0 → IsArmAt P history p pair → y ≡ other_of P pair → y < length met
-has_mark P history p pair met pairs y net marks arm is =
-    let there = (net.functions pair.function arm.both.active.function).variables pair.other arm.both.other.0 in
+pub has_mark : (P : Network) (history : List Event) (p : Place) (pair : Pair) (met : List Bool) (pairs : List Pair) (y : ℕ) → IsNetwork P → AreMarks P met pairs 0 → IsNeighbourAt P history p pair → y ≡ other_of P pair → y < length met
+has_mark P history p pair met pairs y net marks neighbour is =
+    let there = (net.functions pair.function neighbour.both.active.function).variables pair.other neighbour.both.other.0 in
     let size = marks.size in
     omega (arith, there, size, is)
 
 pub mark_is : (P : Network) (met : List Bool) (pair : Pair) (y : ℕ) (mark value : Bool) → y < length met → y ≡ other_of P pair → mark ≡ slice_index_or met y mark → mark ≡ value → is_met met (other_of P pair) ≡ value
 mark_is P met pair y mark value within is read seen = ap (is_met met) (sym is) ∙ sym (get_or_read met y mark within read false) ∙ seen
 
--- A variable that is not open has no arms.
-pub none_of_closed : (P : Network) (history : List Event) (x : ℕ) → is_open P history x ≡ false → AreArms P history x []
+-- A variable that is not open has no neighbours.
+pub none_of_closed : (P : Network) (history : List Event) (x : ℕ) → is_open P history x ≡ false → AreNeighbours P history x []
 none_of_closed P history x closed = record {
   each = (λ k h. absurd (omega (arith, h)));
   all = (λ f i j pair at. absurd (true≢false (sym (subst (λ y. is_open P history y ≡ true) at pair.one.1) ∙ closed)));

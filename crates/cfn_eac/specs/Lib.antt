@@ -1,4 +1,4 @@
-pub mod Arms
+pub mod Neighbours
 pub mod Asking
 pub mod Gathering
 pub mod Owing

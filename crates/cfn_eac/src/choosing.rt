@@ -5,34 +5,33 @@ ghost use Rattle.std.specs.Prelude.{◌≡◌, ◌<◌, ◌≤◌, length};
 ghost use Rattle.cfn_live.specs.Sets.{live_count};
 ghost use Rattle.cfn_store.specs.Rooms.{sets_of};
 ghost use Rattle.cfn_store.specs.Standing.{history};
-ghost use Rattle.cfn_eac.specs.Arms.{AreArms, AreOfFunctions};
+ghost use Rattle.cfn_eac.specs.Neighbours.{AreNeighbours};
 ghost use Rattle.cfn_eac.specs.Asking.{IsCheapest, IsCheapestBy};
 
-use crate::arms::Arms;
+use crate::neighbours::Neighbours;
 use crate::asking::asked;
 use cfn_dac::Pair;
 use cfn_incidence::Incidence;
 use cfn_store::Store;
 
 /// Of the live values of a variable that has some, the one that asks least, and of those the least. It takes no memory.
-pub fn cheapest(arms: &mut Arms<'_>, store: &Store<'_>, incidence: &Incidence, x: u32) -> u32
-    requires incidence { incidence.now ≡ arms.old.network }
-    requires network { store.now.network ≡ arms.old.network }
-    requires variable { x < length arms.old.network.sizes }
+pub fn cheapest(neighbours: &mut Neighbours<'_>, store: &Store<'_>, incidence: &Incidence, x: u32) -> u32
+    requires incidence { incidence.now ≡ neighbours.old.network }
+    requires network { store.now.network ≡ neighbours.old.network }
+    requires variable { x < length neighbours.old.network.sizes }
     requires some { 1 ≤ live_count (sets_of store.now) x }
     ensures cheapest { IsCheapest store.now.network (history store.now) x result }
-    ensures network { arms.new.network ≡ arms.old.network }
-    ensures functions { AreOfFunctions arms.new.network arms.new.pairs }
+    ensures network { neighbours.new.network ≡ neighbours.old.network }
 {
-    arms.gather(store, incidence, x);
-    cheapest_by(arms.pairs(), store, x)
+    neighbours.gather(store, incidence, x);
+    cheapest_by(neighbours.pairs(), store, x)
 }
 
-/// The same by arms that were gathered.
+/// The same by neighbours that were gathered.
 fn cheapest_by(pairs: &[Pair], store: &Store<'_>, x: u32) -> u32
     requires variable { x < length store.now.network.sizes }
     requires some { 1 ≤ live_count (sets_of store.now) x }
-    requires arms { AreArms store.now.network (history store.now) x pairs.now }
+    requires neighbours { AreNeighbours store.now.network (history store.now) x pairs.now }
     ensures { IsCheapestBy store.now.network (history store.now) x pairs.now result }
 {
     let values = store.live(x);

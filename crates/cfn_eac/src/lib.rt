@@ -1,19 +1,19 @@
 //! Existential arc consistency (Larrosa, de Givry, Heras and Zytnicki, Existential arc consistency: getting closer to full
 //! arc consistency in weighted CSPs, 2005; Cooper et al., Soft arc consistency revisited, 2010).
 //!
-//! - `arms.rt`: the functions between a variable and each other open variable;
+//! - `neighbours.rt`: the functions between a variable and each other open variable;
 //! - `asking.rt`: what a value asks of them;
 //! - `resting.rt`: whether a variable is existential already, by a quick look;
 //! - `raising.rt`: one variable made existential;
 //! - `choosing.rt`: the value that asks least.
 #![tactic(auto)]
 
-mod arms;
+mod neighbours;
 mod asking;
 mod choosing;
 mod raising;
 mod resting;
 
-pub use arms::Arms;
+pub use neighbours::Neighbours;
 pub use choosing::cheapest;
 pub use raising::existential;

@@ -1,20 +1,22 @@
 //! One variable made existential.
 //!
 //! A value that asks nothing (`asking.rt`) is what is looked for. Where each asks something, the least that is asked can be
-//! lifted: each arm moves to the values what they lack of it, as far as the arm has it, and the lift follows.
+//! lifted: each neighbour moves to the values what they lack of it, as far as the neighbour has it, and the lift follows.
 
 ghost use Rattle.std.specs.Prelude.{◌≡◌, ◌<◌, ◌≤◌, length, slice_index, MatchOption, IfSome, true};
 ghost use Rattle.cfn_consistency.specs.Consistency.{IsExistential};
 ghost use Rattle.cfn_store.specs.Standing.{history};
 ghost use Rattle.cfn_gain.specs.Calls.{GoesOn, Does, Shows};
 ghost use Rattle.cfn_gain.specs.Gains.{Gains};
-ghost use Rattle.cfn_eac.specs.Arms.{AreArms, AreOfFunctions, HasGood, IsGood};
+ghost use Rattle.cfn_eac.specs.Neighbours.{AreNeighbours, HasGood, IsGood};
 ghost use Rattle.cfn_model.specs.Steps.{IsValue};
 ghost use Rattle.cfn_due.specs.Dues.{HasSizes, Holds};
 ghost use Rattle.cfn_due.specs.Resting.{AreSure};
-ghost use Rattle.cfn_eac.specs.Owing.{IsAsked};
+ghost use Rattle.cfn_eac.specs.Owing.{IsAsked, RaisesUnlessExistential};
+ghost use Rattle.cfn_gain.specs.Levels.{RisesBy};
+ghost use Rattle.cfn_gain.specs.Passes.{HasLive};
 
-use crate::arms::Arms;
+use crate::neighbours::Neighbours;
 use crate::asking::asked;
 use crate::resting::is_at_rest;
 use cfn_dac::{Pair, full_supports};
@@ -23,10 +25,10 @@ use cfn_gain::{Halt, Limits, lacking, level};
 use cfn_incidence::Incidence;
 use cfn_store::Store;
 
-/// Makes a variable existential: where no step was made, a live value of unary cost 0 has a full support in each first
+/// Makes a variable existential, by a lift of the least amount that a live value asks: where no step was made, a live value of unary cost 0 has a full support in each first
 /// function of the variable and another open one. `moves` is room for an amount for each of its values.
 pub fn existential(
-    arms: &mut Arms<'_>,
+    neighbours: &mut Neighbours<'_>,
     rests: &mut Rests,
     due: &Due,
     store: &mut Store<'_>,
@@ -39,37 +41,36 @@ pub fn existential(
     requires sure { AreSure store.old.network (history store.old) rests.old }
     requires sizes { HasSizes store.old.network due.now }
     requires holds { Holds store.old.network (history store.old) due.now }
-    requires network { store.old.network ≡ arms.old.network }
-    requires incidence { incidence.now ≡ arms.old.network }
+    requires network { store.old.network ≡ neighbours.old.network }
+    requires incidence { incidence.now ≡ neighbours.old.network }
     requires variable { x < length store.old.network.sizes }
     requires moves { slice_index store.old.network.sizes x ≤ length moves.old }
     ensures does { Does store.old store.new limits result }
     ensures gains { Gains store.old store.new limits result }
     ensures existential { Shows store.old store.new result (IsExistential store.old.network (history store.old) x) }
+    ensures raises { RaisesUnlessExistential store.old store.new limits.threshold x result }
     // Of the store before its steps.
     ensures sure { AreSure store.old.network (history store.old) rests.new }
-    ensures network { arms.new.network ≡ arms.old.network }
-    ensures functions { AreOfFunctions arms.new.network arms.new.pairs }
+    ensures network { neighbours.new.network ≡ neighbours.old.network }
     ensures same { length moves.new ≡ length moves.old }
 {
     store.network().law_limits();
     if is_at_rest(rests, due, store, incidence, x) {
-        arms.clear();
         return Ok(());
     }
-    arms.gather(store, incidence, x);
-    if let Some(value) = good_value(arms.pairs(), store, x, rests.value(x)) {
+    neighbours.gather(store, incidence, x);
+    if let Some(value) = good_value(neighbours.pairs(), store, x, rests.value(x)) {
         rests.keep(incidence, x, value);
         return Ok(());
     }
-    match ask(arms.pairs(), store, limits, x) {
-        Some(alpha) => raise(arms.pairs(), store, limits, x, alpha, moves),
+    match ask(neighbours.pairs(), store, limits, x) {
+        Some(alpha) => raise(neighbours.pairs(), store, limits, x, alpha, moves),
         None => Ok(()),
     }
 }
 
-/// Moves to the values of a variable what they lack of `alpha`, as far as its arms have it, and lifts what all of them have
-/// then: that is `alpha` at least, since each value comes to it with what its arms have.
+/// Moves to the values of a variable what they lack of `alpha`, as far as its neighbours have it, and lifts what all of them have
+/// then: that is `alpha` at least, since each value comes to it with what its neighbours have.
 fn raise(
     pairs: &[Pair],
     store: &mut Store<'_>,
@@ -80,12 +81,13 @@ fn raise(
 ) -> Result<(), Halt>
     requires goes { GoesOn store.old limits }
     requires variable { x < length store.old.network.sizes }
-    requires arms { AreArms store.old.network (history store.old) x pairs.now }
+    requires neighbours { AreNeighbours store.old.network (history store.old) x pairs.now }
     requires alpha { IsAsked store.old.network (history store.old) limits.threshold x pairs.now alpha }
     requires moves { slice_index store.old.network.sizes x ≤ length moves.old }
     ensures does { Does store.old store.new limits result }
     ensures gains { Gains store.old store.new limits result }
     ensures good { Shows store.old store.new result (HasGood store.old.network (history store.old) x pairs.now) }
+    ensures rises { HasLive store.old.network (history store.old) x → RisesBy store.old store.new alpha result }
     ensures same { length moves.new ≡ length moves.old }
 {
     store.network().law_limits();
@@ -101,7 +103,7 @@ fn raise(
 fn ask(pairs: &[Pair], store: &Store<'_>, limits: Limits, x: u32) -> Option<u64>
     requires goes { GoesOn store.now limits }
     requires variable { x < length store.now.network.sizes }
-    requires arms { AreArms store.now.network (history store.now) x pairs.now }
+    requires neighbours { AreNeighbours store.now.network (history store.now) x pairs.now }
     ensures { MatchOption result (HasGood store.now.network (history store.now) x pairs.now)
         (IsAsked store.now.network (history store.now) limits.threshold x pairs.now) }
 {
@@ -120,7 +122,7 @@ fn ask(pairs: &[Pair], store: &Store<'_>, limits: Limits, x: u32) -> Option<u64>
 /// further than to the first thing that it asks.
 fn good_value(pairs: &[Pair], store: &Store<'_>, x: u32, first: u32) -> Option<u32>
     requires variable { x < length store.now.network.sizes }
-    requires arms { AreArms store.now.network (history store.now) x pairs.now }
+    requires neighbours { AreNeighbours store.now.network (history store.now) x pairs.now }
     ensures { IfSome result (IsGood store.now.network (history store.now) x pairs.now) }
 {
     store.network().law_limits();
@@ -138,7 +140,7 @@ fn good_value(pairs: &[Pair], store: &Store<'_>, x: u32, first: u32) -> Option<u
 /// Whether a value is live and asks nothing.
 fn asks_nothing(pairs: &[Pair], store: &Store<'_>, x: u32, value: u32) -> bool
     requires value { IsValue store.now.network x value }
-    requires arms { AreArms store.now.network (history store.now) x pairs.now }
+    requires neighbours { AreNeighbours store.now.network (history store.now) x pairs.now }
     ensures { result ≡ true → IsGood store.now.network (history store.now) x pairs.now value }
 {
     store.is_live(x, value) && asked(pairs, store, x, value, 0) == 0

@@ -1,7 +1,7 @@
 //! A quick look whether a variable is existential: whether a value of it has unary cost 0 and a full support in each function
 //! of the variable and one other open variable.
 //!
-//! Where the value that asked nothing last still does so, this is known without gathering the variable's arms; only the
+//! Where the value that asked nothing last still does so, this is known without gathering the variable's neighbours; only the
 //! functions are looked at in which steps made since may have ended it, and of those in which the variable is the lower one
 //! only such as wait for directional arc consistency.
 
@@ -19,7 +19,7 @@ ghost use Rattle.cfn_due.specs.Dues.{HasSizes, Holds};
 ghost use Rattle.cfn_due.specs.Resting.{AreSure};
 ghost use Rattle.cfn_eac.specs.Resting.{RestsOn};
 
-use crate::arms::wide_arm_at;
+use crate::neighbours::wide_neighbour_at;
 use cfn_dac::{Pair, least_total};
 use cfn_due::{Due, Rests};
 use cfn_incidence::{Incidence, Place};
@@ -110,7 +110,7 @@ fn rests_on_wide(rests: &mut Rests, store: &Store<'_>, place: Place, x: u32, val
     if rests.is_sure(place) {
         return true;
     }
-    let Some(pair) = wide_arm_at(store, place) else {
+    let Some(pair) = wide_neighbour_at(store, place) else {
         return true;
     };
     if !has_full_support_at(store, place, pair.other, value) {

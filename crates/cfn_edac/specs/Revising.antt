@@ -35,8 +35,3 @@ pub record IsRevised (before after : Standing) (old new : Dues) : Type 0 where
 pub record IsRunOut (before after : Standing) (new : Dues) : Type 0 where
   pub holds : HoldsIn after new
   pub why : Grows before after ⊎ NothingWaits new
-
--- What is blamed is a function, or nothing.
-abbrev pub IsBlame : Network → Option ℕ → Type 0
-IsBlame P None = Unit {0}
-IsBlame P (Some f) = f < length P.functions

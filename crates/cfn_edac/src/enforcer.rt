@@ -41,14 +41,6 @@ impl<'n> Enforcer<'n> {
         })
     }
 
-    /// The function that the newest `settle` was at, where it ended dead and was at one. That it is this one is in no
-    /// clause.
-    pub fn blamed(&self) -> Option<u32>
-        ensures { IfSome result (λ f. f < length self.now.functions) }
-    {
-        self.reviser.blamed()
-    }
-
     /// Of the live values of a variable that has some, the one that asks least: its unary cost, and what it finds in the first
     /// functions to other open variables, is least; of those that ask as little the least. No memory is taken.
     pub fn cheapest(&mut self, store: &Store<'_>, incidence: &Incidence, x: u32) -> u32
@@ -84,17 +76,14 @@ impl<'n> Enforcer<'n> {
         ensures gains { HasGained store.old store.new limits result }
         ensures same { self.new ≡ self.old }
     {
-        self.reviser.forget();
         if store.floor() >= u128::from(limits.threshold) {
             return Settling::Dead;
         }
         self.reviser.begin(store, incidence, since);
-        let answer = match self.reviser.revise_all(store, incidence, limits) {
+        match self.reviser.revise_all(store, incidence, limits) {
             Ok(()) => Settling::Settled,
-            Err(Halt::Dead) => return Settling::Dead,
+            Err(Halt::Dead) => Settling::Dead,
             Err(Halt::Spent) => Settling::Spent,
-        };
-        self.reviser.forget();
-        answer
+        }
     }
 }

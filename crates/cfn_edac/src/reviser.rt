@@ -26,7 +26,7 @@ ghost use Rattle.cfn_edac.specs.Settling.{IsBehindSettled};
 use crate::looks::{arc, levels};
 use cfn_dac::directional;
 use cfn_due::{Due, Next, Rests, Sides};
-use cfn_eac::{Arms, cheapest, existential};
+use cfn_eac::{Neighbours, cheapest, existential};
 use cfn_gain::{Halt, Limits};
 use cfn_incidence::Incidence;
 use cfn_model::{Event, MOST_VALUES};
@@ -43,27 +43,25 @@ pub(crate) struct Reviser<'n> {
     due: Due,
     /// Room for an amount for each value of a variable.
     moves: Vec<u64>,
-    /// Room for the arms of a variable.
-    arms: Arms<'n>,
+    /// Room for the neighbours of a variable.
+    neighbours: Neighbours<'n>,
     /// The values that may rest, and where they are known to.
     rests: Rests,
     /// At which places of functions values may lack supports.
     sides: Sides,
-    /// The function that was looked at last, where it was one.
-    blamed: Option<u32>,
 }
 
 impl<'n> Model for Reviser<'n> {
     ghost use Rattle.std.specs.Prelude.{◌≡◌, length};
     ghost use Rattle.cfn_model.specs.declared.limits.TheConstants.{MOST_VALUES as most_values};
     ghost use Rattle.cfn_due.specs.Dues.{HasSizes};
-    ghost use Rattle.cfn_edac.specs.Revising.{Revising, IsBlame};
+    ghost use Rattle.cfn_edac.specs.Revising.{Revising};
 
     ghost Value = { Revising };
 
     ghost view = { λ s. record { network = s.network.now; due = s.due; rests = s.rests; sides = s.sides } };
 
-    ghost invariant = { λ s. (s.arms.network ≡ s.network.now) × (length s.moves.items ≡ most_values) × IsBlame s.network.now s.blamed × HasSizes s.network.now s.due × (s.sides.size ≡ length s.network.now.functions) };
+    ghost invariant = { λ s. (s.neighbours.network ≡ s.network.now) × (length s.moves.items ≡ most_values) × HasSizes s.network.now s.due × (s.sides.size ≡ length s.network.now.functions) };
 }
 
 impl<'n> Reviser<'n> {
@@ -72,35 +70,20 @@ impl<'n> Reviser<'n> {
         ensures { IfOk result (λ reviser. reviser.network ≡ network.now) }
     {
         let made = both(Due::make(alloc, network)?, room_for_moves(alloc))?;
-        let made = both(made, Arms::make(alloc, network))?;
+        let made = both(made, Neighbours::make(alloc, network))?;
         let made = both(made, Rests::make(alloc, network))?;
-        let ((((due, moves), arms), rests), sides) = both(made, Sides::make(alloc, network))?;
+        let ((((due, moves), neighbours), rests), sides) = both(made, Sides::make(alloc, network))?;
         Ok(Reviser {
             network,
             due,
             moves,
-            arms,
+            neighbours,
             rests,
             sides,
-            blamed: None,
         })
     }
 
-    /// The function that was looked at when the newest call halted, where it was at one and is not forgotten.
-    pub fn blamed(&self) -> Option<u32>
-        ensures { IfSome result (λ f. f < length self.now.network.functions) }
-    {
-        self.blamed
-    }
-
-    /// No function is blamed.
-    pub fn forget(&mut self)
-        ensures { self.new ≡ self.old }
-    {
-        self.blamed = None;
-    }
-
-    /// Of the live values of a variable that has some, the one that asks least of its arms, and of those the least.
+    /// Of the live values of a variable that has some, the one that asks least of its neighbours, and of those the least.
     pub fn cheapest(&mut self, store: &Store<'_>, incidence: &Incidence, x: u32) -> u32
         requires network { store.now.network ≡ self.old.network }
         requires incidence { incidence.now ≡ self.old.network }
@@ -109,7 +92,7 @@ impl<'n> Reviser<'n> {
         ensures cheapest { IsCheapest store.now.network (history store.now) x result }
         ensures same { self.new ≡ self.old }
     {
-        cheapest(&mut self.arms, store, incidence, x)
+        cheapest(&mut self.neighbours, store, incidence, x)
     }
 
     /// What is due in a store that stands one event behind a place where it was fully consistent; with no such event, all.
@@ -252,7 +235,6 @@ impl<'n> Reviser<'n> {
         ensures network { self.new.network ≡ self.old.network }
     {
         let before = store.block_len();
-        self.blamed = Some(f);
         arc(store, limits, f, &self.sides)?;
         if store.block_len() > before {
             self.note_steps(incidence, store, before);
@@ -263,7 +245,7 @@ impl<'n> Reviser<'n> {
         Ok(())
     }
 
-    /// Looks at the variable that has waited longest. Where that halts, its last arm is blamed.
+    /// Looks at the variable that has waited longest.
     fn revise_existing(
         &mut self,
         store: &mut Store<'_>,
@@ -288,8 +270,8 @@ impl<'n> Reviser<'n> {
     {
         self.network.law_limits();
         let before = store.block_len();
-        let result = existential(
-            &mut self.arms,
+        existential(
+            &mut self.neighbours,
             &mut self.rests,
             &self.due,
             store,
@@ -297,11 +279,7 @@ impl<'n> Reviser<'n> {
             limits,
             x,
             &mut self.moves,
-        );
-        if result.is_err() {
-            self.blamed = self.arms.last_function();
-            return result;
-        }
+        )?;
         if store.block_len() > before {
             self.note_steps(incidence, store, before);
         } else {
@@ -335,7 +313,6 @@ impl<'n> Reviser<'n> {
     {
         self.network.law_limits();
         let before = store.block_len();
-        self.blamed = Some(f);
         directional(store, limits, f, &mut self.moves)?;
         if store.block_len() > before {
             self.note_steps(incidence, store, before);
@@ -368,7 +345,6 @@ impl<'n> Reviser<'n> {
         ensures network { self.new.network ≡ self.old.network }
     {
         let before = store.block_len();
-        self.blamed = None;
         levels(store, limits)?;
         if store.block_len() > before {
             self.note_steps(incidence, store, before);

@@ -12,3 +12,4 @@ pub mod Gaining
 pub mod Closing
 pub mod Keeping
 pub mod Earning
+pub mod Rising

@@ -1,5 +1,5 @@
 -- A variable's part in node consistency.
-use Rattle.std.specs.Prelude.{◌≡◌, ℕ, ◌-◌, ◌⊎◌, min, List, ◌∷◌, ◌++◌, map, pos, ◌+ℤ◌, ◌≤ℤ◌, ◌<ℤ◌, IsTrue, Result, Err}
+use Rattle.std.specs.Prelude.{◌≡◌, ℕ, ◌+◌, ◌-◌, ◌≤◌, ◌⊎◌, min, List, ◌∷◌, ◌++◌, map, pos, ◌+ℤ◌, ◌≤ℤ◌, ◌<ℤ◌, IsTrue, Result, Err}
 use Rattle.cfn_model.specs.declared.step.Step.TheVariants.{Lift, CutValue}
 use Rattle.cfn_model.specs.declared.step.Event.{Event}
 use Rattle.cfn_model.specs.Network.{Network}
@@ -25,6 +25,15 @@ pub record IsLevel (P : Network) (history : List Event) (k x : ℕ) : Type 0 whe
 pub record AreAllCostly (P : Network) (history : List Event) (x : ℕ) : Type 0 where
   pub some : HasLive P history x
   pub each : (a : ℕ) → IsValue P x a → IsTrue (is_live history x a) → pos 1 ≤ℤ unary P history x a
+
+-- The same with an amount: each of them costs that much at least.
+pub record AreAllAtLeast (P : Network) (history : List Event) (x amount : ℕ) : Type 0 where
+  pub some : HasLive P history x
+  pub each : (a : ℕ) → IsValue P x a → IsTrue (is_live history x a) → pos amount ≤ℤ unary P history x a
+
+-- Unless the block had no room, the floor rose by an amount at least.
+abbrev pub RisesBy : Standing → Standing → ℕ → Result (Unit {0}) Halt → Type 0
+RisesBy before after amount result = (result ≡ Err Spent → ⊥) → floor before.network (history before) + amount ≤ floor after.network (history after)
 
 -- Between two standings values of x were cut, and nothing else was done.
 pub record AddsCuts (before after : Standing) (x : ℕ) : Type 0 where

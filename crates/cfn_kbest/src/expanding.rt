@@ -122,7 +122,7 @@ fn enforce_at<H: Halt>(
     )
 }
 
-/// Blames the function by which a leaf was found dead, where there is one, and closes the leaf by those steps of the store's
+/// Blames the function that projected last at a dead leaf, where one did, and closes the leaf by those steps of the store's
 /// block that its closing needs. An `Err` is want of memory.
 fn close_dead<'n>(
     alloc: Global,
@@ -138,9 +138,7 @@ fn close_dead<'n>(
     ensures expanded { IfOk result (IsExpanded network.now parts.old.store.base threshold parts.new) }
     ensures of { IsOf network.now parts.new }
 {
-    if let Some(f) = parts.enforcer.blamed() {
-        parts.weights.blame(f);
-    }
+    parts.weights.blame_newest(&parts.store);
     let block = parts
         .trimmer
         .closing_block(alloc, &mut parts.store, mark, threshold)?;

@@ -7,3 +7,4 @@ pub mod Wanting
 pub mod Walking
 pub mod Lifts
 pub mod Roots
+pub mod Lifted

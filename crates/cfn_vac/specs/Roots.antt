@@ -1,5 +1,5 @@
 -- Virtual arc consistency at the root: what it needs, and how an attempt to lift ends.
-use Rattle.std.specs.Prelude.{◌≡◌, ℕ, ◌+◌, ◌≤◌, List, length, IsFalse}
+use Rattle.std.specs.Prelude.{◌≡◌, ℕ, zero, suc, ◌+◌, ◌≤◌, List, length, IsFalse}
 use Rattle.cfn_model.specs.declared.step.Step.{Step}
 use Rattle.cfn_model.specs.declared.step.Step.TheVariants.{Project, Extend, Lift, CutValue, CutTuple}
 use Rattle.cfn_model.specs.Network.{Network, variable_at}
@@ -42,6 +42,22 @@ EndsWith P q bans limits before after deletions Closed =
 EndsWith P q bans limits before after deletions Lifted = HasPlan P q bans limits before after deletions Lifted
 EndsWith P q bans limits before after deletions (Blocked number step demand capacity) = HasPlan P q bans limits before after deletions (Blocked number step demand capacity)
 EndsWith P q bans limits before after deletions Spent = HasPlan P q bans limits before after deletions Spent
+
+-- One lift: at some amount and within some limits, by the plan of a derivation.
+pub record IsOneLift (P : Network) (before after : Standing) : Type 0 where
+  pub q : ℕ
+  pub bans : Bans
+  pub limits : Limits
+  pub deletions : List Deletion
+  pub plan : HasPlan P q bans limits before after deletions Lifted
+
+-- A number of lifts one after another; and as many as there are.
+abbrev pub AreLifts : Network → ℕ → Standing → Standing → Type 0
+AreLifts P zero before after = after ≡ before
+AreLifts P (suc n) before after = (mid : Standing) × AreLifts P n before mid × IsOneLift P mid after
+
+abbrev pub HasLifted : Network → Standing → Standing → Type 0
+HasLifted P before after = (n : ℕ) × AreLifts P n before after
 
 -- What a blocked step stands for is banned, which was not: the unary cost of the value that an extend takes from, or the function
 -- of a project at its value. Nothing else is.

@@ -19,7 +19,7 @@ ghost use Rattle.cfn_derivation.specs.Watched.{IsWatched};
 ghost use Rattle.cfn_vac.specs.declared.vac.Attempt.TheVariants.{Rose, Banned};
 ghost use Rattle.cfn_vac.specs.declared.vac.Attempt.TheVariants as Attempt;
 ghost use Rattle.cfn_vac.specs.Running.{IsShift};
-ghost use Rattle.cfn_vac.specs.Roots.{IsReady, EndsWith, BansMore};
+ghost use Rattle.cfn_vac.specs.Roots.{IsReady, EndsWith, HasLifted, BansMore};
 
 use crate::amounts::first_amount;
 use crate::lifter::{Lifter, Lifting};
@@ -129,7 +129,7 @@ impl<'n> RootVac<'n> {
 
     /// Raises the floor: at amounts that halve, from a power of two within the threshold down to 1, whether or not one
     /// lifted; only where `halt` is past, or there is no room or memory for a lift, does it end before. In a store that is
-    /// settled the functions are arc consistent. Whether the floor rose.
+    /// settled the functions are arc consistent. All its steps are of lifts by the plans of derivations. Whether the floor rose.
     pub fn raise<H: Halt>(
         &mut self,
         store: &mut Store<'_>,
@@ -143,6 +143,7 @@ impl<'n> RootVac<'n> {
         requires settled { settled ≡ true → (k : ℕ) × AreArcConsistent self.old.network (history store.old) k }
         ensures network { self.new.network ≡ self.old.network }
         ensures adds { Adds store.old store.new limits }
+        ensures lifts { HasLifted self.old.network store.old store.new }
         ensures rose { result ≡ true → floor self.old.network (history store.old) < floor self.old.network (history store.new) }
         ensures still { result ≡ false → floor self.old.network (history store.old) ≡ floor self.old.network (history store.new) }
     {
@@ -168,6 +169,7 @@ impl<'n> RootVac<'n> {
         requires some { 0 < limits.threshold }
         ensures network { self.new.network ≡ self.old.network }
         ensures adds { Adds store.old store.new limits }
+        ensures lifts { HasLifted self.old.network store.old store.new }
     {
         let mut q = first_amount(store, limits.threshold);
         self.begin(store, settled, q);
@@ -207,6 +209,7 @@ impl<'n> RootVac<'n> {
         requires none { NoneBanned self.old.network (bans_of self.old.bans) }
         ensures network { self.new.network ≡ self.old.network }
         ensures adds { Adds store.old store.new limits }
+        ensures lifts { HasLifted self.old.network store.old store.new }
         ensures ready { IsReady self.old.network store.new limits }
         ensures watch { IsWatched self.old.network (history store.new) self.new.watch q }
     {
@@ -245,6 +248,7 @@ impl<'n> RootVac<'n> {
         requires watch { IsWatched self.old.network (history store.old) self.old.watch q }
         ensures network { self.new.network ≡ self.old.network }
         ensures adds { Adds store.old store.new limits }
+        ensures lifts { HasLifted self.old.network store.old store.new }
         ensures ready { IsReady self.old.network store.new limits }
         ensures watch { IsWatched self.old.network (history store.new) self.new.watch q }
         ensures rose { result ≡ Rose → floor self.old.network (history store.old) < floor self.old.network (history store.new) }

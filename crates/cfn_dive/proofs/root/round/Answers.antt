@@ -3,7 +3,8 @@ use Rattle.cfn_model.specs.Steps.{after}
 use Rattle.cfn_store.specs.Standing.{history}
 use Rattle.cfn_derivation.specs.Derived.{AllAlive, value_count}
 use Rattle.cfn_dive.specs.Enforcing.{Finds}
-use Rattle.cfn_dive.proofs.Rounds.{goes_still, goes_by, goes_along}
+use Rattle.cfn_vac.specs.Roots.{HasLifted}
+use Rattle.cfn_dive.proofs.Rounds.{goes_still, goes_by, goes_along, at_place, groups_open}
 use Rattle.cfn_dive.proofs.root.round.Goals as goal
 
 pub raise-requires-clause-ready : goal.raise-requires-clause-ready
@@ -35,3 +36,14 @@ pub returns-clause-finds : goal.returns-clause-finds
 returns-clause-finds g c =
     let new = c.settle.new.store in
     subst (λ k. Finds new.network (history new) k c.settle.result) c.limits_from-limits-2.ensures.threshold c.settle.ensures.finds
+
+pub returns-clause-round : goal.returns-clause-round
+returns-clause-round g c =
+    let s = c.args.store.now in let r = c.reserve.new.self in
+    record {
+      start = r;
+      at = at_place s r c.reserve.ensures.network c.reserve.ensures.base c.reserve.ensures.block;
+      lifted = c.raise.new.store;
+      lifts = subst (λ P. HasLifted P r c.raise.new.store) (sym c.requires.vac) c.raise.ensures.lifts;
+      groups = groups_open c.raise.new.store c.settle.new.store c.settle.result c.settle.ensures.gains;
+    }

@@ -32,12 +32,12 @@ loop-pair-init c =
 pub returns-then-sum-most-clause-low : goal.returns-then-sum-most-clause-low
 returns-then-sum-most-clause-low c =
     let s = c.args.store.now in
-    low_all s.network (history s) c.args.x c.args.pairs.now c.args.value c.loop-pair.pair-index c.loop-pair.sum (subst IsNetwork c.network.ensures c.law_limits.ensures) c.law_exact.ensures c.requires.arms (omega (arith, c.loop-pair-test.true)) c.loop-pair.invariant.low
+    low_all s.network (history s) c.args.x c.args.pairs.now c.args.value c.loop-pair.pair-index c.loop-pair.sum (subst IsNetwork c.network.ensures c.law_limits.ensures) c.law_exact.ensures c.requires.neighbours (omega (arith, c.loop-pair-test.true)) c.loop-pair.invariant.low
 
 pub returns-clause-low : goal.returns-clause-low
 returns-clause-low c =
     let s = c.args.store.now in
-    low_all s.network (history s) c.args.x c.args.pairs.now c.args.value c.loop-pair.pair-index c.loop-pair.sum (subst IsNetwork c.network.ensures c.law_limits.ensures) c.law_exact.ensures c.requires.arms (omega (arith, c.loop-pair.auto.pair-index-end)) c.loop-pair.invariant.low
+    low_all s.network (history s) c.args.x c.args.pairs.now c.args.value c.loop-pair.pair-index c.loop-pair.sum (subst IsNetwork c.network.ensures c.law_limits.ensures) c.law_exact.ensures c.requires.neighbours (omega (arith, c.loop-pair.auto.pair-index-end)) c.loop-pair.invariant.low
 
 pub returns-clause-above : goal.returns-clause-above
 returns-clause-above c = λ more amount asks.

@@ -10,13 +10,13 @@ use Rattle.cfn_eac.proofs.Gather.{other_at}
 use Rattle.cfn_eac.proofs.Sure.{sure_rests, rests_at}
 use Rattle.cfn_eac.proofs.resting.rests_on_wide.Goals as goal
 
-pub wide_arm_at-requires : goal.wide_arm_at-requires
-wide_arm_at-requires c = subst (λ y. StandsAt c.args.store.now.network y c.args.place) (sym c.requires.stands.is) c.requires.stands
+pub wide_neighbour_at-requires : goal.wide_neighbour_at-requires
+wide_neighbour_at-requires c = subst (λ y. StandsAt c.args.store.now.network y c.args.place) (sym c.requires.stands.is) c.requires.stands
 
 pub has_full_support_at-requires-clause-open : goal.has_full_support_at-requires-clause-open
 has_full_support_at-requires-clause-open c =
-    let P = c.args.store.now.network in let h = history c.args.store.now in let arm = c.in-Some.ensures in
-    subst (λ i. HasOpenPair P h c.args.place.function i c.in-Some.pair.other) arm.place (subst (λ f. HasOpenPair P h f c.in-Some.pair.place c.in-Some.pair.other) arm.function arm.both)
+    let P = c.args.store.now.network in let h = history c.args.store.now in let neighbour = c.in-Some.ensures in
+    subst (λ i. HasOpenPair P h c.args.place.function i c.in-Some.pair.other) neighbour.place (subst (λ f. HasOpenPair P h f c.in-Some.pair.place c.in-Some.pair.other) neighbour.function neighbour.both)
 
 pub has_full_support_at-requires-clause-live : goal.has_full_support_at-requires-clause-live
 has_full_support_at-requires-clause-live c = subst (λ y. IsTrue (is_live (history c.args.store.now) y c.args.value)) (sym c.requires.stands.is) c.requires.live
@@ -35,9 +35,9 @@ returns-clause-rests c = λ yes j both.
 
 pub returns-clause-sure : goal.returns-clause-sure
 returns-clause-sure c =
-    let s = c.args.store.now in let p = c.args.place in let arm = c.in-Some.ensures in
+    let s = c.args.store.now in let p = c.args.place in let neighbour = c.in-Some.ensures in
     let is = c.requires.value ∙ sym (ap (slice_index c.args.rests.now.values) c.requires.stands.is) in
-    let pair = subst (λ i. HasOpenPair s.network (history s) p.function i c.in-Some.pair.other) arm.place (subst (λ f. HasOpenPair s.network (history s) f c.in-Some.pair.place c.in-Some.pair.other) arm.function arm.both) in
+    let pair = subst (λ i. HasOpenPair s.network (history s) p.function i c.in-Some.pair.other) neighbour.place (subst (λ f. HasOpenPair s.network (history s) f c.in-Some.pair.place c.in-Some.pair.other) neighbour.function neighbour.both) in
     c.rely.ensures.sure s.network (history s) c.requires.sure
     (subst (RestsAt s.network (history s) p.function p.place) is
     (rests_at s.network (history s) p c.args.value c.in-Some.pair.other pair (c.has_full_support_at.ensures c.if-not-has_full_support_at.false)))

@@ -5,6 +5,7 @@ use Rattle.cfn_gain.specs.Calls.{Does, Shows}
 use Rattle.cfn_gain.specs.Levels.{AreBelow, AddsCuts}
 use Rattle.cfn_gain.proofs.Adding.{does_then}
 use Rattle.cfn_gain.proofs.Leveling.{emptied, level_of, level_grown, level_costs, cuts_none, lifts_first, lifts_halts, lifts_none, none_least}
+use Rattle.cfn_gain.proofs.Rising.{rises_lifted, rises_none}
 use Rattle.cfn_consistency.specs.Groups.{IsBegun}
 use Rattle.cfn_gain.specs.Gains.{Gains}
 use Rattle.cfn_gain.proofs.Gaining.{gained_none, opened, gains_halt, gains_then}
@@ -108,4 +109,33 @@ returns-clause-cuts c = λ is.
     elim c.if-least-gt0.branch [
       | then-least-gt0+in_ok-lift w ↦ lifts_none s c.args.x c.least-least.result 0 is c.least-least.ensures w.if-least-gt0.true refl
       | else-least-gt0 w ↦ subst (λ t. AddsCuts t c.cut_costly.new.store c.args.x) w.store-is c.cut_costly.ensures.cuts
+    ])
+
+pub returns-then-is_empty-clause-rises : goal.returns-then-is_empty-clause-rises
+returns-then-is_empty-clause-rises c = λ amount all below room.
+    (let s = c.args.store.now in let some = all.some in
+    let found = c.live.ensures.all some.value (record { variable = some.is.variable; value = some.is.value }) some.live in
+    let t = c.if-is_empty.true in let e = c.is_empty.ensures in
+    absurd (let within = found.1 in grind (arith, t, e, within)))
+
+pub returns-in_err-lift-clause-rises : goal.returns-in_err-lift-clause-rises
+returns-in_err-lift-clause-rises c = λ amount all below.
+    (let adds = c.in_err-lift.ensures.does.adds in
+    rises_lifted c.args.store.now c.lift.new.store c.args.limits c.args.x c.least-least.result amount c.from_residual.result adds.network adds.base c.least-least.ensures
+    (lifts_halts c.args.store.now c.lift.new.store c.args.limits c.args.x c.least-least.result c.least-least.result c.in_err-lift.field-0.0 _ c.from_residual.result refl c.least-least.ensures c.least-least.ensures
+    c.in_err-lift.ensures.dead c.in_err-lift.ensures.short c.in_err-lift.ensures.spent c.from_residual.ensures.1) all below)
+
+pub returns-clause-rises : goal.returns-clause-rises
+returns-clause-rises c = λ amount all below.
+    (let s = c.args.store.now in let last = c.cut_costly.new.store in
+    elim c.if-least-gt0.branch [
+      | then-least-gt0+in_ok-lift w ↦
+          (let adds = (does_then s w.lift.new.store last c.args.limits c.cut_costly.result w.in_ok-lift.ensures.does (subst (λ t. Does t last c.args.limits c.cut_costly.result) w.store-is c.cut_costly.ensures.does)).adds in
+          rises_lifted s last c.args.limits c.args.x c.least-least.result amount c.cut_costly.result adds.network adds.base c.least-least.ensures
+          (lifts_first s w.lift.new.store last c.args.limits c.args.x c.least-least.result c.least-least.result c.cut_costly.result c.least-least.ensures c.least-least.ensures w.in_ok-lift.ensures.made w.in_ok-lift.ensures.does.ends
+          (subst (λ t. AddsCuts t last c.args.x) w.store-is c.cut_costly.ensures.cuts)) all below)
+      | else-least-gt0 w ↦
+          (let adds = (subst (λ t. Does t last c.args.limits c.cut_costly.result) w.store-is c.cut_costly.ensures.does).adds in
+          rises_none s last c.args.x c.least-least.result amount c.cut_costly.result adds.network adds.base c.least-least.ensures (let none = w.if-least-gt0.false in omega (arith, none))
+          (subst (λ t. AddsCuts t last c.args.x) w.store-is c.cut_costly.ensures.cuts) all)
     ])

@@ -12,4 +12,4 @@ pub returns-clause-groups : goal.returns-clause-groups
 returns-clause-groups g c =
     let before = c.args.self.now.store in
     let at = current_at before.network c.args.self.now c.args.growth.now c.args.leaf c.requires.diving c.requires.current in
-    groups_made c.args.leaf.is_root before c.enforce.new.store c.enforce.result at.root c.enforce.ensures.goes.base at.block c.enforce.ensures.gains
+    groups_made c.args.leaf.is_root before c.enforce.new.store c.enforce.result at.root c.enforce.ensures.goes.network c.enforce.ensures.goes.base at.block c.enforce.ensures.gains c.enforce.ensures.rooted

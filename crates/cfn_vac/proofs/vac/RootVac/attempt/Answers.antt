@@ -4,6 +4,8 @@ use Rattle.cfn_model.specs.Steps.{after}
 use Rattle.cfn_store.specs.Standing.{history}
 use Rattle.cfn_derivation.specs.Watched.{IsWatched}
 use Rattle.cfn_vac.specs.Roots.{Root}
+use Rattle.cfn_derivation.specs.Banned.{bans_of}
+use Rattle.cfn_vac.proofs.Lifted.{lifted_once}
 use Rattle.cfn_vac.proofs.Roots.{ready_then, watched_same, before_adds}
 use Rattle.cfn_vac.proofs.vac.RootVac.attempt.Goals as goal
 
@@ -21,3 +23,7 @@ returns-in-Ok-Lifted-clause-watch c =
     let before = subst (λ h. IsWatched P h c.lift_once.new.self.watch q) (sym (before_adds s now c.args.limits c.block_len-start.result is.adds c.block_len-start.ensures)) here in
     let premise = subst (λ (N : Network). IsWatched N begun c.self.inside.deriver q) (sym same) (subst (λ w. IsWatched P begun w q) (sym (ap (λ (r : Root). r.watch) c.self.view_is)) before) in
     subst (λ (N : Network). IsWatched N (history now) c.note.new.self q) same (c.note.ensures.watch q premise)
+
+pub returns-in-Ok-Lifted-clause-lifts : goal.returns-in-Ok-Lifted-clause-lifts
+returns-in-Ok-Lifted-clause-lifts c =
+    lifted_once c.args.self.now.network c.args.q (bans_of c.args.self.now.bans) c.args.limits c.args.store.now c.lift_once.new.store c.lift_once.new.self.watch.deletions c.in-Ok-Lifted.ensures.ends

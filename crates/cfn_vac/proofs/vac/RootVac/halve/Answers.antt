@@ -4,7 +4,8 @@ use Rattle.cfn_store.specs.Standing.{history}
 use Rattle.cfn_gain.proofs.CallerLemmas.{adds_then}
 use Rattle.cfn_derivation.specs.Banned.{bans_of, NoneBanned}
 use Rattle.cfn_derivation.specs.Watched.{IsWatched}
-use Rattle.cfn_vac.specs.Roots.{IsReady}
+use Rattle.cfn_vac.specs.Roots.{IsReady, HasLifted}
+use Rattle.cfn_vac.proofs.Lifted.{lifted_then}
 use Rattle.cfn_vac.proofs.vac.RootVac.halve.Goals as goal
 
 pub returns-else-q-gt1-clause-adds : goal.returns-else-q-gt1-clause-adds
@@ -20,7 +21,18 @@ loop-limits-preserved g c =
       network = c.lower.ensures.network ∙ same;
       some = omega (arith, more);
       adds = adds_then c.args.store.now c.loop-limits.store next c.args.limits v.adds c.raise_at.ensures.adds;
+      lifts = lifted_then c.args.self.now.network c.args.store.now c.loop-limits.store next v.lifts (subst (λ (N : Network). HasLifted N c.loop-limits.store next) v.network c.raise_at.ensures.lifts);
       ready = subst (λ (N : Network). IsReady N next c.args.limits) v.network c.raise_at.ensures.ready;
       watch = subst (λ (N : Network). IsWatched N (history next) c.lower.new.self.watch (c.loop-limits.q / 2)) same c.lower.ensures.watch;
       none = subst (λ (N : Network). NoneBanned N (bans_of c.lower.new.self.bans)) same c.lower.ensures.none;
     }
+
+pub returns-else-q-gt1-clause-lifts : goal.returns-else-q-gt1-clause-lifts
+returns-else-q-gt1-clause-lifts g c =
+    let v = c.loop-limits.invariant in
+    lifted_then c.args.self.now.network c.args.store.now c.loop-limits.store c.raise_at.new.store v.lifts (subst (λ (N : Network). HasLifted N c.loop-limits.store c.raise_at.new.store) v.network c.raise_at.ensures.lifts)
+
+pub returns-after-loop-limits-clause-lifts : goal.returns-after-loop-limits-clause-lifts
+returns-after-loop-limits-clause-lifts g c =
+    let v = c.loop-limits.invariant in
+    lifted_then c.args.self.now.network c.args.store.now c.loop-limits.store c.raise_at.new.store v.lifts (subst (λ (N : Network). HasLifted N c.loop-limits.store c.raise_at.new.store) v.network c.raise_at.ensures.lifts)

@@ -4,6 +4,8 @@ use Rattle.cfn_model.specs.Network.{Network}
 use Rattle.cfn_model.specs.Sums.{floor}
 use Rattle.cfn_store.specs.Standing.{Standing, history}
 use Rattle.cfn_gain.specs.Calls.{Adds}
+use Rattle.cfn_vac.specs.Roots.{HasLifted}
+use Rattle.cfn_vac.proofs.Lifted.{lifted_none}
 use Rattle.cfn_vac.proofs.Roots.{floor_kept}
 use Rattle.cfn_vac.proofs.vac.RootVac.raise.Goals.{then-limits-gt0, else-limits-gt0}
 use Rattle.cfn_vac.proofs.vac.RootVac.raise.Goals as goal
@@ -22,3 +24,11 @@ returns-clause-still g c = λ h. elim c.if-limits-gt0.branch [
       (floor_kept P s now c.args.limits adds))
   | else-limits-gt0 w ↦ sym (ap (λ (t : Standing). floor c.args.self.now.network (history t)) w.store-is)
 ]
+
+pub returns-clause-lifts : goal.returns-clause-lifts
+returns-clause-lifts g c =
+    let P = c.args.self.now.network in let s = c.args.store.now in
+    elim c.if-limits-gt0.branch [
+      | then-limits-gt0 w ↦ subst (λ t. HasLifted P s t) (sym w.store-is) w.halve.ensures.lifts
+      | else-limits-gt0 w ↦ lifted_none P s c.if-limits-gt0.store w.store-is
+    ]

@@ -1,4 +1,4 @@
-//! The arms of a variable: for each other open variable the first function whose two open variables they are.
+//! The neighbours of a variable: for each other open variable the first function whose two open variables they are.
 
 ghost use Rattle.std.specs.Prelude.{[], ◌≡◌, ◌<◌, ◌≤◌, length, IfOk, IfSome, MatchOption};
 ghost use Rattle.cfn_incidence.specs.Places.{StandsAt};
@@ -6,8 +6,8 @@ ghost use Rattle.cfn_model.specs.Network.{variable_at};
 ghost use Rattle.cfn_live.specs.Sets.{live_count};
 ghost use Rattle.cfn_store.specs.Rooms.{sets_of};
 ghost use Rattle.cfn_store.specs.Standing.{history};
-ghost use Rattle.cfn_eac.specs.Arms.{AreArms, AreOfFunctions};
-ghost use Rattle.cfn_eac.specs.Gathering.{HasNoArm, IsArmAt, ArePairs, AreMarks, IsClear};
+ghost use Rattle.cfn_eac.specs.Neighbours.{AreNeighbours};
+ghost use Rattle.cfn_eac.specs.Gathering.{HasNoNeighbour, IsNeighbourAt, ArePairs, AreMarks, IsClear};
 
 use cfn_dac::{Opens, Pair, open_places};
 use cfn_incidence::{Incidence, Place};
@@ -16,18 +16,18 @@ use cfn_store::Store;
 use std::alloc::{AllocError, Global};
 use std::marker::Model;
 
-/// Room for the arms of one variable. Contracts see the network, and the arms that were gathered last.
+/// Room for the neighbours of one variable. Contracts see the network, and the neighbours that were gathered last.
 #[derive(Drop)]
-pub struct Arms<'n> {
+pub struct Neighbours<'n> {
     network: &'n Network,
     pairs: Vec<Pair>,
-    /// Which variables are at the other end of an arm, while arms are gathered.
+    /// Which variables are at the other end of a neighbour, while neighbours are gathered.
     met: Vec<bool>,
 }
 
-impl<'n> Model for Arms<'n> {
+impl<'n> Model for Neighbours<'n> {
     ghost use Rattle.std.specs.Prelude.{◌≤◌, length, vec_capacity};
-    ghost use Rattle.cfn_eac.specs.Arms.{Gathered};
+    ghost use Rattle.cfn_eac.specs.Neighbours.{Gathered};
     ghost use Rattle.cfn_eac.specs.Gathering.{IsClear};
 
     ghost Value = { Gathered };
@@ -37,50 +37,32 @@ impl<'n> Model for Arms<'n> {
     ghost invariant = { λ s. (length s.network.now.functions ≤ vec_capacity s.pairs) × IsClear s.network.now s.met.items };
 }
 
-impl<'n> Arms<'n> {
-    /// No arm yet, for stores of a network. An `Err` is want of memory; no other call takes any.
-    pub fn make(alloc: Global, network: &'n Network) -> Result<Arms<'n>, AllocError>
-        ensures { IfOk result (λ arms. arms.network ≡ network.now) }
+impl<'n> Neighbours<'n> {
+    /// No neighbour yet, for stores of a network. An `Err` is want of memory; no other call takes any.
+    pub fn make(alloc: Global, network: &'n Network) -> Result<Neighbours<'n>, AllocError>
+        ensures { IfOk result (λ neighbours. neighbours.network ≡ network.now) }
     {
-        Ok(Arms {
+        Ok(Neighbours {
             network,
             pairs: Vec::with_capacity(alloc, network.functions() as usize)?,
             met: vec![in alloc; false; network.variables() as usize]?,
         })
     }
 
-    /// The arms that were gathered last.
+    /// The neighbours that were gathered last.
     pub fn pairs(&self) -> &[Pair]
         ensures { result.now ≡ self.now.pairs }
     {
         self.pairs.as_slice()
     }
 
-    /// The function of the last arm, where there is one.
-    pub fn last_function(&self) -> Option<u32>
-        requires { AreOfFunctions self.now.network self.now.pairs }
-        ensures { IfSome result (λ f. f < length self.now.network.functions) }
-    {
-        match self.pairs.last() {
-            Some(pair) => Some(pair.function),
-            None => None,
-        }
-    }
-
-    /// Has no arm.
-    pub(crate) fn clear(&mut self)
-        ensures { self.new ≡ record self.old { pairs = [] } }
-    {
-        self.pairs.clear();
-    }
-
-    /// Gathers the arms of a variable: none where it is not open.
+    /// Gathers the neighbours of a variable: none where it is not open.
     pub fn gather(&mut self, store: &Store<'_>, incidence: &Incidence, x: u32)
         requires incidence { incidence.now ≡ self.old.network }
         requires network { store.now.network ≡ self.old.network }
         requires variable { x < length self.old.network.sizes }
         ensures network { self.new.network ≡ self.old.network }
-        ensures arms { AreArms self.new.network (history store.now) x self.new.pairs }
+        ensures neighbours { AreNeighbours self.new.network (history store.now) x self.new.pairs }
     {
         if store.count(x) < 2 {
             self.pairs.clear();
@@ -89,20 +71,20 @@ impl<'n> Arms<'n> {
         }
     }
 
-    /// Gathers the arms of an open variable from all its places.
+    /// Gathers the neighbours of an open variable from all its places.
     fn gather_open(&mut self, store: &Store<'_>, incidence: &Incidence, x: u32)
         requires incidence { incidence.now ≡ self.old.network }
         requires network { store.now.network ≡ self.old.network }
         requires variable { x < length self.old.network.sizes }
         requires open { 2 ≤ live_count (sets_of store.now) x }
         ensures network { self.new.network ≡ self.old.network }
-        ensures arms { AreArms self.new.network (history store.now) x self.new.pairs }
+        ensures neighbours { AreNeighbours self.new.network (history store.now) x self.new.pairs }
     {
         let network = self.network;
         network.law_limits();
         self.pairs.clear();
         for place in incidence.places(x) {
-            if let Some(pair) = arm_at(store, *place, x) {
+            if let Some(pair) = neighbour_at(store, *place, x) {
                 let y = network.scope(pair.function)[pair.other as usize] as usize;
                 if !self.met[y] {
                     self.met[y] = true;
@@ -115,14 +97,14 @@ impl<'n> Arms<'n> {
 }
 
 /// The open pair of a place's function with that place first, at which the open variable `x` stands, where there is one.
-fn arm_at(store: &Store<'_>, place: Place, x: u32) -> Option<Pair>
+fn neighbour_at(store: &Store<'_>, place: Place, x: u32) -> Option<Pair>
     requires stands { StandsAt store.now.network x place }
     requires open { 2 ≤ live_count (sets_of store.now) x }
-    ensures { MatchOption result (HasNoArm store.now.network (history store.now) place) (IsArmAt store.now.network (history store.now) place) }
+    ensures { MatchOption result (HasNoNeighbour store.now.network (history store.now) place) (IsNeighbourAt store.now.network (history store.now) place) }
 {
     store.network().law_limits();
     if place.other == x {
-        wide_arm_at(store, place)
+        wide_neighbour_at(store, place)
     } else if store.count(place.other) < 2 {
         None
     } else {
@@ -131,9 +113,9 @@ fn arm_at(store: &Store<'_>, place: Place, x: u32) -> Option<Pair>
 }
 
 /// The open pair of a place's function with that place first, where there is one, for any number of variables.
-pub(crate) fn wide_arm_at(store: &Store<'_>, place: Place) -> Option<Pair>
+pub(crate) fn wide_neighbour_at(store: &Store<'_>, place: Place) -> Option<Pair>
     requires { StandsAt store.now.network (variable_at store.now.network place.function place.place) place }
-    ensures { MatchOption result (HasNoArm store.now.network (history store.now) place) (IsArmAt store.now.network (history store.now) place) }
+    ensures { MatchOption result (HasNoNeighbour store.now.network (history store.now) place) (IsNeighbourAt store.now.network (history store.now) place) }
 {
     match open_places(store, place.function) {
         Opens::Few => None,
@@ -161,7 +143,7 @@ fn pair_of(place: Place, other: u32) -> Pair
     }
 }
 
-/// Takes the marks of the variables at the other ends of arms away.
+/// Takes the marks of the variables at the other ends of neighbours away.
 fn unmark(network: &Network, pairs: &[Pair], met: &mut [bool])
     requires pairs { ArePairs network.now pairs.now }
     requires marks { AreMarks network.now met.old pairs.now 0 }

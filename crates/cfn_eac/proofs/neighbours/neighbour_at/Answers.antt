@@ -4,9 +4,9 @@ use Rattle.cfn_model.specs.Network.{variable_at}
 use Rattle.cfn_consistency.specs.Openness.{is_open}
 use Rattle.cfn_store.specs.Standing.{history}
 use Rattle.cfn_incidence.proofs.CallerLemmas.{two_there}
-use Rattle.cfn_eac.specs.Gathering.{IsArmAt}
+use Rattle.cfn_eac.specs.Gathering.{IsNeighbourAt}
 use Rattle.cfn_eac.proofs.Beside.{both_open, other_closed}
-use Rattle.cfn_eac.proofs.arms.arm_at.Goals as goal
+use Rattle.cfn_eac.proofs.neighbours.neighbour_at.Goals as goal
 
 pub returns-then-count-lt2 : goal.returns-then-count-lt2
 returns-then-count-lt2 c = λ j pair.
@@ -19,5 +19,5 @@ returns-then-count-lt2 c = λ j pair.
 pub returns-else-count-lt2 : goal.returns-else-count-lt2
 returns-else-count-lt2 c =
     let s = c.args.store.now in let p = c.args.place in let many = c.if-count-lt2.false in
-    subst (IsArmAt s.network (history s) p) (sym c.pair_of.ensures)
+    subst (IsNeighbourAt s.network (history s) p) (sym c.pair_of.ensures)
     (record { function = refl; place = refl; both = both_open s c.args.x c.count.result p c.requires.stands c.if-place-x.false c.requires.open c.count.ensures (omega (arith, many)) })

@@ -2,7 +2,7 @@ use Rattle.std.proofs.Common.{◌≡◌, ◌≤◌, length}
 use Rattle.std.specs.Prelude.{vec_capacity}
 use Rattle.cfn_store.specs.Standing.{history}
 use Rattle.cfn_eac.specs.Gathering.{AreGathered, AreMarks, AreMarked}
-use Rattle.cfn_eac.proofs.arms.Arms.gather_open.Given as goal
+use Rattle.cfn_eac.proofs.neighbours.Neighbours.gather_open.Given as goal
 
 abbrev pub invariant-loop-place : goal.invariant-loop-place
 invariant-loop-place l = record {

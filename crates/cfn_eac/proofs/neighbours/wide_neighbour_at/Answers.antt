@@ -1,5 +1,5 @@
 use Rattle.cfn_eac.proofs.Gather.{not_few, not_here}
-use Rattle.cfn_eac.proofs.arms.wide_arm_at.Goals as goal
+use Rattle.cfn_eac.proofs.neighbours.wide_neighbour_at.Goals as goal
 
 pub returns-in-Few : goal.returns-in-Few
 returns-in-Few c = λ j pair. not_few _ _ _ _ j c.in-Few.ensures pair
