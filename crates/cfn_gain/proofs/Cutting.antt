@@ -1,5 +1,5 @@
 -- The pass of cuts.
-use Rattle.std.proofs.Common.{◌⊎◌, ◌≡◌, ℕ, zero, suc, ◌+◌, ◌-◌, ◌<◌, ◌≤◌, inl, inr, List, [], ◌∷◌, ◌++◌, length, length-append, refl, sym, ap, ◌∙◌, subst, arith}
+use Rattle.std.proofs.Common.{◌⊎◌, ◌≡◌, ℕ, ◌+◌, ◌<◌, ◌≤◌, inl, inr, List, [], ◌∷◌, length, length-append, refl, sym, ap, ◌∙◌, subst, arith}
 use Rattle.std.proofs.lemmas.Bool.{cases_eq}
 use Rattle.std.proofs.lemmas.Int.{ints}
 use Rattle.std.specs.Prelude.{ℤ, pos, ◌+ℤ◌, ◌≤ℤ◌, ◌<ℤ◌, ◌==◌, ◌&&◌, not, Bool, true, false, IsTrue, slice_index}
@@ -8,12 +8,11 @@ use Rattle.cfn_model.specs.declared.step.Event.{Event}
 use Rattle.cfn_model.specs.declared.step.Event.TheVariants.{Did}
 use Rattle.cfn_model.specs.Network.{Network}
 use Rattle.cfn_model.specs.Sums.{floor, unary, is_live}
-use Rattle.cfn_model.specs.Steps.{IsValue, Allowed}
+use Rattle.cfn_model.specs.Steps.{IsValue}
 use Rattle.cfn_model.proofs.CallerLemmas.{eqb_same, eqb_other, fewer}
 use Rattle.cfn_consistency.specs.Consistency.{IsDead, IsFree, IsNodeConsistent}
 use Rattle.cfn_store.specs.Standing.{Standing, history, with_step}
-use Rattle.cfn_gain.specs.Settling.{AddsSteps}
-use Rattle.cfn_gain.specs.Passes.{HasLive, HasRoom, IsLifting, IsEarlier, IsCutting}
+use Rattle.cfn_gain.specs.Passes.{IsLifting, IsEarlier, IsCutting}
 use Rattle.cfn_gain.proofs.Stepping.{history_step, adds_step}
 use Rattle.cfn_gain.proofs.Lifting.{not_dead}
 

@@ -1,17 +1,17 @@
 -- The pass of lifts.
-use Rattle.std.proofs.Common.{◌≡◌, ℕ, zero, suc, ◌+◌, ◌-◌, ◌<◌, ◌≤◌, inl, inr, List, [], ◌∷◌, ◌++◌, length, length-append, refl, sym, ap, ◌∙◌, subst, arith}
+use Rattle.std.proofs.Common.{◌≡◌, ℕ, ◌+◌, ◌<◌, ◌≤◌, inl, inr, List, [], ◌∷◌, length, length-append, refl, sym, ap, subst, arith}
 use Rattle.std.proofs.lemmas.Bool.{cases_eq}
 use Rattle.std.proofs.lemmas.Int.{ints}
-use Rattle.std.specs.Prelude.{ℤ, pos, ◌+ℤ◌, neg_ℤ, ◌≤ℤ◌, ◌==◌, Bool, true, false, IsTrue, slice_index}
+use Rattle.std.specs.Prelude.{ℤ, pos, neg_ℤ, ◌≤ℤ◌, ◌==◌, Bool, true, false}
 use Rattle.cfn_model.specs.declared.step.Step.TheVariants.{Lift}
 use Rattle.cfn_model.specs.declared.step.Event.{Event}
 use Rattle.cfn_model.specs.declared.step.Event.TheVariants.{Did}
 use Rattle.cfn_model.specs.Network.{Network}
-use Rattle.cfn_model.specs.Sums.{when, floor, unary, is_live}
-use Rattle.cfn_model.specs.Steps.{IsValue, CanLift, Allowed}
+use Rattle.cfn_model.specs.Sums.{floor, unary, is_live}
+use Rattle.cfn_model.specs.Steps.{CanLift, Allowed}
 use Rattle.cfn_model.proofs.CallerLemmas.{when_true, when_false, eqb_same, eqb_other}
 use Rattle.cfn_consistency.specs.Consistency.{IsDead, IsFree, IsNodeConsistent}
-use Rattle.cfn_store.specs.Standing.{Standing, history, with_step, FitsLift}
+use Rattle.cfn_store.specs.Standing.{Standing, history, with_step}
 use Rattle.cfn_gain.specs.Settling.{AddsSteps}
 use Rattle.cfn_gain.specs.Passes.{HasLive, IsLeast, HasRoom, IsLifting}
 use Rattle.cfn_gain.proofs.Stepping.{history_step, adds_step}

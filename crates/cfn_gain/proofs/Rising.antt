@@ -1,7 +1,7 @@
 -- By how much the floor rises where a variable is made level.
-use Rattle.std.proofs.Common.{◌≡◌, ℕ, ◌+◌, ◌-◌, ◌≤◌, min, inl, inr, List, [], ◌∷◌, ◌++◌, map, refl, sym, ap, ◌∙◌, subst, arith}
+use Rattle.std.proofs.Common.{◌≡◌, ℕ, ◌+◌, ◌-◌, ◌≤◌, min, inl, inr, List, [], ◌∷◌, ◌++◌, map, refl, ap, ◌∙◌, arith}
 use Rattle.std.proofs.lemmas.Int.{ints}
-use Rattle.std.specs.Prelude.{Result, Ok, Err}
+use Rattle.std.specs.Prelude.{Result}
 use Rattle.cfn_model.specs.declared.step.Step.{Step}
 use Rattle.cfn_model.specs.declared.step.Step.TheVariants.{Lift, CutValue}
 use Rattle.cfn_model.specs.declared.step.Event.{Event}
@@ -12,16 +12,17 @@ use Rattle.cfn_model.specs.Steps.{after}
 use Rattle.cfn_store.specs.Standing.{Standing, history}
 use Rattle.cfn_gain.specs.declared.limits.Limits.{Limits}
 use Rattle.cfn_gain.specs.declared.limits.Halt.{Halt}
-use Rattle.cfn_gain.specs.declared.limits.Halt.TheVariants.{Dead, Spent}
-use Rattle.cfn_gain.specs.Calls.{Adds}
 use Rattle.cfn_gain.specs.Passes.{IsLeast}
 use Rattle.cfn_gain.specs.Levels.{AreAllAtLeast, RisesBy, AddsCuts, AddsLift, LiftsFirst}
 use Rattle.cfn_gain.proofs.Stepping.{after_append}
 
 -- cuts of values leave the floor
+none_more : (n : ℕ) → 0 + n ≡ n
+none_more n = omega arith
+
 floor_cuts : (P : Network) (h : List Event) (x : ℕ) (values : List ℕ) → floor P (after (map (CutValue x) values) h) ≡ floor P h
 floor_cuts P h x [] = refl
-floor_cuts P h x (a ∷ values) = floor_cuts P (Did (CutValue x a) ∷ h) x values
+floor_cuts P h x (a ∷ values) = floor_cuts P (Did (CutValue x a) ∷ h) x values ∙ none_more (floor P h)
 
 -- the history behind more steps
 behind : (before now : Standing) (steps : List Step) → now.base ≡ before.base → now.block ≡ before.block ++ steps → history now ≡ after steps (history before)

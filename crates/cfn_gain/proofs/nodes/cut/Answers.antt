@@ -1,9 +1,7 @@
-use Rattle.std.proofs.Common.{◌≡◌, ℕ, ◌+◌, ◌-◌, ◌<◌, ◌≤◌, length, sym, ◌∙◌, ap, subst, arith}
+use Rattle.std.proofs.Common.{◌≡◌, ◌+◌, ◌-◌, length, sym, ◌∙◌, ap, subst, arith}
 use Rattle.std.specs.Prelude.{slice_index, IsTrue, pos, ◌<ℤ◌}
 use Rattle.cfn_model.specs.Sums.{unary, is_live}
-use Rattle.cfn_model.specs.Steps.{IsValue}
-use Rattle.cfn_store.specs.Standing.{Standing, history}
-use Rattle.cfn_gain.specs.Settling.{AddsSteps}
+use Rattle.cfn_store.specs.Standing.{history}
 use Rattle.cfn_gain.specs.Passes.{IsCutting}
 use Rattle.cfn_gain.proofs.Cutting.{keep, cut_one, cut_due, next_variable, all_cut, value_is, word_reaches, word_less, dead_costs_nothing}
 use Rattle.cfn_gain.proofs.nodes.cut.Goals.{then-is_live+then-unary-lacks+else-is_full, else-is_live, else-is_live-via-then-is_live+else-unary-lacks, else-is_live-via-else-is_live}

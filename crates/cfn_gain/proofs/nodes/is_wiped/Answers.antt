@@ -1,4 +1,4 @@
-use Rattle.std.proofs.Common.{◌≡◌, zero, suc, ◌<◌, false, nat_eq, length, inl, inr, sym, ◌∙◌, subst, arith}
+use Rattle.std.proofs.Common.{inl, inr, sym, subst, arith}
 use Rattle.std.proofs.lemmas.Bool.{cases_eq}
 use Rattle.cfn_store.specs.Standing.{history}
 use Rattle.cfn_gain.specs.Passes.{HasLive}

@@ -1,8 +1,7 @@
-use Rattle.std.proofs.Common.{◌≡◌, ℕ, ◌+◌, ◌-◌, ◌<◌, ◌≤◌, length, min, refl, sym, ◌∙◌, ap, subst, arith}
+use Rattle.std.proofs.Common.{◌≡◌, ◌+◌, ◌-◌, ◌<◌, length, sym, ◌∙◌, ap, subst, arith}
 use Rattle.cfn_model.specs.declared.step.Step.TheVariants.{Lift}
-use Rattle.cfn_model.specs.Sums.{floor}
 use Rattle.cfn_consistency.specs.Consistency.{IsDead}
-use Rattle.cfn_store.specs.Standing.{Standing, history, with_step}
+use Rattle.cfn_store.specs.Standing.{history, with_step}
 use Rattle.cfn_gain.specs.Settling.{AddsSteps}
 use Rattle.cfn_gain.specs.Passes.{IsLeast, IsLifting}
 use Rattle.cfn_gain.proofs.Lifting.{lift_none, lift_some, lift_due, lift_to_threshold, adds_lift}
