@@ -5,3 +5,4 @@ pub mod Counting
 pub mod Seconds
 pub mod Least
 pub mod Halving
+pub mod Blaming

@@ -1,23 +1,19 @@
-use Rattle.std.proofs.Common.{rules, ◌≡◌, ◌<◌, ℕ, length, replicate, slice_index, IfOk, MatchOption, ◌+◌, ◌-◌, ◌*◌, ◌≤◌, ◌/◌, ◌%◌, Bool, true, false, nat_eq, nat_lt, List, [], ◌∷◌, ◌++◌, slice_index_or, slice_set, bit_and, bit_or, Fits, w8, w32, w64, Bor, MutBor}
-use Rattle.cfn_branch.specs.Weighing.{IsWeight, Projects, NoneProjects, IsNewestProject, Blames, blamed}
+use Rattle.std.proofs.Common.{◌-◌, arith}
+use Rattle.cfn_branch.proofs.Blaming.{none_behind, none_more, newest}
 use Rattle.cfn_branch.proofs.weights.newest_project.Goals as goal
 
--- src/weights.rt:78:5
 pub loop-i-init : goal.loop-i-init
-loop-i-init c = ?
+loop-i-init c = record { within = (let is = c.block_len-i.ensures in omega (arith, is)); none = none_behind c.args.store.now.block c.block_len-i.result c.block_len-i.ensures }
 
--- src/weights.rt:80:35
-pub step-requires : goal.step-requires
-step-requires c = ?
-
--- src/weights.rt:81:13
 pub returns-in-Some : goal.returns-in-Some
-returns-in-Some c = ?
+returns-in-Some c =
+    let some = c.loop-i-test.true in let within = c.loop-i.invariant.within in
+    newest c.args.store.now.block c.loop-i.i (c.loop-i.i - 1) c.in-Some.f c.step.result (omega (arith, some)) (omega (arith, some, within)) c.step.ensures c.in-Some.ensures c.loop-i.invariant.none
 
--- src/weights.rt:78:5
 pub loop-i-preserved : goal.loop-i-preserved
-loop-i-preserved c = ?
-
--- src/weights.rt:74:1
-pub returns : goal.returns
-returns c = ?
+loop-i-preserved c =
+    let some = c.loop-i-test.true in let within = c.loop-i.invariant.within in
+    record {
+      within = omega (arith, within);
+      none = none_more c.args.store.now.block c.loop-i.i (c.loop-i.i - 1) c.step.result (omega (arith, some)) (omega (arith, some, within)) c.step.ensures c.in_default.ensures c.loop-i.invariant.none;
+    }
