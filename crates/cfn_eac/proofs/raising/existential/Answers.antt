@@ -4,6 +4,7 @@ use Rattle.cfn_store.specs.Standing.{history}
 use Rattle.cfn_gain.proofs.CallerLemmas.{on_ok, gained_none}
 use Rattle.cfn_due.specs.Resting.{AreSure}
 use Rattle.cfn_eac.specs.Neighbours.{AreNeighbours}
+use Rattle.cfn_eac.specs.Owing.{IsAsked}
 use Rattle.cfn_eac.proofs.Existing.{existential_of}
 use Rattle.cfn_eac.proofs.raising.existential.Goals as goal
 
@@ -54,6 +55,6 @@ returns-in-Some-ask-clause-raises c =
       pairs = c.pairs-in-Some-ask.result.now;
       neighbours = subst (AreNeighbours P h c.args.x) (sym c.pairs-in-Some-ask.ensures) neighbours;
       amount = c.in-Some-ask.alpha;
-      asked = ?;
+      asked = subst (λ l. IsAsked P h c.args.limits.threshold c.args.x l c.in-Some-ask.alpha) (c.pairs-2.ensures ∙ sym c.pairs-in-Some-ask.ensures) c.in-Some-ask.ensures;
       rise = c.raise.ensures.rises;
     })
