@@ -414,10 +414,10 @@ all_reach before now x pairs alpha n net are all exact v some = record {
       | inl less ↦
           comes_least P (history now) pairs a (length pairs) alpha (unary P (history now) x a)
           (λ k h.
-              (let neighbour = are.each k h in
-              v.full k (omega (arith, h, all)) a (place_at P (pair_at pairs k) x a neighbour.both.active.function neighbour.both.one.0 neighbour.at value)
-              (subst (λ y. IsTrue (is_live (history now) y a)) (sym neighbour.at) live)
-              (subst (λ y. unary P (history now) y a <ℤ pos alpha) (sym neighbour.at) (less_than alpha u (unary P (history now) x a) e less))))
+          (let neighbour = are.each k h in
+          v.full k (omega (arith, h, all)) a (place_at P (pair_at pairs k) x a neighbour.both.active.function neighbour.both.one.0 neighbour.at value)
+          (subst (λ y. IsTrue (is_live (history now) y a)) (sym neighbour.at) live)
+          (subst (λ y. unary P (history now) y a <ℤ pos alpha) (sym neighbour.at) (less_than alpha u (unary P (history now) x a) e less))))
           (v.come a value live)
       | inr r ↦ (elim r [
         | inl same ↦ at_least alpha u (unary P (history now) x a) e (omega (arith, same))

@@ -8,14 +8,19 @@ ghost use Rattle.cfn_store.specs.Standing.{history};
 ghost use Rattle.cfn_eac.specs.Neighbours.{AreNeighbours};
 ghost use Rattle.cfn_eac.specs.Asking.{IsCheapest, IsCheapestBy};
 
-use crate::neighbours::Neighbours;
 use crate::asking::asked;
+use crate::neighbours::Neighbours;
 use cfn_dac::Pair;
 use cfn_incidence::Incidence;
 use cfn_store::Store;
 
 /// Of the live values of a variable that has some, the one that asks least, and of those the least. It takes no memory.
-pub fn cheapest(neighbours: &mut Neighbours<'_>, store: &Store<'_>, incidence: &Incidence, x: u32) -> u32
+pub fn cheapest(
+    neighbours: &mut Neighbours<'_>,
+    store: &Store<'_>,
+    incidence: &Incidence,
+    x: u32,
+) -> u32
     requires incidence { incidence.now ≡ neighbours.old.network }
     requires network { store.now.network ≡ neighbours.old.network }
     requires variable { x < length neighbours.old.network.sizes }

@@ -8,12 +8,12 @@
 //! - `choosing.rt`: the value that asks least.
 #![tactic(auto)]
 
-mod neighbours;
 mod asking;
 mod choosing;
+mod neighbours;
 mod raising;
 mod resting;
 
-pub use neighbours::Neighbours;
 pub use choosing::cheapest;
+pub use neighbours::Neighbours;
 pub use raising::existential;

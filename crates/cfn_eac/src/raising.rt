@@ -16,8 +16,8 @@ ghost use Rattle.cfn_eac.specs.Owing.{IsAsked, RaisesUnlessExistential};
 ghost use Rattle.cfn_gain.specs.Levels.{RisesBy};
 ghost use Rattle.cfn_gain.specs.Passes.{HasLive};
 
-use crate::neighbours::Neighbours;
 use crate::asking::asked;
+use crate::neighbours::Neighbours;
 use crate::resting::is_at_rest;
 use cfn_dac::{Pair, full_supports};
 use cfn_due::{Due, Rests};

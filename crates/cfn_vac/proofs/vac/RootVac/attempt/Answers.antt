@@ -3,7 +3,7 @@ use Rattle.cfn_model.specs.Network.{Network}
 use Rattle.cfn_model.specs.Steps.{after}
 use Rattle.cfn_store.specs.Standing.{history}
 use Rattle.cfn_derivation.specs.Watched.{IsWatched}
-use Rattle.cfn_vac.specs.Roots.{Root}
+use Rattle.cfn_vac.specs.Roots.{EndsWith, Root}
 use Rattle.cfn_derivation.specs.Banned.{bans_of}
 use Rattle.cfn_vac.proofs.Lifted.{lifted_once}
 use Rattle.cfn_vac.proofs.Roots.{ready_then, watched_same, before_adds}
@@ -26,4 +26,5 @@ returns-in-Ok-Lifted-clause-watch c =
 
 pub returns-in-Ok-Lifted-clause-lifts : goal.returns-in-Ok-Lifted-clause-lifts
 returns-in-Ok-Lifted-clause-lifts c =
-    lifted_once c.args.self.now.network c.args.q (bans_of c.args.self.now.bans) c.args.limits c.args.store.now c.lift_once.new.store c.lift_once.new.self.watch.deletions c.in-Ok-Lifted.ensures.ends
+    lifted_once c.args.self.now.network c.args.q (bans_of c.args.self.now.bans) c.args.limits c.args.store.now c.lift_once.new.store c.lift_once.new.self.watch.deletions
+    (subst (EndsWith c.args.self.now.network c.args.q (bans_of c.args.self.now.bans) c.args.limits c.args.store.now c.lift_once.new.store c.lift_once.new.self.watch.deletions) c.in-Ok-Lifted.field-0-is c.in-Ok-Lifted.ensures.ends)

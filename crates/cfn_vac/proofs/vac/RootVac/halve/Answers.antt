@@ -21,7 +21,7 @@ loop-limits-preserved g c =
       network = c.lower.ensures.network ∙ same;
       some = omega (arith, more);
       adds = adds_then c.args.store.now c.loop-limits.store next c.args.limits v.adds c.raise_at.ensures.adds;
-      lifts = lifted_then c.args.self.now.network c.args.store.now c.loop-limits.store next v.lifts (subst (λ (N : Network). HasLifted N c.loop-limits.store next) v.network c.raise_at.ensures.lifts);
+      lifts = lifted_then c.args.self.now.network c.args.store.now c.loop-limits.store next v.lifts (subst (λ (N : Network). HasLifted N c.loop-limits.store next) (v.network ∙ c.begin.ensures.network) c.raise_at.ensures.lifts);
       ready = subst (λ (N : Network). IsReady N next c.args.limits) v.network c.raise_at.ensures.ready;
       watch = subst (λ (N : Network). IsWatched N (history next) c.lower.new.self.watch (c.loop-limits.q / 2)) same c.lower.ensures.watch;
       none = subst (λ (N : Network). NoneBanned N (bans_of c.lower.new.self.bans)) same c.lower.ensures.none;
@@ -30,9 +30,9 @@ loop-limits-preserved g c =
 pub returns-else-q-gt1-clause-lifts : goal.returns-else-q-gt1-clause-lifts
 returns-else-q-gt1-clause-lifts g c =
     let v = c.loop-limits.invariant in
-    lifted_then c.args.self.now.network c.args.store.now c.loop-limits.store c.raise_at.new.store v.lifts (subst (λ (N : Network). HasLifted N c.loop-limits.store c.raise_at.new.store) v.network c.raise_at.ensures.lifts)
+    lifted_then c.args.self.now.network c.args.store.now c.loop-limits.store c.raise_at.new.store v.lifts (subst (λ (N : Network). HasLifted N c.loop-limits.store c.raise_at.new.store) (v.network ∙ c.begin.ensures.network) c.raise_at.ensures.lifts)
 
 pub returns-after-loop-limits-clause-lifts : goal.returns-after-loop-limits-clause-lifts
 returns-after-loop-limits-clause-lifts g c =
     let v = c.loop-limits.invariant in
-    lifted_then c.args.self.now.network c.args.store.now c.loop-limits.store c.raise_at.new.store v.lifts (subst (λ (N : Network). HasLifted N c.loop-limits.store c.raise_at.new.store) v.network c.raise_at.ensures.lifts)
+    lifted_then c.args.self.now.network c.args.store.now c.loop-limits.store c.raise_at.new.store v.lifts (subst (λ (N : Network). HasLifted N c.loop-limits.store c.raise_at.new.store) (v.network ∙ c.begin.ensures.network) c.raise_at.ensures.lifts)

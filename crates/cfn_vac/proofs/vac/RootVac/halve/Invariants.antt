@@ -11,7 +11,7 @@ invariant-loop-limits g l = record {
   network : l.self.network ≡ l.initial.self.network;
   some : 0 < l.q;
   adds : Adds l.initial.store l.store l.limits;
-  lifts : HasLifted l.initial.self.network l.initial.store l.store;
+  lifts : HasLifted l.fn.self.network l.fn.store l.store;
   ready : IsReady l.initial.self.network l.store l.limits;
   watch : IsWatched l.initial.self.network (history l.store) l.self.watch l.q;
   none : NoneBanned l.initial.self.network (bans_of l.self.bans);
