@@ -8,4 +8,4 @@ pub returns-in-None-clause-known : goal.returns-in-None-clause-known
 returns-in-None-clause-known c =
     let s = c.args.store.now in
     c.doubt_all.ensures.all s.network (history s)
-    (c.self.invariant.4 ∙ ap (λ (r : Revising). length r.network.functions) c.self.view_is ∙ sym (ap (λ (P : Network). length P.functions) c.requires.network))
+    (c.self.invariant.3 ∙ ap (λ (r : Revising). length r.network.functions) c.self.view_is ∙ sym (ap (λ (P : Network). length P.functions) c.requires.network))

@@ -13,4 +13,4 @@ invariant_of-result c =
     let moves = ap (λ made. made.0.0.1) last.one ∙ ap (λ made. made.0.1) third.one ∙ ap (λ made. made.1) second.one in
     let of = second_of _ _ (λ made. made.network ≡ c.args.network.now) c.make-2.ensures second.other in
     let long = second_of _ _ (λ made. length made.items ≡ MOST_VALUES) c.room_for_moves.ensures first.other in
-    (ap (λ made. made.network) neighbours ∙ of, ap (λ made. length made.items) moves ∙ long, tt, grind (arith, first, second, third, last), grind (arith, first, second, third, last))
+    (ap (λ made. made.network) neighbours ∙ of, ap (λ made. length made.items) moves ∙ long, grind (arith, first, second, third, last), grind (arith, first, second, third, last))
