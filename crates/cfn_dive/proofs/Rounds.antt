@@ -11,7 +11,7 @@ use Rattle.cfn_gain.specs.declared.settling.Settling.{Settling}
 use Rattle.cfn_gain.specs.declared.settling.Settling.TheVariants.{Settled, Dead, Spent}
 use Rattle.cfn_gain.specs.Gains.{IsOpen}
 use Rattle.cfn_gain.proofs.CallerLemmas.{opened}
-use Rattle.cfn_dive.specs.Enforcing.{GoesOn, Groups, IsAtPlace, IsRound, AreRounds}
+use Rattle.cfn_dive.specs.Enforcing.{GoesOn, Finds, Groups, IsAtPlace, AreRounds}
 use Rattle.cfn_proof.proofs.CallerLemmas.{after_append, run_append}
 
 pub goes_still : (s t : Standing) (k : ℕ) → t.network ≡ s.network → t.base ≡ s.base → t.block ≡ s.block → GoesOn s t k
@@ -55,3 +55,8 @@ rounds_at P zero before now next rounds at = record { network = at.network ∙ r
 rounds_at P (suc n) before now next rounds at =
     let last = rounds.2 in
     (rounds.0, rounds.1, record { start = last.start; at = last.at; lifted = last.lifted; lifts = last.lifts; groups = open_at last.lifted now next last.groups at })
+
+pub finds_at : (s t : Standing) (k : ℕ) (found : Settling) → IsAtPlace s t → Finds s.network (history s) k found → Finds t.network (history t) k found
+finds_at s t k found at finds =
+    let way : history t ≡ history s = ap (λ b. after b t.base) at.block ∙ ap (after s.block) at.base in
+    subst (λ P. Finds P (history t) k found) (sym at.network) (subst (λ h. Finds s.network h k found) (sym way) finds)
