@@ -18,4 +18,4 @@ mod walk;
 pub use certificate::{put_best, put_network, write};
 pub use nodes::{put_end, put_steps};
 pub use second::upgrade;
-pub use walk::{next_node, put_tree};
+pub use walk::next_node;

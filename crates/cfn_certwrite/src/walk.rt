@@ -13,7 +13,7 @@ use cfn_desk::{Desk, Failed};
 use cfn_proof::{End, NodeId, Tree};
 
 /// Puts the lines of a tree. It takes no memory. An `Err` is a put that failed behind some front of them.
-pub fn put_tree<D: Desk>(tree: &Tree, desk: &mut D) -> Result<(), Failed>
+pub(crate) fn put_tree<D: Desk>(tree: &Tree, desk: &mut D) -> Result<(), Failed>
     requires { IsWriting (D.outside desk.old).calls }
     ensures { Appends File (D.outside desk.old)
         (text (tree_lines (tree_of tree.now))) result (D.outside desk.new) }

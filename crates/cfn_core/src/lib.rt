@@ -23,4 +23,4 @@ mod world;
 
 pub use action::{Action, Reply};
 pub use cfn_task::{Piece, Task};
-pub use world::{RunMemory, World};
+pub use world::World;

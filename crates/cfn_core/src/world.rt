@@ -1,10 +1,10 @@
 //! The machine that runs.
 
-ghost use Rattle.std.specs.Prelude.{◌≡◌, ◌<◌, ◌≤◌, List, length, map, take, All, IfOk, IfErr, OnOk, OnErr};
+ghost use Rattle.std.specs.Prelude.{◌≡◌, ◌≤◌, [], length, map, take, vec_capacity, All, IfOk, OnOk, OnErr};
 ghost use Rattle.std.specs.List.{AllByRecursion};
 ghost use Rattle.cfn_model.specs.declared.limits.TheConstants.{GREATEST};
 ghost use Rattle.cfn_core.specs.World.{opening};
-ghost use Rattle.cfn_core.specs.Actions.{Acts, Runs, TakesMemory, TakesMemoryAt, Reply as Answer};
+ghost use Rattle.cfn_core.specs.Actions.{Acts, Runs, TakesMemory, TakesMemoryAt};
 ghost use Rattle.cfn_core.specs.Laws.{Always, AreKept, AreOut, IsKept, IsNoRecall};
 ghost use Rattle.cfn_core.specs.Machine.{IsOf, IsReplyOf, action_of, reply_of, world_of};
 
@@ -37,12 +37,6 @@ pub struct World<'n> {
     pub(crate) notes: Vec<Option<u64>>,
     /// The tasks in hand, the newest last.
     pub(crate) hands: Vec<Hand>,
-}
-
-/// Want of memory in a list of actions: only the first `done` were done.
-#[derive(Clone, Copy)]
-pub struct RunMemory {
-    pub done: u64,
 }
 
 impl<'n> Model for World<'n> {
@@ -131,38 +125,29 @@ impl<'n> World<'n> {
         reply
     }
 
-    /// Does actions one after another, and answers each. What they bring is of the world's network. After an `Err`, want of
-    /// memory, the world is that after the first `done` of them, and where some are done the next is one that takes memory.
-    pub fn run(&mut self, actions: &[Action]) -> Result<Vec<Reply>, RunMemory>
-        requires { All (IsOf self.old.network) actions.now }
+    /// Does actions one after another, and puts the answer of each into `replies`, which is empty and has room for them. What they
+    /// bring is of the world's network. An `Err` is want of memory: as many are done as there are answers, and the next is one that
+    /// takes memory.
+    pub fn run(&mut self, actions: &[Action], replies: &mut Vec<Reply>) -> Result<(), AllocError>
+        requires of { All (IsOf self.old.network) actions.now }
+        requires none { replies.old.items ≡ [] }
+        requires room { length actions.now ≤ vec_capacity replies.old }
         ensures network { self.new.network ≡ self.old.network }
-        ensures runs { IfOk result (λ replies. Runs self.old.network (world_of self.old) (map action_of actions.now) (map reply_of replies.items) (world_of self.new)) }
-        ensures of { IfOk result (λ replies. AllByRecursion (IsReplyOf self.old.network) replies.items) }
-        ensures memory { IfErr result (λ memory. (memory.done < length actions.now)
-            × ((replies : List Answer) × Runs self.old.network (world_of self.old) (map action_of (take memory.done actions.now)) replies (world_of self.new))) }
-        ensures taking { IfErr result (λ memory. 0 < memory.done → TakesMemoryAt (map action_of actions.now) memory.done) }
+        ensures runs { Runs self.old.network (world_of self.old) (map action_of (take (length replies.new.items) actions.now)) (map reply_of replies.new.items) (world_of self.new) }
+        ensures of { AllByRecursion (IsReplyOf self.old.network) replies.new.items }
+        ensures all { OnOk result (length replies.new.items ≡ length actions.now) }
+        ensures memory { OnErr result (TakesMemoryAt (map action_of actions.now) (length replies.new.items)) }
         ensures always { Always self.new.network (world_of self.new) }
-        ensures never_gone { IfOk result (λ replies. AreOut (world_of self.old) → AllByRecursion IsNoRecall (map action_of actions.now)
-            → AreKept self.old.network (world_of self.old) (map action_of actions.now) (map reply_of replies.items)) }
+        ensures never_gone { OnOk result (AreOut (world_of self.old) → AllByRecursion IsNoRecall (map action_of actions.now)
+            → AreKept self.old.network (world_of self.old) (map action_of actions.now) (map reply_of replies.new.items)) }
         ensures stays_out { OnOk result (AreOut (world_of self.old) → AllByRecursion IsNoRecall (map action_of actions.now) → AreOut (world_of self.new)) }
     {
         self.law_kept();
-        let mut replies = Vec::new(self.alloc());
-        if replies.reserve(actions.len()).is_err() {
-            return Err(RunMemory { done: 0 });
+        for action in actions {
+            let reply = self.step(action)?;
+            replies.push_reserved(reply);
         }
-        for (done, action) in actions.iter().enumerate() {
-            match self.step(action) {
-                Ok(reply) => replies.push_reserved(reply),
-                Err(_) => return Err(RunMemory { done: done as u64 }),
-            }
-        }
-        Ok(replies)
-    }
-
-    /// The allocator that the world was made with.
-    fn alloc(&self) -> Global {
-        *self.notes.allocator()
+        Ok(())
     }
 
     /// Does one action, each by the call that is its own.

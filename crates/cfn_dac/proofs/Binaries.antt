@@ -4,12 +4,12 @@ use Rattle.std.specs.Prelude.{List, slice_index, IsTrue}
 use Rattle.cfn_model.specs.declared.step.Event.{Event}
 use Rattle.cfn_model.specs.Network.{Network, IsNetwork}
 use Rattle.cfn_model.specs.Sums.{is_live}
-use Rattle.cfn_store.specs.declared.line.Line.{Line}
-use Rattle.cfn_store.specs.Lines.{IsLine}
+use Rattle.cfn_scan.specs.declared.line.Line.{Line}
+use Rattle.cfn_scan.specs.Lines.{IsLine}
 use Rattle.cfn_live.specs.Sets.{AreLive}
 use Rattle.cfn_store.specs.Rooms.{sets_of}
 use Rattle.cfn_store.specs.Standing.{Standing, history}
-use Rattle.cfn_store.proofs.CallerLemmas.{tuple_at}
+use Rattle.cfn_scan.proofs.CallerLemmas.{tuple_at}
 use Rattle.cfn_dac.specs.declared.pair.Pair.{Pair}
 use Rattle.cfn_dac.specs.declared.binary.Binary.{Binary}
 use Rattle.cfn_dac.specs.Full.{IsPair, first_of, second_of}

@@ -6,8 +6,8 @@ use Rattle.cfn_model.specs.declared.step.Step.TheVariants.{Project, Extend, Lift
 use Rattle.cfn_model.specs.declared.step.Event.{Event}
 use Rattle.cfn_model.specs.declared.step.Event.TheVariants.{Did}
 use Rattle.cfn_model.specs.Network.{Network, IsNetwork}
-use Rattle.cfn_store.specs.Exact.{IsExactAlong}
-use Rattle.cfn_store.proofs.CallerLemmas.{tuple_at, exact_now}
+use Rattle.cfn_scan.specs.Exact.{IsExactAlong}
+use Rattle.cfn_scan.proofs.CallerLemmas.{tuple_at, exact_now}
 use Rattle.cfn_dac.specs.Moves.{IsLiveTuple, Trims, KeepsCheap, SomeFrom, AreWithin}
 use Rattle.cfn_dac.proofs.Places.{place_of, second_value, variables_apart}
 use Rattle.cfn_model.specs.Sums.{floor, unary, is_live}

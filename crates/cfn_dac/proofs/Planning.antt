@@ -7,11 +7,11 @@ use Rattle.cfn_model.specs.declared.step.Event.{Event}
 use Rattle.cfn_model.specs.Network.{Network, IsNetwork}
 use Rattle.cfn_model.specs.Sums.{unary, is_live}
 use Rattle.cfn_live.specs.Sets.{AreLive}
-use Rattle.cfn_store.specs.Exact.{IsExactAlong}
-use Rattle.cfn_store.specs.Extremes.{IsPicked, IsPickedBetween}
+use Rattle.cfn_scan.specs.Exact.{IsExactAlong}
+use Rattle.cfn_scan.specs.Extremes.{IsPicked, IsPickedBetween}
 use Rattle.cfn_store.specs.Standing.{Standing, history}
 use Rattle.cfn_store.specs.Rooms.{sets_of}
-use Rattle.cfn_store.proofs.CallerLemmas.{tuple_at, exact_now}
+use Rattle.cfn_scan.proofs.CallerLemmas.{tuple_at, exact_now}
 use Rattle.cfn_dac.specs.declared.pair.Pair.{Pair}
 use Rattle.cfn_dac.specs.Full.{IsPair, AreFullBelow, first_of, second_of, total}
 use Rattle.cfn_dac.specs.Shifts.{AreHeld, AreReached}

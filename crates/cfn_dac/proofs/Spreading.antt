@@ -11,14 +11,14 @@ use Rattle.cfn_model.specs.Sums.{unary, residual, is_live, is_live_tuple}
 use Rattle.cfn_model.specs.Steps.{IsPlace}
 use Rattle.cfn_model.proofs.CallerLemmas.{tuple_fewer}
 use Rattle.cfn_gain.proofs.CallerLemmas.{history_step, passing_adds}
-use Rattle.cfn_store.specs.Exact.{IsExactAlong}
-use Rattle.cfn_store.specs.declared.scan.Extreme.{Extreme}
-use Rattle.cfn_store.specs.Extremes.{IsPicked, NoneBetween, IsLeastBetween}
+use Rattle.cfn_scan.specs.Exact.{IsExactAlong}
+use Rattle.cfn_scan.specs.declared.scan.Extreme.{Extreme}
+use Rattle.cfn_scan.specs.Extremes.{IsPicked, NoneBetween, IsLeastBetween}
 use Rattle.cfn_store.specs.Standing.{Standing, history, with_step, FitsExtend}
-use Rattle.cfn_store.proofs.CallerLemmas.{tuple_at, exact_now, picked_swapped}
+use Rattle.cfn_scan.proofs.CallerLemmas.{tuple_at, exact_now, picked_swapped}
 use Rattle.cfn_gain.specs.declared.limits.Limits.{Limits}
-use Rattle.cfn_store.specs.declared.line.Line.{Line}
-use Rattle.cfn_store.specs.Lines.{IsLine, IsAlong}
+use Rattle.cfn_scan.specs.declared.line.Line.{Line}
+use Rattle.cfn_scan.specs.Lines.{IsLine, IsAlong}
 use Rattle.cfn_gain.specs.Calls.{GoesOn, Does, Passing}
 use Rattle.cfn_dac.specs.declared.pair.Pair.{Pair}
 use Rattle.cfn_dac.specs.Full.{IsPair, first_of, second_of}

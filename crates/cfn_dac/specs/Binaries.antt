@@ -3,10 +3,10 @@ use Rattle.std.specs.Prelude.{◌≡◌, ℕ, List, IfSome}
 use Rattle.cfn_model.specs.declared.step.Event.{Event}
 use Rattle.cfn_model.specs.Network.{Network}
 use Rattle.cfn_model.specs.Steps.{IsValue}
-use Rattle.cfn_store.specs.declared.line.Line.{Line}
-use Rattle.cfn_store.specs.declared.unaries.Unaries.{Unaries}
-use Rattle.cfn_store.specs.Lines.{IsSide, IsAlong}
-use Rattle.cfn_store.specs.Unaries.{AreUnaries}
+use Rattle.cfn_scan.specs.declared.line.Line.{Line}
+use Rattle.cfn_scan.specs.declared.unaries.Unaries.{Unaries}
+use Rattle.cfn_scan.specs.Lines.{IsSide, IsAlong}
+use Rattle.cfn_scan.specs.Unaries.{AreUnaries}
 use Rattle.cfn_store.specs.Standing.{Standing, history}
 use Rattle.cfn_dac.specs.declared.pair.Pair.{Pair}
 use Rattle.cfn_dac.specs.declared.binary.Binary.{Binary}

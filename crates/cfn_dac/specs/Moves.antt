@@ -5,8 +5,8 @@ use Rattle.cfn_model.specs.Network.{Network, Fits, dims_at, cell}
 use Rattle.cfn_model.specs.Sums.{floor, unary, residual, is_live, is_live_tuple}
 use Rattle.cfn_model.specs.Steps.{IsPlace}
 use Rattle.cfn_consistency.specs.Consistency.{HasFullSupport}
-use Rattle.cfn_store.specs.declared.scan.Extreme.{Extreme}
-use Rattle.cfn_store.specs.Extremes.{IsPicked, IsPickedBetween}
+use Rattle.cfn_scan.specs.declared.scan.Extreme.{Extreme}
+use Rattle.cfn_scan.specs.Extremes.{IsPicked, IsPickedBetween}
 use Rattle.cfn_dac.specs.declared.pair.Pair.{Pair}
 use Rattle.cfn_dac.specs.Full.{first_of, total}
 

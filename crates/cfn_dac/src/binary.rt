@@ -10,15 +10,16 @@ ghost use Rattle.cfn_model.specs.Network.{Network};
 ghost use Rattle.cfn_model.specs.Sums.{unary, is_live};
 ghost use Rattle.cfn_model.specs.Steps.{IsPlace};
 ghost use Rattle.cfn_store.specs.Standing.{history};
-ghost use Rattle.cfn_store.specs.Extremes.{NoneBetween, IsLeastBetween};
-ghost use Rattle.cfn_store.specs.Lines.{IsLine};
+ghost use Rattle.cfn_scan.specs.Extremes.{NoneBetween, IsLeastBetween};
+ghost use Rattle.cfn_scan.specs.Lines.{IsLine};
 ghost use Rattle.cfn_dac.specs.declared.pair.Pair.{Pair as PairPlaces};
 ghost use Rattle.cfn_dac.specs.Full.{IsPair, first_of, second_of};
 ghost use Rattle.cfn_dac.specs.Moves.{IsTotalBetween, IsLeastTotal};
 ghost use Rattle.cfn_dac.specs.Binaries.{IsBinary, IsMet};
 
 use crate::pair::Pair;
-use cfn_store::{Extreme, Line, Side, Store, Unaries};
+use cfn_scan::{Extreme, Line, Side, Unaries};
+use cfn_store::Store;
 
 /// A pair's function that has no other variable, looked up once for a loop over the values at the first place.
 #[derive(Drop)]

@@ -12,7 +12,8 @@ ghost use Rattle.cfn_dac.specs.Binaries.{IsView};
 
 use crate::binary::{Binary, least};
 use crate::pair::Pair;
-use cfn_store::{Store, Unaries};
+use cfn_scan::Unaries;
+use cfn_store::Store;
 
 /// What the amounts of all values need, looked up once.
 #[derive(Drop)]

@@ -4,7 +4,7 @@
 ghost use Rattle.std.specs.Prelude.{◌≡◌, ◌+◌, ◌<◌, ◌≤◌, length, slice_index, Err, OnOk};
 ghost use Rattle.cfn_model.specs.Steps.{IsPlace};
 ghost use Rattle.cfn_store.specs.Standing.{history};
-ghost use Rattle.cfn_store.specs.Lines.{IsLine};
+ghost use Rattle.cfn_scan.specs.Lines.{IsLine};
 ghost use Rattle.cfn_gain.specs.Calls.{GoesOn, Does};
 ghost use Rattle.cfn_dac.specs.Full.{IsPair, first_of, second_of};
 ghost use Rattle.cfn_dac.specs.Shifts.{AreHeld};
@@ -14,7 +14,8 @@ ghost use Rattle.cfn_dac.specs.Moves.{Covers, AreWithin, AreForLive, AreLent, Is
 use crate::pair::Pair;
 use crate::trim::trim;
 use cfn_gain::{Halt, Limits, extend};
-use cfn_store::{Extreme, Line, Store};
+use cfn_scan::{Extreme, Line};
+use cfn_store::Store;
 
 /// Gives the function's live tuples the amounts of their first values, where they have them together with the unary costs
 /// of their second values.

@@ -6,10 +6,10 @@ use Rattle.cfn_model.specs.Network.{Function, Network, no_function, scope_at, di
 use Rattle.cfn_model.specs.Steps.{IsPlace}
 use Rattle.cfn_net.proofs.CallerLemmas.{length-dims}
 use Rattle.cfn_rows.specs.Jagged.{row_at}
-use Rattle.cfn_store.specs.Shifts.{offset}
+use Rattle.cfn_scan.specs.Shifts.{offset}
 use Rattle.cfn_store.specs.Sums.{width_of}
 use Rattle.cfn_derivation.specs.Banned.{Banning, flag_at, bans_of, HasFlags, NoneBanned, IsBannedBy}
-use Rattle.cfn_store.proofs.CallerLemmas.{offset_below, offset_apart}
+use Rattle.cfn_scan.proofs.CallerLemmas.{offset_below, offset_apart}
 
 pub slot_below : (s : Banning) (f i a : ℕ) → HasFlags s → IsPlace s.network f i a → offset (dims_at s.network f) i + a < length (row_at s.by f)
 slot_below s f i a has place =

@@ -10,15 +10,15 @@ use Rattle.cfn_model.specs.Steps.{IsPlace, CanProject}
 use Rattle.cfn_net.proofs.CallerLemmas.{get_or-dims}
 use Rattle.cfn_consistency.specs.Virtual.{HasCheapTuple}
 use Rattle.cfn_live.specs.Sets.{AreLive}
-use Rattle.cfn_store.specs.declared.line.Line.{Line}
-use Rattle.cfn_store.specs.declared.scan.Extreme.{Extreme}
-use Rattle.cfn_store.specs.Extremes.{NoneBetween, IsLeastBetween}
-use Rattle.cfn_store.specs.declared.line.Side.{Side}
+use Rattle.cfn_scan.specs.declared.line.Line.{Line}
+use Rattle.cfn_scan.specs.declared.scan.Extreme.{Extreme}
+use Rattle.cfn_scan.specs.Extremes.{NoneBetween, IsLeastBetween}
+use Rattle.cfn_scan.specs.declared.line.Side.{Side}
 use Rattle.cfn_store.specs.Doubts.{IsSeen}
-use Rattle.cfn_store.specs.Lines.{IsLine, IsSide, IsAlong}
+use Rattle.cfn_scan.specs.Lines.{IsLine, IsSide, IsAlong}
 use Rattle.cfn_store.specs.Rooms.{sets_of}
 use Rattle.cfn_store.specs.Standing.{Standing, history}
-use Rattle.cfn_store.proofs.CallerLemmas.{tuple_at}
+use Rattle.cfn_scan.proofs.CallerLemmas.{tuple_at}
 
 -- a live value of the other variable stands along the line
 pub at_value : (P : Network) (h : List Event) (f i a j b : ℕ) (line : Line) → IsLine P h f i a j line → f < length P.functions → j < arity P f → b < slice_index P.sizes (variable_at P f j) → IsTrue (is_live h (variable_at P f j) b) → IsAlong P h f i a j line b

@@ -18,10 +18,10 @@ use Rattle.cfn_incidence.specs.declared.incidence.Place.{Place}
 use Rattle.cfn_incidence.specs.Places.{ArePlaces, place_at}
 use Rattle.cfn_incidence.proofs.CallerLemmas.{place_found}
 use Rattle.cfn_live.specs.Sets.{AreLive}
-use Rattle.cfn_store.specs.Exact.{AllInPlace, HasNoDebts, IsExactAlong}
+use Rattle.cfn_scan.specs.Exact.{AllInPlace, HasNoDebts, IsExactAlong}
 use Rattle.cfn_store.specs.Rooms.{sets_of}
 use Rattle.cfn_store.specs.Standing.{Standing, history}
-use Rattle.cfn_store.proofs.CallerLemmas.{exact_here}
+use Rattle.cfn_scan.proofs.CallerLemmas.{exact_here}
 use Rattle.cfn_derivation.specs.Watched.{TouchedAre, CostlyAre, AreCostly, HasCostly, Rises, Grows}
 use Rattle.cfn_derivation.proofs.Counting.{cut_fewer}
 use Rattle.cfn_derivation.proofs.Going.{with_size, with_stays, with_has, with_only}

@@ -3,7 +3,7 @@ use Rattle.std.specs.Prelude.{◌≡◌, ℕ, ◌<◌, Bool, false, List, length
 use Rattle.cfn_model.specs.Network.{Network, arity, dims_at}
 use Rattle.cfn_model.specs.Steps.{IsValue, IsPlace}
 use Rattle.cfn_rows.specs.Jagged.{row_at}
-use Rattle.cfn_store.specs.Shifts.{offset}
+use Rattle.cfn_scan.specs.Shifts.{offset}
 use Rattle.cfn_consistency.specs.Virtual.{Bans}
 
 -- Flags: a row for each variable, with one for each value; and a row for each function, with one for each value of each place,

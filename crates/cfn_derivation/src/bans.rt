@@ -5,7 +5,7 @@ ghost use Rattle.std.specs.Prelude.{◌≡◌, ℕ, ◌+◌, ◌<◌, ◌≤◌,
 ghost use Rattle.cfn_model.specs.Network.{arity, dims_at, function_at};
 ghost use Rattle.cfn_model.specs.Steps.{IsValue, IsPlace};
 ghost use Rattle.cfn_rows.specs.Jagged.{row_at};
-ghost use Rattle.cfn_store.specs.Shifts.{offset};
+ghost use Rattle.cfn_scan.specs.Shifts.{offset};
 ghost use Rattle.cfn_store.specs.Sums.{width_of};
 ghost use Rattle.cfn_derivation.specs.Banned.{IsBannedOwn, IsBannedBy, NoneBanned, flag_at, bans_of};
 

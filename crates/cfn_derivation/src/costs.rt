@@ -9,10 +9,11 @@ ghost use Rattle.cfn_model.specs.Network.{arity, variable_at};
 ghost use Rattle.cfn_model.specs.Sums.{is_live};
 ghost use Rattle.cfn_model.specs.Steps.{IsPlace, CanProject};
 ghost use Rattle.cfn_consistency.specs.Virtual.{HasCheapTuple};
-ghost use Rattle.cfn_store.specs.Lines.{IsLine};
+ghost use Rattle.cfn_scan.specs.Lines.{IsLine};
 ghost use Rattle.cfn_store.specs.Standing.{history};
 
-use cfn_store::{Extreme, Line, Store};
+use cfn_scan::{Extreme, Line};
+use cfn_store::Store;
 
 /// Whether each live tuple of `f` with a value at a place costs at least `q`.
 pub(crate) fn costs_at_least(store: &Store<'_>, f: u32, place: u32, value: u32, q: u64) -> bool

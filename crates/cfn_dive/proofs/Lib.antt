@@ -14,5 +14,6 @@ pub mod Onwards
 pub mod Makings
 pub mod Splitting
 pub mod Naming
+pub mod Blaming
 pub mod Crossing
 pub mod CallerLemmas

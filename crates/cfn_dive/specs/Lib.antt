@@ -6,3 +6,4 @@ pub mod Growing
 pub mod Diving
 pub mod Making
 pub mod Deciding
+pub mod Blaming

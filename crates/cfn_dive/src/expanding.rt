@@ -7,6 +7,7 @@ ghost use Rattle.cfn_store.specs.Standing.{history};
 ghost use Rattle.cfn_store.specs.Marking.{IsBehind};
 ghost use Rattle.cfn_trim.specs.Trimming.{IsBegin};
 ghost use Rattle.cfn_branch.specs.Choosing.{AllDecided, IsSplit};
+ghost use Rattle.cfn_branch.specs.Weighing.{Blames};
 ghost use Rattle.cfn_edac.specs.Settling.{IsBehindSettled};
 ghost use Rattle.cfn_dive.specs.Limit.{step_limit};
 ghost use Rattle.cfn_dive.specs.Enforcing.{Finds, IsSpent};
@@ -14,6 +15,7 @@ ghost use Rattle.cfn_low.specs.Holding.{price_of};
 ghost use Rattle.cfn_explore.specs.Falling.{HasFallen};
 ghost use Rattle.cfn_proof.specs.Nodes.{node_at, split_end};
 ghost use Rattle.cfn_proof.specs.declared.tree.End.TheVariants.{Shut};
+ghost use Rattle.cfn_dive.specs.Blaming.{IsWeighed};
 ghost use Rattle.cfn_dive.specs.Deciding.{IsSplitByRule};
 ghost use Rattle.cfn_dive.specs.Growing.{InGroups};
 ghost use Rattle.cfn_dive.specs.Diving.{IsOf, IsWaiting, IsDiving, IsExpanding, IsExpanded, IsClosing, IsSettledOrSpent, IsSameDive, place_of};
@@ -56,6 +58,7 @@ impl<'n> Parts<'n> {
         ensures falls { HasFallen M.network holder.old holder.new }
         ensures looked { growth.new.threshold ≤ price_of M.network holder.old }
         ensures named { OnOk result (IsSplitByRule self.old.rule self.old.store.network self.old.weights holder.old.held self.old.store.base (node_at growth.new.tree leaf.id.number)) }
+        ensures weighed { OnOk result (IsWeighed self.old.store.network self.old.store.base growth.new.threshold (price_of M.network holder.old) self.old.weights self.new.weights) }
         ensures expanded { OnOk result (IsExpanded self.old.store.network growth.old growth.new self.new) }
         ensures threshold { growth.new.threshold ≡ holder.new.seen }
         ensures dive { IsSameDive growth.old growth.new }
@@ -138,6 +141,7 @@ impl<'n> Parts<'n> {
         requires begins { IsBegin mark.now self.old.store }
         requires expanding { IsExpanding self.old.store.network self.old growth.old leaf }
         requires closes { CanClose self.old.store.network (history self.old.store) growth.old.threshold }
+        ensures blames { Blames self.old.store.block self.old.weights self.new.weights }
         ensures shut { OnOk result ((node_at growth.new.tree leaf.number).end ≡ Shut) }
         ensures expanded { OnOk result (IsExpanded self.old.store.network growth.old growth.new self.new) }
         ensures threshold { growth.new.threshold ≡ growth.old.threshold }
@@ -171,6 +175,7 @@ impl<'n> Parts<'n> {
         ensures split { OnOk result (node_at growth.new.tree leaf.number ≡ record (node_at growth.old.tree leaf.number) { block = self.old.store.block; end = split_end decision (length growth.old.tree) }) }
         ensures expanded { OnOk result (IsExpanded self.old.store.network growth.old growth.new self.new) }
         ensures threshold { growth.new.threshold ≡ growth.old.threshold }
+        ensures weights { self.new.weights ≡ self.old.weights }
         ensures dive { IsSameDive growth.old growth.new }
         ensures of { IsOf self.old.store.network self.new }
     {
@@ -221,6 +226,7 @@ impl<'n> Parts<'n> {
         ensures shut { OnOk result ((node_at growth.new.tree leaf.number).end ≡ Shut) }
         ensures expanded { OnOk result (IsExpanded self.old.store.network growth.old growth.new self.new) }
         ensures threshold { growth.new.threshold ≡ holder.new.seen }
+        ensures weights { self.new.weights ≡ self.old.weights }
         ensures dive { IsSameDive growth.old growth.new }
         ensures of { IsOf self.old.store.network self.new }
     {
@@ -244,6 +250,7 @@ impl<'n> Parts<'n> {
         ensures shut { OnOk result ((node_at growth.new.tree leaf.number).end ≡ Shut) }
         ensures expanded { OnOk result (IsExpanded self.old.store.network growth.old growth.new self.new) }
         ensures threshold { growth.new.threshold ≡ growth.old.threshold }
+        ensures weights { self.new.weights ≡ self.old.weights }
         ensures dive { IsSameDive growth.old growth.new }
         ensures of { IsOf self.old.store.network self.new }
     {
@@ -260,6 +267,7 @@ impl<'n> Parts<'n> {
         ensures shut { (node_at growth.new.tree leaf.number).end ≡ Shut }
         ensures expanded { IsExpanded self.old.store.network growth.old growth.new self.new }
         ensures threshold { growth.new.threshold ≡ growth.old.threshold }
+        ensures weights { self.new.weights ≡ self.old.weights }
         ensures dive { IsSameDive growth.old growth.new }
     {
         growth.tree.law_linked();

@@ -17,7 +17,7 @@ use Rattle.cfn_consistency.proofs.CallerLemmas.{count_most}
 use Rattle.cfn_incidence.specs.declared.incidence.Place.{Place}
 use Rattle.cfn_incidence.specs.Places.{ArePlaces, place_at}
 use Rattle.cfn_incidence.proofs.CallerLemmas.{is_function, place_found}
-use Rattle.cfn_store.specs.Exact.{HasNoDebts, IsExactAlong}
+use Rattle.cfn_scan.specs.Exact.{HasNoDebts, IsExactAlong}
 use Rattle.cfn_due.specs.Going.{IsElsewhere, GoesSide, GoesWithOne}
 use Rattle.cfn_due.proofs.Siding.{side_goes_on, side_goes_along}
 use Rattle.cfn_due.proofs.Noting.{goes_split, after_joined}

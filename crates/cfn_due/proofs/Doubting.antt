@@ -13,7 +13,7 @@ use Rattle.cfn_consistency.proofs.CallerLemmas.{later_open}
 use Rattle.cfn_incidence.specs.declared.incidence.Place.{Place}
 use Rattle.cfn_incidence.specs.Places.{ArePlaces, place_at}
 use Rattle.cfn_incidence.proofs.CallerLemmas.{place_found}
-use Rattle.cfn_store.specs.Exact.{IsExactAlong}
+use Rattle.cfn_scan.specs.Exact.{IsExactAlong}
 use Rattle.cfn_due.specs.Going.{IsOn, GoesFull, GoesWithOne}
 use Rattle.cfn_due.proofs.Staying.{full_goes_along}
 use Rattle.cfn_due.proofs.Noting.{goes_split, after_joined}

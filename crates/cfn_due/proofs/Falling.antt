@@ -7,7 +7,7 @@ use Rattle.cfn_model.specs.declared.step.Event.{Event}
 use Rattle.cfn_model.specs.Network.{Network, IsNetwork, Fits, arity, scope_at, variable_at, dims, dims_at, entry_at, cell}
 use Rattle.cfn_model.specs.Sums.{when, unary, unary_by, residual, residual_by, is_live, is_cut, all_live, is_live_tuple}
 use Rattle.cfn_model.specs.Steps.{IsValue}
-use Rattle.cfn_store.specs.Exact.{HasNoDebts}
+use Rattle.cfn_scan.specs.Exact.{HasNoDebts}
 use Rattle.cfn_consistency.specs.Consistency.{IsFree, HasSupport, HasFullSupport}
 
 -- an amount is at least 0, and its opposite at most 0

@@ -10,7 +10,7 @@ use Rattle.cfn_model.specs.declared.step.Event.TheVariants.{Did, Took, Refused}
 use Rattle.cfn_model.specs.Decisions.{variable_of}
 use Rattle.cfn_model.specs.Network.{Network, IsNetwork, variable_at}
 use Rattle.cfn_model.specs.Steps.{InRange, after}
-use Rattle.cfn_store.specs.Exact.{AllInPlace, IsExactAlong}
+use Rattle.cfn_scan.specs.Exact.{AllInPlace, IsExactAlong}
 use Rattle.cfn_queue.specs.Waiting.{Waiting, with_item}
 use Rattle.cfn_due.specs.declared.last.Last.{Last}
 use Rattle.cfn_due.specs.Dues.{Dues, Holds}

@@ -11,7 +11,7 @@ use Rattle.cfn_model.specs.Decisions.{variable_of, keeps}
 use Rattle.cfn_model.specs.Network.{Network, variable_at}
 use Rattle.cfn_model.specs.Sums.{removes, is_live}
 use Rattle.cfn_model.specs.Steps.{after}
-use Rattle.cfn_store.specs.Exact.{HasNoDebts, IsExactAlong}
+use Rattle.cfn_scan.specs.Exact.{HasNoDebts, IsExactAlong}
 use Rattle.cfn_consistency.specs.Consistency.{HasSupport}
 use Rattle.cfn_due.specs.Going.{GoesSide, GoesWithOne}
 use Rattle.cfn_due.proofs.Agreeing.{first_false, tuple_kept}

@@ -11,8 +11,8 @@ use Rattle.cfn_model.specs.Network.{Network, IsNetwork, arity, variable_at}
 use Rattle.cfn_model.specs.Sums.{when, is_live, residual_by, unary_by}
 use Rattle.cfn_model.specs.Steps.{after}
 use Rattle.cfn_model.proofs.CallerLemmas.{eqb_other, when_false}
-use Rattle.cfn_store.specs.Exact.{InPlace, HasNoDebts, IsExactAlong}
-use Rattle.cfn_store.proofs.CallerLemmas.{exact_here}
+use Rattle.cfn_scan.specs.Exact.{InPlace, HasNoDebts, IsExactAlong}
+use Rattle.cfn_scan.proofs.CallerLemmas.{exact_here}
 use Rattle.cfn_consistency.specs.Openness.{count_below, IsActive, TakesPart, HasOpenPair}
 use Rattle.cfn_consistency.specs.Consistency.{HasFullSupport, IsArcConsistent, IsDirectional, IsFirst, IsExistential}
 use Rattle.cfn_consistency.proofs.CallerLemmas.{part_is_local, arc_is_local, existential_is_local}

@@ -7,7 +7,7 @@ use Rattle.std.specs.Prelude.{ℤ, pos, ◌≤ℤ◌, not, IsTrue}
 use Rattle.cfn_model.specs.declared.step.Event.{Event}
 use Rattle.cfn_model.specs.Network.{Network, IsNetwork, arity, variable_at}
 use Rattle.cfn_model.specs.Sums.{removes, is_live, residual_by, unary_by}
-use Rattle.cfn_store.specs.Exact.{HasNoDebts}
+use Rattle.cfn_scan.specs.Exact.{HasNoDebts}
 use Rattle.cfn_consistency.specs.Openness.{is_open, HasOpenPair}
 use Rattle.cfn_consistency.specs.Consistency.{IsDirectional}
 use Rattle.cfn_consistency.proofs.CallerLemmas.{count_most, later_open, directional_is_local}

@@ -4,7 +4,7 @@ use Rattle.cfn_model.specs.declared.step.Step.{Step}
 use Rattle.cfn_model.specs.declared.step.Event.{Event}
 use Rattle.cfn_model.specs.Network.{Network, IsNetwork}
 use Rattle.cfn_model.specs.Steps.{after}
-use Rattle.cfn_store.specs.Exact.{InPlace, HasNoDebts, IsExactAlong}
+use Rattle.cfn_scan.specs.Exact.{InPlace, HasNoDebts, IsExactAlong}
 use Rattle.cfn_consistency.specs.Openness.{TakesPart}
 use Rattle.cfn_consistency.specs.Consistency.{IsNodeConsistent, IsArcConsistent, IsDirectional, IsExistential, AreFullyConsistent}
 use Rattle.cfn_due.specs.Dues.{Dues, NothingWaits, Holds}

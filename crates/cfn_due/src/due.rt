@@ -14,7 +14,7 @@ ghost use Rattle.cfn_model.specs.Network.{Network as CostNetwork};
 ghost use Rattle.cfn_model.specs.Steps.{InRange, after};
 ghost use Rattle.cfn_queue.specs.Waiting.{new_queue, IsFirst};
 ghost use Rattle.cfn_incidence.specs.Places.{StandsAt};
-ghost use Rattle.cfn_store.specs.Exact.{InPlace, HasNoDebts};
+ghost use Rattle.cfn_scan.specs.Exact.{InPlace, HasNoDebts};
 ghost use Rattle.cfn_store.specs.Standing.{history};
 ghost use Rattle.cfn_consistency.specs.Openness.{TakesPart};
 ghost use Rattle.cfn_consistency.specs.Consistency.{IsArcConsistent, IsDirectional, IsExistential, AreArcConsistent, AreDirectional, AreExistential};

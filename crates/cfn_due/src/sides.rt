@@ -11,7 +11,7 @@ ghost use Rattle.cfn_model.specs.Decisions.{variable_of};
 ghost use Rattle.cfn_model.specs.Network.{Network as CostNetwork, arity};
 ghost use Rattle.cfn_model.specs.Steps.{InRange, after};
 ghost use Rattle.cfn_consistency.specs.Consistency.{AreArcConsistent};
-ghost use Rattle.cfn_store.specs.Exact.{InPlace, HasNoDebts};
+ghost use Rattle.cfn_scan.specs.Exact.{InPlace, HasNoDebts};
 ghost use Rattle.cfn_store.specs.Standing.{history};
 ghost use Rattle.cfn_due.specs.Going.{IsElsewhere, GoesSide};
 ghost use Rattle.cfn_due.specs.Siding.{is_doubted, HasSupports, AreSupported, AreAsked, IsOtherAsked};

@@ -13,11 +13,11 @@ use Rattle.cfn_consistency.specs.Consistency.{HasFullSupport, IsFirst}
 use Rattle.cfn_consistency.specs.Groups.{Group, IsBegun}
 use Rattle.cfn_consistency.proofs.CallerLemmas.{pair_kept}
 use Rattle.cfn_live.specs.Sets.{AreLive}
-use Rattle.cfn_store.specs.Exact.{IsExactAlong}
-use Rattle.cfn_store.specs.Extremes.{IsPicked}
+use Rattle.cfn_scan.specs.Exact.{IsExactAlong}
+use Rattle.cfn_scan.specs.Extremes.{IsPicked}
 use Rattle.cfn_store.specs.Rooms.{sets_of}
 use Rattle.cfn_store.specs.Standing.{Standing, history}
-use Rattle.cfn_store.proofs.CallerLemmas.{unary_amount}
+use Rattle.cfn_scan.proofs.CallerLemmas.{unary_amount}
 use Rattle.cfn_gain.specs.declared.limits.Limits.{Limits}
 use Rattle.cfn_gain.specs.declared.limits.Halt.{Halt}
 use Rattle.cfn_gain.specs.declared.limits.Halt.TheVariants.{Dead, Spent}

@@ -4,7 +4,7 @@ use Rattle.cfn_model.specs.declared.step.Event.{Event}
 use Rattle.cfn_model.specs.Network.{Network}
 use Rattle.cfn_model.specs.Sums.{floor, unary, is_live}
 use Rattle.cfn_model.specs.Steps.{IsValue}
-use Rattle.cfn_store.specs.Extremes.{IsPicked}
+use Rattle.cfn_scan.specs.Extremes.{IsPicked}
 use Rattle.cfn_dac.specs.declared.pair.Pair.{Pair}
 use Rattle.cfn_dac.specs.Full.{total}
 use Rattle.cfn_eac.specs.Neighbours.{AreNeighbours, pair_at}

@@ -1,7 +1,7 @@
 //! What waits, and what events put.
 
 ghost use Rattle.std.specs.Prelude.{◌≡◌, [], ◌∷◌};
-ghost use Rattle.cfn_store.specs.Exact.{InPlace};
+ghost use Rattle.cfn_scan.specs.Exact.{InPlace};
 ghost use Rattle.cfn_store.specs.Standing.{at_root};
 
 use cfn_due::{Due, Next};

@@ -2,7 +2,7 @@
 
 ghost use Rattle.std.specs.Prelude.{◌≡◌, length};
 
-use cfn_lanes::{Row, least, least_below, least_difference, least_open, put_on, take_off, zeros};
+use cfn_scan::{Row, least, least_below, least_difference, least_open, put_on, take_off, zeros};
 use std::test::*;
 
 /// What `least_open` finds in the row of these, below a bound of 100, with 1 taken off each.

@@ -14,9 +14,9 @@ use Rattle.cfn_consistency.specs.Consistency.{HasSupport}
 use Rattle.cfn_consistency.specs.Groups.{Group, IsShift, IsNew, Closes, IsBegun, MayBeOpen}
 use Rattle.cfn_consistency.proofs.CallerLemmas.{part_after}
 use Rattle.cfn_gain.proofs.Stepping.{history_step}
-use Rattle.cfn_store.specs.declared.scan.Extreme.{Extreme}
-use Rattle.cfn_store.specs.declared.scan.Sense.TheVariants.{Least}
-use Rattle.cfn_store.specs.Extremes.{IsExtreme}
+use Rattle.cfn_scan.specs.declared.scan.Extreme.{Extreme}
+use Rattle.cfn_scan.specs.declared.scan.Sense.TheVariants.{Least}
+use Rattle.cfn_scan.specs.Extremes.{IsExtreme}
 use Rattle.cfn_store.specs.Standing.{Standing, history, with_step}
 use Rattle.cfn_gain.specs.Gains.{Gained, IsOpen, HasCost}
 use Rattle.cfn_gain.proofs.Gaining.{gained_none, leads_shift, leads_close}

@@ -7,10 +7,10 @@ use Rattle.cfn_model.specs.Network.{Network, arity, variable_at}
 use Rattle.cfn_model.specs.Sums.{is_live}
 use Rattle.cfn_model.specs.Steps.{IsPlace, CanProject}
 use Rattle.cfn_consistency.specs.Consistency.{HasSupport, IsArcConsistent}
-use Rattle.cfn_store.specs.declared.scan.Extreme.{Extreme}
-use Rattle.cfn_store.specs.declared.scan.Sense.TheVariants.{Least}
+use Rattle.cfn_scan.specs.declared.scan.Extreme.{Extreme}
+use Rattle.cfn_scan.specs.declared.scan.Sense.TheVariants.{Least}
 use Rattle.cfn_store.specs.Doubts.{AreFreeFrom}
-use Rattle.cfn_store.specs.Extremes.{NonePicked, IsExtreme, IsFree}
+use Rattle.cfn_scan.specs.Extremes.{NonePicked, IsExtreme, IsFree}
 use Rattle.cfn_store.specs.Standing.{Standing, history}
 use Rattle.cfn_gain.specs.declared.limits.Limits.{Limits}
 use Rattle.cfn_gain.specs.Calls.{Does, Passing, IsUnchanged}

@@ -1,6 +1,6 @@
 //! All that was done to the pool in a search.
 
-ghost use Rattle.std.specs.Prelude.{◌≡◌, ◌↔◌, ◌+◌, ◌<◌, ◌≤◌, [], ◌∷◌, ◌++◌, OnOk, OnErr, IsTrue};
+ghost use Rattle.std.specs.Prelude.{◌≡◌, ◌+◌, ◌<◌, ◌≤◌, [], ◌∷◌, ◌++◌, OnOk};
 ghost use Rattle.std.specs.List.{AllByRecursion};
 ghost use Rattle.cfn_model.specs.declared.limits.TheConstants.{GREATEST};
 ghost use Rattle.cfn_record.specs.Lines.{AreSpelled};
@@ -69,13 +69,6 @@ impl History {
         let _ = &self.happened;
     }
 
-    /// Whether there is room for an entry. It takes no memory.
-    pub fn has_room(&self) -> bool
-        ensures { IsTrue result ↔ (0 < self.now.room) }
-    {
-        self.happened.len() < self.happened.capacity()
-    }
-
     /// Makes room for `more` entries. An `Err`, want of memory, leaves the history as it was. It never has less room than before.
     pub fn reserve(&mut self, more: usize) -> Result<(), AllocError>
         ensures entries { entries_of self.new ≡ entries_of self.old }
@@ -85,19 +78,6 @@ impl History {
         ensures room { self.old.room ≤ self.new.room }
     {
         self.happened.reserve(more)
-    }
-
-    /// Records what was done last. An `Err`, want of memory, drops it, and leaves the history as it was.
-    pub fn push(&mut self, happened: Happened) -> Result<(), AllocError>
-        requires { AreSpelled (numbers_of happened) }
-        ensures ok { OnOk result (entries_of self.new ≡ entries_of self.old ++ entry_of happened ∷ []) }
-        ensures err { OnErr result (entries_of self.new ≡ entries_of self.old) }
-        ensures budget { self.new.budget ≡ self.old.budget }
-        ensures room { self.old.room ≤ self.new.room + 1 }
-    {
-        happened.law_spelled();
-        self.happened.push(happened)?;
-        Ok(())
     }
 
     /// Records what was done last, where there is room for one entry. It takes no memory.

@@ -7,7 +7,7 @@ use Rattle.cfn_model.specs.declared.step.Step.TheVariants.{Project}
 use Rattle.cfn_model.specs.declared.step.Event.{Event}
 use Rattle.cfn_model.specs.declared.step.Event.TheVariants.{Did}
 use Rattle.cfn_model.specs.Network.{Network}
-use Rattle.cfn_store.specs.Exact.{InPlace, AllInPlace}
+use Rattle.cfn_scan.specs.Exact.{InPlace, AllInPlace}
 use Rattle.cfn_rebase.specs.declared.balance.Balance.{Balance}
 use Rattle.cfn_rebase.specs.Balancing.{worth, IsLight}
 

@@ -10,10 +10,10 @@ use Rattle.cfn_model.specs.Network.{Network}
 use Rattle.cfn_model.specs.Paths.{HasSmallCosts, TameBlock}
 use Rattle.cfn_model.specs.Steps.{Allowed, after}
 use Rattle.cfn_proof.proofs.CallerLemmas.{after_append}
-use Rattle.cfn_store.specs.Exact.{IsExactAlong}
+use Rattle.cfn_scan.specs.Exact.{IsExactAlong}
 use Rattle.cfn_store.specs.Marking.{IsBehind}
 use Rattle.cfn_store.specs.Standing.{Standing, history, with_step}
-use Rattle.cfn_store.proofs.CallerLemmas.{exact_now}
+use Rattle.cfn_scan.proofs.CallerLemmas.{exact_now}
 use Rattle.cfn_rebase.specs.Making.{CanMake, IsTried}
 
 -- the events up to a place on the way

@@ -15,12 +15,12 @@ use Rattle.cfn_model.specs.Paths.{HasSmallCosts}
 use Rattle.cfn_model.specs.Text.{IsSpelledStep}
 use Rattle.cfn_model.proofs.CallerLemmas.{eqb_same}
 use Rattle.cfn_net.proofs.CallerLemmas.{Fits-length, digit_at, get_or-dims, tuple_of, tuple_of-numbered}
-use Rattle.cfn_store.specs.Exact.{AllInPlace, IsExactAlong}
+use Rattle.cfn_scan.specs.Exact.{AllInPlace, IsExactAlong}
 use Rattle.cfn_store.specs.Standing.{Standing, history}
-use Rattle.cfn_store.specs.declared.scan.Extreme.{Extreme}
-use Rattle.cfn_store.specs.Extremes.{IsLeastBetween}
+use Rattle.cfn_scan.specs.declared.scan.Extreme.{Extreme}
+use Rattle.cfn_scan.specs.Extremes.{IsLeastBetween}
 use Rattle.cfn_store.specs.Rooms.{UnaryFits, ResidualsFit, IsProjectRoom, IsExtendRoom}
-use Rattle.cfn_store.proofs.CallerLemmas.{exact_now}
+use Rattle.cfn_scan.proofs.CallerLemmas.{exact_now}
 use Rattle.cfn_rebase.specs.declared.balance.Balance.{Balance}
 use Rattle.cfn_rebase.specs.Balancing.{worth}
 use Rattle.cfn_rebase.specs.Making.{IsCost, MayFollow}

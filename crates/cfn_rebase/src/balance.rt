@@ -4,7 +4,7 @@ ghost use Rattle.std.specs.Prelude.{◌≡◌, ℕ, ◌+◌, ◌<◌, List, [], 
 ghost use Rattle.cfn_model.specs.Network.{Fits, cell, dims_at, arity, variable_at};
 ghost use Rattle.cfn_model.specs.Sums.{when, unary, unary_by, residual, residual_by};
 ghost use Rattle.cfn_model.specs.Steps.{IsValue, IsCell};
-ghost use Rattle.cfn_store.specs.Exact.{InPlace, AllInPlace};
+ghost use Rattle.cfn_scan.specs.Exact.{InPlace, AllInPlace};
 ghost use Rattle.cfn_rebase.specs.Balancing.{worth, IsLight};
 
 use cfn_model::{Event, Step};

@@ -7,7 +7,8 @@ ghost use Rattle.cfn_model.specs.Steps.{IsPlace};
 
 use cfn_model::Event;
 use cfn_net::Network;
-use cfn_store::{Extreme, Sense, Store};
+use cfn_scan::{Extreme, Sense};
+use cfn_store::Store;
 use std::alloc::{AllocError, Global};
 
 /// A value at a place of a function.

@@ -8,10 +8,10 @@ use Rattle.cfn_model.specs.declared.step.Event.{Event}
 use Rattle.cfn_model.specs.declared.step.Event.TheVariants.{Did, Took, Refused}
 use Rattle.cfn_model.specs.Network.{Network, IsNetwork}
 use Rattle.cfn_model.specs.Sums.{is_live, removes, floor}
-use Rattle.cfn_model.specs.Steps.{after, AllInRange, EventInRange}
+use Rattle.cfn_model.specs.Steps.{after}
 use Rattle.cfn_net.proofs.CallerLemmas.{floor_at_root}
 use Rattle.cfn_store.specs.Events.{removals, steps_in, AllSteps}
-use Rattle.cfn_store.specs.Exact.{InPlace, AllInPlace, IsExact, IsExactAlong, LiftsFit}
+use Rattle.cfn_scan.specs.Exact.{LiftsFit}
 
 -- only events that take values decide what is live
 pub live_by_removals : (history : List Event) (x a : ℕ) → is_live (removals history) x a ≡ is_live history x a
@@ -33,16 +33,6 @@ fewer_removals (Did (CutValue y b) ∷ history) = (let r = fewer_removals histor
 fewer_removals (Did (CutTuple f c) ∷ history) = (let r = fewer_removals history in omega (arith, r))
 fewer_removals (Took d ∷ history) = (let r = fewer_removals history in omega (arith, r))
 fewer_removals (Refused d ∷ history) = (let r = fewer_removals history in omega (arith, r))
-
--- steps that are in place are in range
-in_range : (P : Network) (event : Event) → InPlace P event → EventInRange P event
-in_range P (Did step) place = place
-in_range P (Took d) place = tt {0}
-in_range P (Refused d) place = tt {0}
-
-pub all_in_range : (P : Network) (history : List Event) → AllInPlace P history → AllInRange P history
-all_in_range P [] place = tt {0}
-all_in_range P (event ∷ history) place = (in_range P event place.0, all_in_range P history place.1)
 
 pub floor_start : (P : Network) → IsNetwork P → floor P [] ≤ 2 ^ 20 * 2 ^ 64
 floor_start P net =
@@ -102,12 +92,3 @@ steps_of_events (step ∷ steps) = ap (λ l. step ∷ l) (steps_of_events steps)
 pub all_of_events : (block : List Step) → AllSteps (as_events block)
 all_of_events [] = tt {0}
 all_of_events (step ∷ steps) = all_of_events steps
-
--- an exact history is exact at its end, and so are its earlier parts
-pub exact_here : (P : Network) (history : List Event) → IsExactAlong P history → IsExact P history
-exact_here P [] exact = exact
-exact_here P (event ∷ history) exact = exact.0
-
-pub exact_behind : (P : Network) (later earlier : List Event) → IsExactAlong P (later ++ earlier) → IsExactAlong P earlier
-exact_behind P [] earlier exact = exact
-exact_behind P (event ∷ later) earlier exact = exact_behind P later earlier exact.1

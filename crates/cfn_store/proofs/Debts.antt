@@ -11,7 +11,7 @@ use Rattle.cfn_model.specs.Sums.{when, unary, unary_by, residual, residual_by, i
 use Rattle.cfn_model.specs.Steps.{CanProject, CanExtend, CanLift}
 use Rattle.cfn_model.specs.Paths.{HasSmallCosts}
 use Rattle.cfn_model.proofs.CallerLemmas.{eqb_same, eqb_other, fewer, tuple_fewer}
-use Rattle.cfn_store.specs.Exact.{HasNoDebts, IsExact}
+use Rattle.cfn_scan.specs.Exact.{HasNoDebts, IsExact}
 
 -- an amount that stands under a test of two equalities comes where both hold, and else nothing comes
 pub when_pair : (x y a b : ℕ) (z : ℤ) (Q : ℤ → Type 0) → (x ≡ y → a ≡ b → Q z) → ((x ≡ y → a ≡ b → ⊥) → Q (pos 0)) → Q (when ((x == y) && (a == b)) z)

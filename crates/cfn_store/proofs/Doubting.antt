@@ -7,16 +7,16 @@ use Rattle.cfn_model.specs.Network.{IsNetwork, Network, arity, cells, dims_at, s
 use Rattle.cfn_model.specs.Sums.{is_live}
 use Rattle.cfn_model.specs.Steps.{IsPlace, IsValue}
 use Rattle.cfn_net.proofs.CallerLemmas.{cell-below, get_or-dims}
-use Rattle.cfn_store.specs.declared.line.Line.{Line}
-use Rattle.cfn_store.specs.declared.line.Side.{Side}
+use Rattle.cfn_scan.specs.declared.line.Line.{Line}
+use Rattle.cfn_scan.specs.declared.line.Side.{Side}
 use Rattle.cfn_store.specs.declared.supports.Doubt.{Doubt}
-use Rattle.cfn_store.specs.Extremes.{IsExtreme, IsFree, NonePicked}
-use Rattle.cfn_store.specs.declared.scan.Extreme.{Extreme}
-use Rattle.cfn_store.specs.declared.scan.Sense.TheVariants.{Least}
-use Rattle.cfn_store.specs.Lines.{IsSide, IsLine, IsAlong, line_of}
+use Rattle.cfn_scan.specs.Extremes.{IsExtreme, IsFree, NonePicked}
+use Rattle.cfn_scan.specs.declared.scan.Extreme.{Extreme}
+use Rattle.cfn_scan.specs.declared.scan.Sense.TheVariants.{Least}
+use Rattle.cfn_scan.specs.Lines.{IsSide, IsLine, IsAlong, line_of}
 use Rattle.cfn_store.specs.Doubts.{AreFreeBetween, AreFreeFrom, IsDoubt, IsSeen}
 use Rattle.cfn_store.specs.Standing.{Standing, history}
-use Rattle.cfn_store.proofs.Sides.{side_line}
+use Rattle.cfn_scan.proofs.CallerLemmas.{side_line}
 
 -- a value of a place's variable is one of the place
 pub place_of : (P : Network) (f i a : ℕ) → f < length P.functions → i < arity P f → a < slice_index P.sizes (variable_at P f i) → IsPlace P f i a

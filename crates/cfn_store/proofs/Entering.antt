@@ -8,7 +8,7 @@ use Rattle.cfn_live.specs.Sets.{Sets}
 use Rattle.cfn_store.specs.Sums.{IsSums}
 use Rattle.cfn_store.specs.Cutting.{IsCuts}
 use Rattle.cfn_store.specs.declared.state.State.{State}
-use Rattle.cfn_store.specs.Exact.{IsExact, IsExactAlong, LiftsFit}
+use Rattle.cfn_scan.specs.Exact.{IsExact, IsExactAlong, LiftsFit}
 use Rattle.cfn_store.specs.Peaks.{ArePeaks, AreForgotten}
 use Rattle.cfn_store.specs.State.{Keeps, IsState, history_of}
 use Rattle.cfn_store.proofs.Peaking.{peaks_on, peaks_back}

@@ -7,18 +7,17 @@ use Rattle.cfn_model.specs.declared.step.Event.{Event}
 use Rattle.cfn_model.specs.Network.{Network, arity, cell, dims_at, scope_at, variable_at}
 use Rattle.cfn_model.specs.Sums.{residual}
 use Rattle.cfn_live.specs.Sets.{AreLive}
-use Rattle.cfn_store.specs.Exact.{IsExact}
+use Rattle.cfn_scan.specs.Exact.{IsExact}
 use Rattle.cfn_net.proofs.CallerLemmas.{get_or-dims}
-use Rattle.cfn_store.specs.declared.line.Line.{Line}
-use Rattle.cfn_store.specs.declared.scan.Extreme.{Extreme}
-use Rattle.cfn_store.specs.declared.scan.Sense.TheVariants.{Least}
-use Rattle.cfn_store.specs.Scanning.{IsSooner}
-use Rattle.cfn_store.specs.Extremes.{IsPicked, NonePicked, IsExtreme, IsPickedBetween, NoneBetween, IsLeastBetween, IsFree}
-use Rattle.cfn_store.specs.Lines.{IsLine, IsAlong}
+use Rattle.cfn_scan.specs.declared.line.Line.{Line}
+use Rattle.cfn_scan.specs.declared.scan.Extreme.{Extreme}
+use Rattle.cfn_scan.specs.declared.scan.Sense.TheVariants.{Least}
+use Rattle.cfn_scan.specs.Scanning.{IsSooner}
+use Rattle.cfn_scan.specs.Extremes.{IsPicked, NonePicked, IsExtreme, IsPickedBetween, NoneBetween, IsLeastBetween, IsFree}
+use Rattle.cfn_scan.specs.Lines.{IsLine, IsAlong}
 use Rattle.cfn_store.specs.Rooms.{sets_of}
 use Rattle.cfn_store.specs.Standing.{Standing, history}
-use Rattle.cfn_store.proofs.Amounts.{picked_one}
-use Rattle.cfn_store.proofs.Tuples.{tuple_at}
+use Rattle.cfn_scan.proofs.CallerLemmas.{picked_one, tuple_at}
 
 -- what was found of the first n of the other values
 pub record IsLeastTo (P : Network) (history : List Event) (f i a j : ℕ) (values : List ℕ) (n : ℕ) (found : Extreme) : Type 0 where

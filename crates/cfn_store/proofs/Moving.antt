@@ -14,12 +14,11 @@ use Rattle.cfn_model.specs.Steps.{IsValue, IsPlace}
 use Rattle.cfn_net.proofs.CallerLemmas.{length-dims, get_or-dims}
 use Rattle.cfn_rows.specs.Jagged.{row_at}
 use Rattle.cfn_store.specs.declared.sums.Sums.{Sums}
-use Rattle.cfn_store.specs.Wrapped.{StandsFor}
-use Rattle.cfn_store.specs.Shifts.{shift, shift_by, offset}
+use Rattle.cfn_scan.specs.Wrapped.{StandsFor}
+use Rattle.cfn_scan.specs.Shifts.{shift, shift_by, offset}
 use Rattle.cfn_store.specs.Sums.{has_more, has_less, given_word, lifted_word, shift_word, HasShape, IsSums, Moves, Lifts}
-use Rattle.cfn_store.proofs.Wrapping.{exchange, itself, plus_stands, less_stands}
+use Rattle.cfn_scan.proofs.CallerLemmas.{exchange, itself, plus_stands, less_stands, offset_below, offset_apart}
 use Rattle.cfn_store.proofs.Debts.{when_pair}
-use Rattle.cfn_store.proofs.Offsets.{offset_below, offset_apart}
 use Rattle.cfn_store.proofs.Words.{more_here, less_here, word_stays, rows_length, row_length}
 
 -- the place of a value in a function's row

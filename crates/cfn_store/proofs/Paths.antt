@@ -9,8 +9,8 @@ use Rattle.cfn_model.specs.declared.step.Event.TheVariants.{Did, Took, Refused}
 use Rattle.cfn_model.specs.Network.{Network, IsNetwork}
 use Rattle.cfn_model.specs.Steps.{Allowed, InRange}
 use Rattle.cfn_model.specs.Paths.{RunsAlong, TameAlong}
-use Rattle.cfn_store.specs.Exact.{IsExact, IsExactAlong, HasNoDebts}
-use Rattle.cfn_store.proofs.Along.{exact_here, exact_behind}
+use Rattle.cfn_scan.specs.Exact.{IsExact, IsExactAlong, HasNoDebts}
+use Rattle.cfn_scan.proofs.CallerLemmas.{exact_here, exact_behind}
 use Rattle.cfn_store.proofs.Debts.{exact_at_root, debts_project, debts_extend, debts_lift, debts_still}
 
 in_range : (P : Network) (history : List Event) (k : ℕ) (step : Step) → Allowed P history k step → InRange P step

@@ -8,11 +8,11 @@ use Rattle.cfn_model.specs.Sums.{floor, unary}
 use Rattle.cfn_rows.specs.Jagged.{row_at}
 use Rattle.cfn_store.specs.declared.sums.Sums.{Sums}
 use Rattle.cfn_store.specs.declared.cuts.Cuts.{Cuts}
-use Rattle.cfn_store.specs.Wrapped.{StandsFor}
-use Rattle.cfn_store.specs.Shifts.{shift, offset}
+use Rattle.cfn_scan.specs.Wrapped.{StandsFor}
+use Rattle.cfn_scan.specs.Shifts.{shift, offset}
 use Rattle.cfn_store.specs.Sums.{IsSums, given_word, lifted_word, shift_word, width_of}
 use Rattle.cfn_store.specs.Cutting.{IsCuts}
-use Rattle.cfn_store.proofs.Wrapping.{itself}
+use Rattle.cfn_scan.proofs.CallerLemmas.{itself}
 
 -- a row of rows that are filled
 filled_row : {T : Type 0} (v : T) (lengths : List ℕ) (r : ℕ) → r < length lengths → row_at (map (λ n. replicate n v) lengths) r ≡ replicate (slice_index lengths r) v

@@ -15,14 +15,15 @@ use Rattle.cfn_model.specs.Sums.{is_live}
 use Rattle.cfn_live.specs.Sets.{Sets, AreLive, live_below, live_count}
 use Rattle.cfn_store.specs.declared.state.State.{State}
 use Rattle.cfn_store.specs.Events.{steps_in, AllSteps}
-use Rattle.cfn_store.specs.Exact.{IsExact, IsExactAlong, LiftsFit}
+use Rattle.cfn_scan.specs.Exact.{IsExact, IsExactAlong, LiftsFit}
 use Rattle.cfn_store.specs.Standing.{Standing, history, with_step, with_side, FitsProject, FitsExtend, FitsLift}
 use Rattle.cfn_store.specs.Peaks.{HasPeak, ArePeaks}
 use Rattle.cfn_store.specs.State.{Keeps, IsState, HasRoom, history_of}
 use Rattle.cfn_store.specs.Kept.{IsStore}
 use Rattle.cfn_store.proofs.Entering.{same_kept}
 use Rattle.cfn_store.proofs.Peaking.{peaks_noted}
-use Rattle.cfn_store.proofs.Along.{live_by_removals, after_steps, steps_more, all_more, exact_here}
+use Rattle.cfn_scan.proofs.CallerLemmas.{exact_here}
+use Rattle.cfn_store.proofs.Along.{live_by_removals, after_steps, steps_more, all_more}
 use Rattle.cfn_store.proofs.Debts.{small_project, small_extend, small_lift, small_still, debts_project, debts_extend, debts_lift, debts_still}
 
 -- what the parts of a store stand for

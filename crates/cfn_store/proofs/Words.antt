@@ -5,9 +5,9 @@ use Rattle.std.proofs.lemmas.Bool.{cases_eq}
 use Rattle.std.proofs.lemmas.Int.{ints}
 use Rattle.std.specs.Prelude.{ℤ, pos, neg_ℤ, ◌+ℤ◌, slice_index}
 use Rattle.cfn_rows.specs.Jagged.{row_at}
-use Rattle.cfn_store.specs.Wrapped.{StandsFor}
+use Rattle.cfn_scan.specs.Wrapped.{StandsFor}
 use Rattle.cfn_store.specs.Sums.{has_word, has_more, has_less}
-use Rattle.cfn_store.proofs.Wrapping.{plus_stands, less_stands}
+use Rattle.cfn_scan.proofs.CallerLemmas.{plus_stands, less_stands}
 
 pub word_here : (rows : List (List ℕ)) (r i w : ℕ) → r < length rows → i < length (row_at rows r) → slice_index (row_at (has_word rows r i w) r) i ≡ w
 word_here rows r i w l m = ap (λ row. slice_index row i) (get_or-set_same rows r (set (row_at rows r) i w) [] l) ∙ get_or-set_same (row_at rows r) i w 0 m

@@ -4,11 +4,11 @@ use Rattle.cfn_model.specs.declared.step.Event.{Event}
 use Rattle.cfn_model.specs.Network.{Network, arity, variable_at}
 use Rattle.cfn_model.specs.Sums.{is_live}
 use Rattle.cfn_model.specs.Steps.{IsPlace}
-use Rattle.cfn_store.specs.declared.line.Side.{Side}
-use Rattle.cfn_store.specs.declared.scan.Sense.TheVariants.{Least}
+use Rattle.cfn_scan.specs.declared.line.Side.{Side}
+use Rattle.cfn_scan.specs.declared.scan.Sense.TheVariants.{Least}
 use Rattle.cfn_store.specs.declared.supports.Doubt.{Doubt}
-use Rattle.cfn_store.specs.Extremes.{NonePicked, IsExtreme, IsFree}
-use Rattle.cfn_store.specs.Lines.{IsSide}
+use Rattle.cfn_scan.specs.Extremes.{NonePicked, IsExtreme, IsFree}
+use Rattle.cfn_scan.specs.Lines.{IsSide}
 use Rattle.cfn_store.specs.Standing.{Standing, history}
 
 -- Each live value at place i of f from one number on, and before another, has a live tuple that costs nothing.

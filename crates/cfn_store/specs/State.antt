@@ -4,7 +4,7 @@ use Rattle.cfn_model.specs.declared.step.Event.{Event}
 use Rattle.cfn_model.specs.Network.{Network}
 use Rattle.cfn_store.specs.declared.state.State.{State}
 use Rattle.cfn_store.specs.Events.{removals}
-use Rattle.cfn_store.specs.Exact.{IsExactAlong, LiftsFit}
+use Rattle.cfn_scan.specs.Exact.{IsExactAlong, LiftsFit}
 use Rattle.cfn_store.specs.Sums.{IsSums}
 use Rattle.cfn_store.specs.Cutting.{IsCuts}
 use Rattle.cfn_store.specs.Peaks.{ArePeaks}

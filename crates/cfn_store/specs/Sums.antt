@@ -6,8 +6,8 @@ use Rattle.cfn_model.specs.Sums.{when, floor, unary}
 use Rattle.cfn_model.specs.Steps.{IsValue, IsPlace}
 use Rattle.cfn_rows.specs.Jagged.{row_at}
 use Rattle.cfn_store.specs.declared.sums.Sums.{Sums}
-use Rattle.cfn_store.specs.Wrapped.{StandsFor}
-use Rattle.cfn_store.specs.Shifts.{shift, offset}
+use Rattle.cfn_scan.specs.Wrapped.{StandsFor}
+use Rattle.cfn_scan.specs.Shifts.{shift, offset}
 
 -- Rows with one word larger, or smaller, by an amount, modulo 2^64.
 abbrev pub has_word : List (List ℕ) → ℕ → ℕ → ℕ → List (List ℕ)

@@ -6,7 +6,7 @@
 
 ghost use Rattle.std.specs.Prelude.{◌≡◌, ◌<◌, length, slice_set};
 ghost use Rattle.cfn_model.specs.Decisions.{variable_of};
-ghost use Rattle.cfn_store.specs.Exact.{InPlace};
+ghost use Rattle.cfn_scan.specs.Exact.{InPlace};
 ghost use Rattle.cfn_store.specs.Peaks.{AreForgotten, unknown};
 
 use cfn_model::{Decision, Event, Step};

@@ -6,25 +6,24 @@ ghost use Rattle.cfn_model.specs.declared.step.Event.TheVariants.{Did};
 ghost use Rattle.cfn_model.specs.Sums.{is_live, lifted};
 ghost use Rattle.cfn_model.specs.Steps.{InRange, IsPlace};
 ghost use Rattle.cfn_store.specs.Shelf.{on_shelf};
-ghost use Rattle.cfn_store.specs.Extremes.{NoneBetween, IsExtremeBetween, IsNumbered, IsTold};
-ghost use Rattle.cfn_store.specs.Reading.{MayAsk, Reads, start};
-ghost use Rattle.cfn_store.specs.Lines.{IsSide};
-ghost use Rattle.cfn_store.specs.Scanning.{IsSpot};
+ghost use Rattle.cfn_scan.specs.Extremes.{NoneBetween, IsExtremeBetween, IsNumbered, IsTold};
+ghost use Rattle.cfn_scan.specs.Reading.{MayAsk, Reads, start};
+ghost use Rattle.cfn_scan.specs.Lines.{IsSide};
+ghost use Rattle.cfn_scan.specs.Scanning.{IsSpot};
 ghost use Rattle.cfn_model.specs.Network.{arity, cells, dims_at, scope_at, variable_at};
-ghost use Rattle.cfn_store.specs.Exact.{InPlace, IsExact, IsExactAlong};
+ghost use Rattle.cfn_scan.specs.Exact.{InPlace, IsExact, IsExactAlong};
 ghost use Rattle.cfn_store.specs.Events.{with_first};
 ghost use Rattle.cfn_store.specs.State.{Keeps, IsState, HasRoom, history_of};
 
 use crate::cuts::Cuts;
-use crate::line::Side;
 use crate::peaks::{UNKNOWN, forget_changed};
-use crate::scan::{Extreme, Pin, Scan, Sense, Spot};
 use crate::shelf::Shelf;
 use crate::sums::Sums;
 use cfn_live::LiveSets;
 use cfn_model::{Event, Step};
 use cfn_net::Network;
 use cfn_proof::Events;
+use cfn_scan::{Extreme, Pin, Scan, Sense, Side, Spot};
 use std::alloc::{AllocError, Global};
 
 /// A path of more events has no room in any memory.

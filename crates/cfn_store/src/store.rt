@@ -1,39 +1,36 @@
 //! The store: what a path makes of a network, step by step and back.
 
-ghost use Rattle.std.specs.Prelude.{◌≡◌, ℕ, ◌+◌, ◌-◌, ◌^◌, ◌<◌, ◌≤◌, false, List, [], ◌∷◌, ◌++◌, length, reverse, slice_index, slice_index_or, pos, IsTrue, IfOk, IfSome, OnOk, OnErr, MatchOption};
+ghost use Rattle.std.specs.Prelude.{◌≡◌, ℕ, ◌+◌, ◌-◌, ◌^◌, ◌<◌, ◌≤◌, false, List, [], ◌∷◌, length, reverse, slice_index, slice_index_or, pos, IsTrue, IfOk, IfSome, OnOk, OnErr, MatchOption};
 ghost use Rattle.cfn_model.specs.declared.step.Step.{Step as PathStep};
 ghost use Rattle.cfn_model.specs.declared.step.Step.TheVariants.{Project, Extend, Lift, CutValue, CutTuple};
-ghost use Rattle.cfn_model.specs.declared.step.Event.{Event as PathEvent};
 ghost use Rattle.cfn_model.specs.declared.step.Event.TheVariants.{Did, Took, Refused};
-ghost use Rattle.cfn_model.specs.Network.{Fits, arity, cell, cells, dims_at, variable_at};
+ghost use Rattle.cfn_model.specs.Network.{Fits, arity, cell, variable_at};
 ghost use Rattle.cfn_model.specs.Sums.{floor, unary, residual, is_live, is_live_tuple};
 ghost use Rattle.cfn_model.specs.Steps.{IsValue, IsCell, IsPlace, IsDecision};
 ghost use Rattle.cfn_model.specs.Paths.{RunsAlong, TameAlong};
 ghost use Rattle.cfn_model.specs.Text.{IsSpelledStep};
-ghost use Rattle.cfn_store.specs.Exact.{IsExact, IsExactAlong};
+ghost use Rattle.cfn_scan.specs.Exact.{IsExact, IsExactAlong};
 ghost use Rattle.cfn_live.specs.Sets.{AreLive, live_count};
-ghost use Rattle.cfn_store.specs.declared.scan.Sense.TheVariants.{Least, Greatest};
-ghost use Rattle.cfn_store.specs.Extremes.{NonePicked, IsExtreme, NoneBetween, IsLeastBetween, IsFree, IsNumbered};
-ghost use Rattle.cfn_store.specs.Lines.{IsLine, IsSide};
+ghost use Rattle.cfn_scan.specs.declared.scan.Sense.TheVariants.{Least, Greatest};
+ghost use Rattle.cfn_scan.specs.Extremes.{NonePicked, IsExtreme, NoneBetween, IsLeastBetween, IsFree, IsNumbered};
+ghost use Rattle.cfn_scan.specs.Lines.{IsLine, IsSide};
 ghost use Rattle.cfn_store.specs.Doubts.{AreFreeBetween, AreFreeFrom, IsDoubt, IsLacking, IsSeen};
-ghost use Rattle.cfn_store.specs.Unaries.{AreUnaries};
+ghost use Rattle.cfn_scan.specs.Unaries.{AreUnaries};
 ghost use Rattle.cfn_store.specs.Peaks.{HasPeak, AreLow};
 ghost use Rattle.cfn_store.specs.Shelf.{on_shelf};
-ghost use Rattle.cfn_store.specs.Rooms.{sets_of, IsProjectRoom, IsExtendRoom, IsLiftRoom, IsAbove, IsToExtend};
-ghost use Rattle.cfn_store.specs.Marking.{IsMark, IsBehind, back_at};
+ghost use Rattle.cfn_store.specs.Rooms.{sets_of};
+ghost use Rattle.cfn_store.specs.Marking.{IsBehind, back_at};
 ghost use Rattle.cfn_store.specs.Standing.{history, at_root, with_step, with_side, FitsProject, FitsExtend, FitsLift};
 
 use crate::block::{block_from, step_from};
-use crate::line::{Line, Nearest, Side};
 use crate::mark::Mark;
-use crate::scan::{Extreme, Pin, Sense};
 use crate::shelf::Shelf;
 use crate::state::{State, in_common};
 use crate::supports::{Doubt, Supports, keep, row_of};
-use crate::unaries::Unaries;
-use cfn_model::{Decision, Event, GREATEST, Step};
+use cfn_model::{Decision, Event, Step};
 use cfn_net::{Network, Tables};
 use cfn_proof::{Block, Events, Path};
+use cfn_scan::{Extreme, Line, Nearest, Pin, Sense, Side, Unaries};
 use std::alloc::{AllocError, Global};
 use std::marker::Model;
 
@@ -57,11 +54,6 @@ pub struct Store<'n> {
 
 impl<'n> Model for Store<'n> {
     ghost use Rattle.std.specs.Prelude.{◌≡◌, ◌-◌, length, reverse, take, drop};
-    ghost use Rattle.cfn_live.specs.Sets.{AreLive, live_count};
-    ghost use Rattle.cfn_store.specs.declared.scan.Sense.TheVariants.{Least, Greatest};
-    ghost use Rattle.cfn_store.specs.Extremes.{NonePicked, IsExtreme, NoneBetween, IsLeastBetween, IsFree};
-    ghost use Rattle.cfn_store.specs.Lines.{IsLine};
-    ghost use Rattle.cfn_store.specs.Rooms.{sets_of, IsProjectRoom, IsExtendRoom, IsLiftRoom, IsAbove, IsToExtend};
     ghost use Rattle.cfn_store.specs.Standing.{Standing};
     ghost use Rattle.cfn_store.specs.Events.{steps_in};
     ghost use Rattle.cfn_store.specs.Kept.{IsStore};
@@ -662,71 +654,6 @@ impl<'n> Store<'n> {
             return None;
         }
         Some(self.side(f, place)?.line(value))
-    }
-
-    /// The greatest amount that can be projected there, limited to what has a spelling and keeps costs below 2^64; 0 where
-    /// none can.
-    pub fn project_room(&self, f: u32, place: u32, value: u32) -> u64
-        requires { IsPlace self.now.network f place value }
-        ensures { IsProjectRoom self.now f place value result }
-    {
-        self.network().law_limits();
-        let least = match self.least_residual(f, place, value) {
-            Some(found) => found.cost,
-            None => GREATEST,
-        };
-        let x = self.network().scope(f)[place as usize];
-        GREATEST.min(least).min(self.above(x, value))
-    }
-
-    /// The greatest amount that can be extended there, with the same limits; 0 where none can.
-    pub fn extend_room(&self, f: u32, place: u32, value: u32) -> u64
-        requires { IsPlace self.now.network f place value }
-        ensures { IsExtendRoom self.now f place value result }
-    {
-        self.network().law_limits();
-        let above = match self.greatest_residual(f, place, value) {
-            Some(found) => u64::MAX - found.cost,
-            None => GREATEST,
-        };
-        let x = self.network().scope(f)[place as usize];
-        GREATEST.min(above).min(self.least_unary(x, value))
-    }
-
-    /// The greatest amount that can be lifted from a variable, limited to what has a spelling; 0 where none can.
-    pub fn lift_room(&self, x: u32) -> u64
-        requires { x < length self.now.network.sizes }
-        ensures { IsLiftRoom self.now x result }
-    {
-        let mut room = GREATEST;
-        for value in self.live(x) {
-            room = room.min(self.unary(x, *value));
-        }
-        room
-    }
-
-    /// What a live value's unary cost has above it, below 2^64.
-    fn above(&self, x: u32, value: u32) -> u64
-        requires { IsValue self.now.network x value }
-        ensures { IsAbove self.now x value result }
-    {
-        if self.is_live(x, value) {
-            u64::MAX - self.unary(x, value)
-        } else {
-            GREATEST
-        }
-    }
-
-    /// What a value has to extend, as much as has a spelling where it is not live.
-    fn least_unary(&self, x: u32, value: u32) -> u64
-        requires { IsValue self.now.network x value }
-        ensures { IsToExtend self.now x value result }
-    {
-        if self.is_live(x, value) {
-            self.unary(x, value)
-        } else {
-            GREATEST
-        }
     }
 
     /// Goes from wherever the store stands to the end of a path: back to where the two part, and on from there. An `Err`,

@@ -9,16 +9,16 @@ ghost use Rattle.std.specs.Prelude.{◌≡◌, ℕ, ◌+◌, ◌-◌, ◌*◌, �
 ghost use Rattle.cfn_model.specs.Network.{Network as CostNetwork, arity, dims_at, function_at};
 ghost use Rattle.cfn_model.specs.Sums.{constant, floor, unary};
 ghost use Rattle.cfn_model.specs.declared.step.Event.{Event};
-ghost use Rattle.cfn_store.specs.Exact.{IsExact};
-ghost use Rattle.cfn_store.specs.Unaries.{AreUnaries};
+ghost use Rattle.cfn_scan.specs.Exact.{IsExact};
+ghost use Rattle.cfn_scan.specs.Unaries.{AreUnaries};
 ghost use Rattle.cfn_model.specs.Steps.{IsPlace, IsValue};
 ghost use Rattle.cfn_rows.specs.Jagged.{row_at};
-ghost use Rattle.cfn_store.specs.Shifts.{offset};
+ghost use Rattle.cfn_scan.specs.Shifts.{offset};
 ghost use Rattle.cfn_store.specs.Sums.{IsSums, Moves, Lifts, HasShape, has_more, has_less, width_of};
 
-use crate::unaries::Unaries;
 use cfn_net::Network;
 use cfn_rows::Rows;
+use cfn_scan::Unaries;
 use std::alloc::{AllocError, Global};
 
 #[derive(Drop)]

@@ -3,9 +3,9 @@
 
 ghost use Rattle.std.specs.Prelude.{◌≡◌, ◌*◌, ◌+◌};
 
-use crate::scan::Extreme;
 use cfn_net::Network;
 use cfn_rows::Rows;
+use cfn_scan::Extreme;
 use std::alloc::{AllocError, Global};
 
 /// A live value at a place of a function, and the least residual cost of the live tuples with it, with a tuple that has it;

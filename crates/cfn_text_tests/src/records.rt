@@ -12,31 +12,32 @@ use cfn_recordwrite::write;
 use std::alloc::{AllocError, Global};
 use std::test::Fail;
 
-/// One thing of each kind, the first of them in room that was reserved.
+/// One thing of each kind.
 fn history(alloc: Global) -> Result<History, AllocError> {
+    let tree = split_tree(alloc)?;
     let mut history = History::new(alloc, 100);
-    history.reserve(1)?;
+    history.reserve(5)?;
     history.push_reserved(Happened::Took {
         worker: 0,
         want: 2,
         leaf: 0,
         grant: 1,
     });
-    history.push(Happened::Gave {
+    history.push_reserved(Happened::Gave {
         worker: 0,
         leaf: 0,
         grant: 1,
         threshold: 9,
         seen: 8,
-        tree: split_tree(alloc)?,
-    })?;
-    history.push(Happened::Freed {
+        tree,
+    });
+    history.push_reserved(Happened::Freed {
         worker: 3,
         leaf: 2,
         grant: 64,
-    })?;
-    history.push(Happened::CalledBack)?;
-    history.push(Happened::Swept { seen: 7 })?;
+    });
+    history.push_reserved(Happened::CalledBack);
+    history.push_reserved(Happened::Swept { seen: 7 });
     Ok(history)
 }
 

@@ -12,7 +12,7 @@ use Rattle.cfn_model.specs.Sums.{when, floor, unary, residual, is_live, is_cut, 
 use Rattle.cfn_model.specs.Steps.{IsPlace, IsValue, AllInRange}
 use Rattle.cfn_model.proofs.CallerLemmas.{eqb_same, eqb_other, fits_at}
 use Rattle.cfn_store.specs.Standing.{Standing, history}
-use Rattle.cfn_store.specs.Extremes.{IsPicked}
+use Rattle.cfn_scan.specs.Extremes.{IsPicked}
 use Rattle.cfn_trim.specs.Leaves.{IsLeaf}
 use Rattle.cfn_trim.specs.Shifting.{IsShutting, IsLifted, IsProjected, IsMade}
 use Rattle.cfn_live.specs.Sets.{AreLive}

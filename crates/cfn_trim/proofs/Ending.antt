@@ -8,7 +8,7 @@ use Rattle.cfn_model.specs.Network.{Network, IsNetwork, restrict, scope_at, tota
 use Rattle.cfn_model.specs.Sums.{floor, unary, residual}
 use Rattle.cfn_model.specs.Steps.{AllInRange}
 use Rattle.cfn_model.specs.Laws.{Equivalence, sum_below}
-use Rattle.cfn_store.specs.Exact.{AllInPlace, IsExact, IsExactAlong}
+use Rattle.cfn_scan.specs.Exact.{AllInPlace, IsExact, IsExactAlong}
 use Rattle.cfn_store.specs.Standing.{Standing, history}
 use Rattle.cfn_trim.specs.Shifting.{IsShutting}
 

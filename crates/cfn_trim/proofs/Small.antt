@@ -6,7 +6,7 @@ use Rattle.cfn_model.specs.declared.step.Event.TheVariants.{Did}
 use Rattle.cfn_model.specs.Network.{Network}
 use Rattle.cfn_model.specs.Steps.{after}
 use Rattle.cfn_model.specs.Paths.{HasSmallCosts, TameBlock}
-use Rattle.cfn_store.specs.Exact.{IsExactAlong}
+use Rattle.cfn_scan.specs.Exact.{IsExactAlong}
 
 small_here : (P : Network) (path : List Event) → IsExactAlong P path → HasSmallCosts P path
 small_here P [] is = is.small

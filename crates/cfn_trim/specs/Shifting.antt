@@ -8,7 +8,7 @@ use Rattle.cfn_model.specs.Network.{Network, restrict, scope_at}
 use Rattle.cfn_model.specs.Sums.{lifted, floor, unary_by, unary, residual_by, residual, is_live}
 use Rattle.cfn_model.specs.Steps.{CanProject, CanLift}
 use Rattle.cfn_store.specs.Standing.{Standing, history, with_step}
-use Rattle.cfn_store.specs.Extremes.{IsPicked}
+use Rattle.cfn_scan.specs.Extremes.{IsPicked}
 use Rattle.cfn_trim.specs.Leaves.{IsLeaf, AddsShifts}
 
 -- Where the floor is still below k, the unary costs of the assignment's values at the variables below x are 0, and so are

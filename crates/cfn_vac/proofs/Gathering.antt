@@ -14,7 +14,7 @@ use Rattle.cfn_model.specs.Steps.{IsPlace, IsValue, CanProject}
 use Rattle.cfn_net.proofs.CallerLemmas.{get_or-dims}
 use Rattle.cfn_gain.proofs.CallerLemmas.{history_step}
 use Rattle.cfn_store.specs.Standing.{Standing, history, with_step}
-use Rattle.cfn_store.proofs.CallerLemmas.{tuple_at}
+use Rattle.cfn_scan.proofs.CallerLemmas.{tuple_at}
 use Rattle.cfn_consistency.specs.declared.deletion.Deletion.{Deletion}
 use Rattle.cfn_consistency.specs.declared.deletion.Source.{Source}
 use Rattle.cfn_consistency.specs.Virtual.{without, without_sources, Deletes, DeletesBefore, IsNeeded}

@@ -6,7 +6,7 @@ use Rattle.cfn_model.specs.declared.step.Event.{Event}
 use Rattle.cfn_model.specs.Network.{Network, cell, arity, variable_at, dims_at}
 use Rattle.cfn_model.specs.Sums.{residual}
 use Rattle.cfn_model.specs.Steps.{IsPlace}
-use Rattle.cfn_store.specs.Extremes.{IsPicked}
+use Rattle.cfn_scan.specs.Extremes.{IsPicked}
 use Rattle.cfn_store.specs.Standing.{Standing, history}
 use Rattle.cfn_consistency.specs.declared.deletion.Deletion.{Deletion}
 use Rattle.cfn_consistency.specs.declared.deletion.Source.{Source}

@@ -2,9 +2,9 @@ use Rattle.std.proofs.Common.{◌≡◌, false, sym, ap, ◌∙◌, subst}
 use Rattle.std.specs.Prelude.{slice_index, IsTrue}
 use Rattle.cfn_model.specs.Network.{variable_at}
 use Rattle.cfn_model.specs.Sums.{is_live}
-use Rattle.cfn_store.specs.Lines.{IsLine}
+use Rattle.cfn_scan.specs.Lines.{IsLine}
 use Rattle.cfn_store.specs.Standing.{history}
-use Rattle.cfn_store.proofs.CallerLemmas.{side_line}
+use Rattle.cfn_scan.proofs.CallerLemmas.{side_line}
 use Rattle.cfn_dac.proofs.Spreading.{share_dead}
 use Rattle.cfn_dac.proofs.spread.share.Goals as goal
 

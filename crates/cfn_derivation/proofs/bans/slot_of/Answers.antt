@@ -3,8 +3,8 @@ use Rattle.std.proofs.lemmas.List.{get_or-take, length-take-le}
 use Rattle.std.specs.Prelude.{slice_index, take}
 use Rattle.cfn_model.specs.Network.{dims_at, scope_at}
 use Rattle.cfn_net.proofs.CallerLemmas.{get_or-dims, length-dims}
-use Rattle.cfn_store.specs.Shifts.{offset}
-use Rattle.cfn_store.proofs.CallerLemmas.{offset_next, offset_least}
+use Rattle.cfn_scan.specs.Shifts.{offset}
+use Rattle.cfn_scan.proofs.CallerLemmas.{offset_next, offset_least}
 use Rattle.cfn_derivation.proofs.bans.slot_of.Goals as goal
 
 -- the size that comes next is that of the place, which is before the one that is asked for

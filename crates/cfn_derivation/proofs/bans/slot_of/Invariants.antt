@@ -1,6 +1,6 @@
 use Rattle.std.proofs.Common.{◌≡◌, ◌+◌}
 use Rattle.cfn_model.specs.Network.{dims_at}
-use Rattle.cfn_store.specs.Shifts.{offset}
+use Rattle.cfn_scan.specs.Shifts.{offset}
 use Rattle.cfn_derivation.proofs.bans.slot_of.Given as goal
 
 abbrev pub invariant-loop-x : goal.invariant-loop-x

@@ -4,10 +4,10 @@ use Rattle.std.specs.Prelude.{slice_index}
 use Rattle.cfn_model.specs.Network.{IsNetwork, variable_at}
 use Rattle.cfn_consistency.specs.Virtual.{HasCheapTuple}
 use Rattle.cfn_live.specs.Sets.{AreLive}
-use Rattle.cfn_store.specs.Lines.{IsLine}
+use Rattle.cfn_scan.specs.Lines.{IsLine}
 use Rattle.cfn_store.specs.Rooms.{sets_of}
 use Rattle.cfn_store.specs.Standing.{history}
-use Rattle.cfn_store.proofs.CallerLemmas.{side_line}
+use Rattle.cfn_scan.proofs.CallerLemmas.{side_line}
 use Rattle.cfn_derivation.proofs.Costing.{seen_side, listed_place, all_listed}
 use Rattle.cfn_derivation.proofs.costs.all_cost_less.Goals as goal
 

@@ -3,7 +3,7 @@ use Rattle.cfn_model.specs.declared.step.Event.TheVariants.{Did}
 use Rattle.cfn_model.specs.Steps.{InRange, after}
 use Rattle.cfn_due.specs.Going.{GoesArc}
 use Rattle.cfn_store.specs.Standing.{history}
-use Rattle.cfn_store.proofs.CallerLemmas.{exact_here}
+use Rattle.cfn_scan.proofs.CallerLemmas.{exact_here}
 use Rattle.cfn_derivation.specs.Watched.{TouchedAre, CostlyAre, Grows, Rises}
 use Rattle.cfn_derivation.proofs.Noting.{step_in_range, next_after, debts_after, whole_block, touched_on, costly_on}
 use Rattle.cfn_derivation.proofs.notes.note_steps.Goals as goal

@@ -1,8 +1,8 @@
 use Rattle.std.proofs.Common.{sym, subst}
 use Rattle.cfn_model.specs.Network.{IsNetwork}
-use Rattle.cfn_store.specs.Lines.{IsLine}
+use Rattle.cfn_scan.specs.Lines.{IsLine}
 use Rattle.cfn_store.specs.Standing.{history}
-use Rattle.cfn_store.proofs.CallerLemmas.{side_line}
+use Rattle.cfn_scan.proofs.CallerLemmas.{side_line}
 use Rattle.cfn_dac.proofs.Planning.{least_zero}
 use Rattle.cfn_dac.proofs.binary.Binary.least.Goals as goal
 

@@ -1,7 +1,7 @@
 use Rattle.std.proofs.Common.{◌<◌, length, sym, subst}
 use Rattle.cfn_model.specs.Network.{IsNetwork}
 use Rattle.cfn_store.specs.Standing.{history}
-use Rattle.cfn_store.specs.Unaries.{AreUnaries}
+use Rattle.cfn_scan.specs.Unaries.{AreUnaries}
 use Rattle.cfn_dac.proofs.binary.Binary.of.Goals as goal
 
 pub unaries-requires : goal.unaries-requires

@@ -7,7 +7,9 @@ use Rattle.cfn_dive.specs.Deciding.{IsByRule}
 use Rattle.cfn_dive.specs.Diving.{IsSettledOrSpent}
 use Rattle.cfn_low.specs.Holding.{Holding}
 use Rattle.cfn_proof.specs.Nodes.{node_at}
+use Rattle.cfn_dive.specs.Blaming.{IsWeighed}
 use Rattle.cfn_dive.proofs.Naming.{split_where_ok, named_before}
+use Rattle.cfn_dive.proofs.Blaming.{on_ok, weighed_at_once, weighed_dead, weighed_alive}
 use Rattle.cfn_dive.proofs.Onwards.{diving_lower, closes_at_once, from_settled, from_spent, settled_alive, spent_alive}
 use Rattle.cfn_dive.proofs.parts.Parts.expand.Goals as goal
 use Rattle.cfn_dive.proofs.parts.Parts.expand.Goals.{in-Settled, in-Spent}

@@ -3,7 +3,7 @@ use Rattle.std.proofs.lemmas.List.{length-drop}
 use Rattle.cfn_model.specs.declared.step.Event.TheVariants.{Did}
 use Rattle.cfn_model.specs.Network.{IsNetwork}
 use Rattle.cfn_model.specs.Steps.{InRange}
-use Rattle.cfn_store.proofs.CallerLemmas.{exact_here}
+use Rattle.cfn_scan.proofs.CallerLemmas.{exact_here}
 use Rattle.cfn_store.specs.Standing.{history}
 use Rattle.cfn_due.specs.Going.{IsNoted, AreNoted}
 use Rattle.cfn_due.specs.Remembered.{IsLast}

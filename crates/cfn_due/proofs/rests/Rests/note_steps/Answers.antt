@@ -4,7 +4,7 @@ use Rattle.std.specs.Prelude.{IfSome}
 use Rattle.cfn_model.specs.declared.step.Event.TheVariants.{Did}
 use Rattle.cfn_model.specs.Network.{IsNetwork}
 use Rattle.cfn_model.specs.Steps.{InRange}
-use Rattle.cfn_store.proofs.CallerLemmas.{exact_here}
+use Rattle.cfn_scan.proofs.CallerLemmas.{exact_here}
 use Rattle.cfn_store.specs.Standing.{history}
 use Rattle.cfn_due.specs.Going.{GoesFull, GoesWithOne}
 use Rattle.cfn_due.proofs.Noting.{step_in_range}

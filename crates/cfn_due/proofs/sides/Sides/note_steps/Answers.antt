@@ -1,7 +1,7 @@
 use Rattle.std.proofs.Common.{◌-◌, drop, take_all, sym, subst, arith}
 use Rattle.std.proofs.lemmas.List.{length-drop}
 use Rattle.cfn_model.specs.Steps.{InRange}
-use Rattle.cfn_store.proofs.CallerLemmas.{exact_here}
+use Rattle.cfn_scan.proofs.CallerLemmas.{exact_here}
 use Rattle.cfn_store.specs.Standing.{history}
 use Rattle.cfn_due.proofs.Noting.{step_in_range}
 use Rattle.cfn_due.specs.Siding.{AreAsked}

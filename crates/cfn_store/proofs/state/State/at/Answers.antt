@@ -1,11 +1,9 @@
 use Rattle.std.proofs.Common.{List, length, ap, subst, ◌∙◌}
 use Rattle.cfn_model.specs.Network.{Fits, dims}
 use Rattle.cfn_store.specs.State.{history_of}
-use Rattle.cfn_store.specs.Reading.{start}
-use Rattle.cfn_store.specs.Scanning.{HasDigits, IsAt}
-use Rattle.cfn_store.proofs.Along.{exact_here}
-use Rattle.cfn_store.proofs.Extremes.{told}
-use Rattle.cfn_store.proofs.Scans.{small_word}
+use Rattle.cfn_scan.specs.Reading.{start}
+use Rattle.cfn_scan.specs.Scanning.{HasDigits, IsAt}
+use Rattle.cfn_scan.proofs.CallerLemmas.{exact_here, told, small_word}
 use Rattle.cfn_store.proofs.state.State.at.Goals as goal
 
 pub returns : goal.returns

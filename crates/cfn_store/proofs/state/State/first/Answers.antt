@@ -1,19 +1,17 @@
 use Rattle.std.proofs.Common.{◌≡◌, ℕ, List, subst, MatchOption, Option}
 use Rattle.cfn_model.specs.Network.{Network, scope_at}
 use Rattle.cfn_model.specs.Steps.{IsPlace}
-use Rattle.cfn_store.specs.declared.scan.Extreme.{Extreme}
-use Rattle.cfn_store.specs.declared.scan.Pin.{Pin}
-use Rattle.cfn_store.specs.declared.scan.Scan.{Scan}
-use Rattle.cfn_store.specs.declared.scan.Sense.{Sense}
+use Rattle.cfn_scan.specs.declared.scan.Extreme.{Extreme}
+use Rattle.cfn_scan.specs.declared.scan.Pin.{Pin}
+use Rattle.cfn_scan.specs.declared.scan.Scan.{Scan}
+use Rattle.cfn_scan.specs.declared.scan.Sense.{Sense}
 use Rattle.cfn_store.specs.declared.state.State.{State}
-use Rattle.cfn_store.specs.Exact.{IsExact}
+use Rattle.cfn_scan.specs.Exact.{IsExact}
 use Rattle.cfn_store.specs.State.{history_of}
-use Rattle.cfn_store.specs.Reading.{Reads, start}
-use Rattle.cfn_store.specs.Scanning.{NoneMet, IsFound}
-use Rattle.cfn_store.specs.Extremes.{NoneBetween, IsExtremeBetween}
-use Rattle.cfn_store.proofs.Along.{exact_here}
-use Rattle.cfn_store.proofs.Extremes.{extreme}
-use Rattle.cfn_store.proofs.Scans.{small_word}
+use Rattle.cfn_scan.specs.Reading.{Reads, start}
+use Rattle.cfn_scan.specs.Scanning.{NoneMet, IsFound}
+use Rattle.cfn_scan.specs.Extremes.{NoneBetween, IsExtremeBetween}
+use Rattle.cfn_scan.proofs.CallerLemmas.{exact_here, extreme, small_word}
 use Rattle.cfn_store.proofs.state.State.first.Goals as goal
 
 -- what a scan found is what is asked for

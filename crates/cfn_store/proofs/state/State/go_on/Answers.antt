@@ -1,6 +1,6 @@
 use Rattle.std.proofs.Common.{◌∷◌, ◌++◌, length, reverse, subst, sym, ap, ◌∙◌, arith, length-append}
 use Rattle.cfn_store.specs.Events.{with_first}
-use Rattle.cfn_store.specs.Exact.{IsExactAlong}
+use Rattle.cfn_scan.specs.Exact.{IsExactAlong}
 use Rattle.cfn_store.proofs.Onward.{taken_out, one_made}
 use Rattle.cfn_store.proofs.Paths.{exact_next}
 use Rattle.cfn_store.proofs.state.State.go_on.Goals as goal

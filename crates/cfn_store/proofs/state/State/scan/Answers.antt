@@ -1,5 +1,5 @@
 use Rattle.std.proofs.Common.{refl}
-use Rattle.cfn_store.proofs.Extremes.{state_reads}
+use Rattle.cfn_store.proofs.Reading.{state_reads}
 use Rattle.cfn_store.proofs.state.State.scan.Goals as goal
 
 pub returns-clause-reads : goal.returns-clause-reads

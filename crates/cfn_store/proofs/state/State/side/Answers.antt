@@ -1,11 +1,10 @@
 use Rattle.std.proofs.Common.{◌≡◌, ℕ, ◌<◌, arith, refl, subst, sym, ap, ◌∙◌, length, slice_index}
 use Rattle.cfn_model.specs.Network.{Network, IsNetwork, variable_at}
-use Rattle.cfn_store.specs.declared.scan.Pin.{Pin}
-use Rattle.cfn_store.specs.Reading.{MayAsk, start}
-use Rattle.cfn_store.specs.Scanning.{IsSpot}
+use Rattle.cfn_scan.specs.declared.scan.Pin.{Pin}
+use Rattle.cfn_scan.specs.Reading.{MayAsk, start}
+use Rattle.cfn_scan.specs.Scanning.{IsSpot}
 use Rattle.cfn_store.specs.State.{history_of}
-use Rattle.cfn_store.proofs.Along.{exact_here}
-use Rattle.cfn_store.proofs.Lines.{two_of}
+use Rattle.cfn_scan.proofs.CallerLemmas.{exact_here, two_of}
 use Rattle.cfn_store.proofs.state.State.side.Goals as goal
 
 may_ask_zero : (P : Network) (f : ℕ) (pin : Pin) → IsNetwork P → f < length P.functions → pin.value ≡ 0 → MayAsk P f pin

@@ -1,6 +1,6 @@
 use Rattle.std.proofs.Common.{◌∙◌, ◌++◌, length, take, ap, sym, subst, reverse, arith}
 use Rattle.cfn_store.specs.Events.{with_first}
-use Rattle.cfn_store.specs.Exact.{IsExactAlong}
+use Rattle.cfn_scan.specs.Exact.{IsExactAlong}
 use Rattle.cfn_store.specs.Standing.{Standing}
 use Rattle.cfn_store.proofs.Stores.{at_end}
 use Rattle.cfn_store.proofs.store.Store.go_along.Goals as goal

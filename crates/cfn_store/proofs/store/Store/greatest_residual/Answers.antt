@@ -1,7 +1,7 @@
 use Rattle.std.proofs.Common.{MatchOption}
-use Rattle.cfn_store.specs.Extremes.{NonePicked, IsExtreme}
-use Rattle.cfn_store.specs.declared.scan.Sense.TheVariants.{Greatest}
-use Rattle.cfn_store.proofs.Extremes.{once}
+use Rattle.cfn_scan.specs.Extremes.{NonePicked, IsExtreme}
+use Rattle.cfn_scan.specs.declared.scan.Sense.TheVariants.{Greatest}
+use Rattle.cfn_scan.proofs.CallerLemmas.{once}
 use Rattle.cfn_store.proofs.Stores.{over}
 use Rattle.cfn_store.proofs.store.Store.greatest_residual.Goals as goal
 

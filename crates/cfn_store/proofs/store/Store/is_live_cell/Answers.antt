@@ -1,8 +1,8 @@
 use Rattle.std.proofs.Common.{◌≡◌, List, ◌∙◌}
 use Rattle.cfn_model.specs.Sums.{is_live_tuple}
-use Rattle.cfn_store.specs.Extremes.{IsNumbered}
+use Rattle.cfn_scan.specs.Extremes.{IsNumbered}
 use Rattle.cfn_store.specs.State.{history_of}
-use Rattle.cfn_store.proofs.Extremes.{whether}
+use Rattle.cfn_scan.proofs.CallerLemmas.{whether}
 use Rattle.cfn_store.proofs.Stores.{over}
 use Rattle.cfn_store.proofs.store.Store.is_live_cell.Goals as goal
 

@@ -1,5 +1,5 @@
 use Rattle.std.proofs.Common.{subst, sym}
-use Rattle.cfn_store.specs.Exact.{IsExactAlong}
+use Rattle.cfn_scan.specs.Exact.{IsExactAlong}
 use Rattle.cfn_store.specs.Standing.{Standing, history}
 use Rattle.cfn_store.proofs.Stores.{history_is}
 use Rattle.cfn_store.proofs.store.Store.law_exact.Goals as goal

@@ -1,13 +1,13 @@
 use Rattle.std.proofs.Common.{◌+◌, ap, ◌∙◌, subst, sym, Option}
 use Rattle.std.specs.Prelude.{slice_index, MatchOption}
-use Rattle.cfn_store.specs.Extremes.{NonePicked, IsExtreme}
-use Rattle.cfn_store.specs.declared.scan.Extreme.{Extreme}
-use Rattle.cfn_store.specs.declared.scan.Sense.TheVariants.{Least}
+use Rattle.cfn_scan.specs.Extremes.{NonePicked, IsExtreme}
+use Rattle.cfn_scan.specs.declared.scan.Extreme.{Extreme}
+use Rattle.cfn_scan.specs.declared.scan.Sense.TheVariants.{Least}
 use Rattle.cfn_model.specs.Network.{IsNetwork, variable_at}
 use Rattle.cfn_live.specs.Sets.{AreLive}
 use Rattle.cfn_store.specs.Rooms.{sets_of}
 use Rattle.cfn_store.specs.Standing.{history}
-use Rattle.cfn_store.specs.Nearest.{tuple_of}
+use Rattle.cfn_scan.specs.Nearest.{tuple_of}
 use Rattle.cfn_store.proofs.Least.{found_more, found_all, nothing_found, stands_along}
 use Rattle.cfn_store.proofs.store.Store.least_along.Goals as goal
 

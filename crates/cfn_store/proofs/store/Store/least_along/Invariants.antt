@@ -1,5 +1,5 @@
 use Rattle.cfn_store.specs.Standing.{history}
-use Rattle.cfn_store.specs.Nearest.{tuple_of}
+use Rattle.cfn_scan.specs.Nearest.{tuple_of}
 use Rattle.cfn_store.proofs.Least.{FoundTo}
 use Rattle.cfn_store.proofs.store.Store.least_along.Given as goal
 

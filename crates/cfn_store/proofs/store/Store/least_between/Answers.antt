@@ -1,6 +1,6 @@
 use Rattle.std.proofs.Common.{MatchOption}
-use Rattle.cfn_store.specs.Extremes.{NoneBetween, IsLeastBetween}
-use Rattle.cfn_store.proofs.Extremes.{least}
+use Rattle.cfn_scan.specs.Extremes.{NoneBetween, IsLeastBetween}
+use Rattle.cfn_scan.proofs.CallerLemmas.{least}
 use Rattle.cfn_store.proofs.Stores.{over}
 use Rattle.cfn_store.proofs.store.Store.least_between.Goals as goal
 

@@ -1,9 +1,9 @@
 use Rattle.std.proofs.Common.{◌≡◌, sym, ap, ◌∙◌, subst, slice_index, IsTrue}
 use Rattle.cfn_model.specs.Network.{variable_at}
 use Rattle.cfn_model.specs.Sums.{is_live}
-use Rattle.cfn_store.specs.Lines.{IsLine}
+use Rattle.cfn_scan.specs.Lines.{IsLine}
 use Rattle.cfn_store.specs.Standing.{history}
-use Rattle.cfn_store.proofs.Sides.{side_line}
+use Rattle.cfn_scan.proofs.CallerLemmas.{side_line}
 use Rattle.cfn_store.proofs.Stores.{over}
 use Rattle.cfn_store.proofs.store.Store.line.Goals as goal
 

@@ -1,6 +1,6 @@
 use Rattle.std.proofs.Common.{◌∷◌, subst, sym, ap, ◌∙◌, arith}
 use Rattle.cfn_model.specs.declared.step.Event.TheVariants.{Did}
-use Rattle.cfn_store.specs.Exact.{IsExact}
+use Rattle.cfn_scan.specs.Exact.{IsExact}
 use Rattle.cfn_store.specs.Standing.{Standing, history, with_step}
 use Rattle.cfn_store.proofs.Stores.{history_is, step_kept, step_view}
 use Rattle.cfn_store.proofs.store.Store.make.Goals as goal

@@ -1,6 +1,6 @@
 use Rattle.std.proofs.Common.{reverse, subst, sym}
 use Rattle.cfn_model.specs.Network.{IsNetwork}
-use Rattle.cfn_store.specs.Exact.{IsExactAlong}
+use Rattle.cfn_scan.specs.Exact.{IsExactAlong}
 use Rattle.cfn_store.proofs.Paths.{exact_path}
 use Rattle.cfn_store.proofs.store.Store.replay.Goals as goal
 

@@ -2,10 +2,9 @@ use Rattle.std.proofs.Common.{◌≡◌, ◌<◌, false, List, length, ap, arith
 use Rattle.std.specs.Prelude.{pos, IsTrue}
 use Rattle.cfn_model.specs.Network.{arity}
 use Rattle.cfn_model.specs.Sums.{residual, is_live_tuple}
-use Rattle.cfn_store.specs.Extremes.{IsNumbered}
+use Rattle.cfn_scan.specs.Extremes.{IsNumbered}
 use Rattle.cfn_store.specs.State.{history_of}
-use Rattle.cfn_store.proofs.Along.{exact_here}
-use Rattle.cfn_store.proofs.Extremes.{live_cost, none_there, one_there, nothing_moved}
+use Rattle.cfn_scan.proofs.CallerLemmas.{exact_here, live_cost, none_there, one_there, nothing_moved}
 use Rattle.cfn_store.proofs.Stores.{over}
 use Rattle.cfn_store.proofs.store.Store.residual.Goals as goal
 

@@ -1,6 +1,6 @@
 use Rattle.std.proofs.Common.{◌≡◌, ap, sym, ◌∙◌, length, arith}
 use Rattle.cfn_model.specs.Network.{arity}
-use Rattle.cfn_store.specs.Lines.{IsSide}
+use Rattle.cfn_scan.specs.Lines.{IsSide}
 use Rattle.cfn_store.proofs.Stores.{over}
 use Rattle.cfn_store.proofs.store.Store.side.Goals as goal
 

@@ -1,5 +1,5 @@
 use Rattle.std.proofs.Common.{◌∷◌, subst, sym, ap, ◌∙◌, arith}
-use Rattle.cfn_store.specs.Exact.{IsExact}
+use Rattle.cfn_scan.specs.Exact.{IsExact}
 use Rattle.cfn_store.specs.Kept.{IsStore}
 use Rattle.cfn_store.specs.Standing.{Standing, history, with_side}
 use Rattle.cfn_store.proofs.Stores.{view_of, history_is, side_kept, side_view}

@@ -1,8 +1,8 @@
 use Rattle.std.proofs.Common.{◌<◌, length, sym, subst}
 use Rattle.cfn_store.specs.Standing.{Standing}
 use Rattle.cfn_store.specs.State.{history_of}
-use Rattle.cfn_store.specs.Unaries.{AreUnaries}
-use Rattle.cfn_store.proofs.Along.{exact_here}
+use Rattle.cfn_scan.specs.Unaries.{AreUnaries}
+use Rattle.cfn_scan.proofs.CallerLemmas.{exact_here}
 use Rattle.cfn_store.proofs.Stores.{over}
 use Rattle.cfn_store.proofs.store.Store.unaries.Goals as goal
 

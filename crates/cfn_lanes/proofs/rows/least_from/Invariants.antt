@@ -1,6 +1,0 @@
-use Rattle.cfn_lanes.specs.Rows.{IsLeastOpen}
-use Rattle.cfn_lanes.proofs.rows.least_from.Given as goal
-
--- what was found is of the places so far
-abbrev pub invariant-loop-i : goal.invariant-loop-i
-invariant-loop-i l = IsLeastOpen l.i l.row l.best

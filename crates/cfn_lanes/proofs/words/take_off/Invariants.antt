@@ -1,7 +1,0 @@
-use Rattle.std.proofs.Common.{◌≡◌, ◌++◌, map, take, drop}
-use Rattle.cfn_lanes.specs.Words.{less}
-use Rattle.cfn_lanes.proofs.words.take_off.Given as goal
-
--- the words so far are changed, and the others are as they were
-abbrev pub invariant-loop-word : goal.invariant-loop-word
-invariant-loop-word l = l.words ≡ map (less l.amount) (take l.word-index l.initial.words) ++ drop l.word-index l.initial.words

@@ -1,0 +1,11 @@
+pub mod Words
+pub mod Rows
+pub mod Wrapped
+pub mod Shifts
+pub mod Exact
+pub mod Unaries
+pub mod Scanning
+pub mod Reading
+pub mod Extremes
+pub mod Lines
+pub mod Nearest

@@ -1,5 +1,0 @@
-use Rattle.cfn_store.proofs.Scans.{Tails}
-use Rattle.cfn_store.proofs.scan.Scan.tail.Given as goal
-
-abbrev pub invariant-loop-x : goal.invariant-loop-x
-invariant-loop-x l = Tails l.self l.rest l.initial.end l.x-index l.tuples l.end

@@ -1,7 +1,0 @@
--- The tuple that costs least of those that were looked at along a line.
-use Rattle.std.specs.Prelude.{Option, Some, None, if◌then◌else◌}
-use Rattle.cfn_store.specs.declared.line.Nearest.{Nearest}
-use Rattle.cfn_store.specs.declared.scan.Extreme.{Extreme}
-
-abbrev pub tuple_of : Nearest → Option Extreme
-tuple_of nearest = if nearest.is_found then Some (record { cost = nearest.cost; cell = nearest.cell }) else None
