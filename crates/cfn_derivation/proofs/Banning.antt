@@ -6,8 +6,7 @@ use Rattle.cfn_model.specs.Network.{Function, Network, no_function, scope_at, di
 use Rattle.cfn_model.specs.Steps.{IsPlace}
 use Rattle.cfn_net.proofs.CallerLemmas.{length-dims}
 use Rattle.cfn_rows.specs.Jagged.{row_at}
-use Rattle.cfn_scan.specs.Shifts.{offset}
-use Rattle.cfn_store.specs.Sums.{width_of}
+use Rattle.cfn_scan.specs.Shifts.{offset, width_of}
 use Rattle.cfn_derivation.specs.Banned.{Banning, flag_at, bans_of, HasFlags, NoneBanned, IsBannedBy}
 use Rattle.cfn_scan.proofs.CallerLemmas.{offset_below, offset_apart}
 

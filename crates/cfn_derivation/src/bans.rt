@@ -1,16 +1,14 @@
 //! What may not be a reason for a deletion: a flag for each value, and one for each value at each place of each function, whose row
 //! has the values of its places one behind another.
 
-ghost use Rattle.std.specs.Prelude.{◌≡◌, ℕ, ◌+◌, ◌<◌, ◌≤◌, ◌⊎◌, true, false, List, length, map, slice_index_or, IfOk, IfSome, IsTrue, IsFalse};
-ghost use Rattle.cfn_model.specs.Network.{arity, dims_at, function_at};
+ghost use Rattle.std.specs.Prelude.{◌≡◌, ℕ, ◌<◌, true, false, length, slice_index_or, IfOk, IsFalse};
 ghost use Rattle.cfn_model.specs.Steps.{IsValue, IsPlace};
 ghost use Rattle.cfn_rows.specs.Jagged.{row_at};
-ghost use Rattle.cfn_scan.specs.Shifts.{offset};
-ghost use Rattle.cfn_store.specs.Sums.{width_of};
 ghost use Rattle.cfn_derivation.specs.Banned.{IsBannedOwn, IsBannedBy, NoneBanned, flag_at, bans_of};
 
 use cfn_net::Network;
 use cfn_rows::Rows;
+use cfn_scan::{slot_of, widths};
 use std::alloc::{AllocError, Global};
 use std::marker::Model;
 
@@ -93,44 +91,6 @@ impl<'n> Bans<'n> {
         lower_all(&mut self.own);
         lower_all(&mut self.by);
     }
-}
-
-/// How many flags each function's row has. An `Err` is want of memory, or of numbers below 2^32.
-fn widths(alloc: Global, network: &Network) -> Result<Vec<u32>, AllocError>
-    ensures { IfOk result (λ widths. widths.items ≡ map (width_of network.now) network.now.functions) }
-{
-    let mut widths = Vec::with_capacity(alloc, network.functions() as usize)?;
-    for f in 0..network.functions() {
-        widths.push(width(network, f).ok_or(AllocError)?)?;
-    }
-    Ok(widths)
-}
-
-/// How many flags a function's row has; `None` where that is 2^32 or more.
-fn width(network: &Network, f: u32) -> Option<u32>
-    requires { f < length network.now.functions }
-    ensures { IfSome result (λ width. width ≡ width_of network.now (function_at network.now f)) }
-{
-    network.law_limits();
-    let mut width: u32 = 0;
-    for x in network.scope(f) {
-        width = width.checked_add(network.size(*x))?;
-    }
-    Some(width)
-}
-
-/// Where a value of a place stands in a function's row, which has so many flags.
-fn slot_of(network: &Network, f: u32, place: u32, value: u32, width: usize) -> usize
-    requires place { IsPlace network.now f place value }
-    requires width { width ≡ offset (dims_at network.now f) (arity network.now f) }
-    ensures { result ≡ offset (dims_at network.now f) place + value }
-{
-    network.law_limits();
-    let mut slot = value as usize;
-    for x in &network.scope(f)[..place as usize] {
-        slot += network.size(*x) as usize;
-    }
-    slot
 }
 
 /// Takes down all flags.

@@ -6,6 +6,7 @@
 //! - `judging` has whole texts, and what the checker answers to each, in one table.
 //! - `lists` has the same of lists of the cheapest assignments, and `hostile` such texts of hostile content.
 //! - `reading` has texts, and what the reader of certificates tells of each line.
+//! - `texts` has texts that are read into trees, and texts that are refused; `counts` counts a tree's nodes.
 //! - `trees` has trees that are kept of certificates, `merging` trees that are joined, and `beginnings` searches' beginnings;
 //!   `samples` has their networks and certificates.
 #![tactic(auto)]
@@ -14,6 +15,8 @@
 mod acting;
 #[cfg(test)]
 mod beginnings;
+#[cfg(test)]
+mod counts;
 #[cfg(test)]
 mod deciding;
 #[cfg(test)]
@@ -32,5 +35,7 @@ mod reading;
 mod samples;
 #[cfg(test)]
 mod stepping;
+#[cfg(test)]
+mod texts;
 #[cfg(test)]
 mod trees;

@@ -1,45 +1,11 @@
 //! Trees that are kept of certificates, in their own network and in another.
 
+use crate::counts::{Counts, count_nodes};
 use crate::samples::{TINY, TRI, tiny, tri};
 use cfn_certread::read;
 use cfn_net::{Network, Tables};
-use cfn_proof::{End, NodeId, Tree};
 use cfn_rebase::keep;
 use std::test::Fail;
-
-/// How many nodes of a tree are open leaves, closed leaves and splits, and how many steps they have.
-#[derive(Clone, Copy, PartialEq, Eq)]
-struct Counts {
-    open: u64,
-    closed: u64,
-    split: u64,
-    steps: u64,
-}
-
-/// Counts the nodes of a tree.
-fn count_nodes(tree: &Tree) -> Counts {
-    let mut counts = Counts {
-        open: 0,
-        closed: 0,
-        split: 0,
-        steps: 0,
-    };
-    for number in 0..tree.len() {
-        let Ok(number) = u32::try_from(number) else {
-            return counts;
-        };
-        let node = tree.node(NodeId { number });
-        for _step in node.block.cursor() {
-            counts.steps = counts.steps.saturating_add(1);
-        }
-        match node.end {
-            End::Free => counts.open = counts.open.saturating_add(1),
-            End::Shut => counts.closed = counts.closed.saturating_add(1),
-            End::Split { .. } => counts.split = counts.split.saturating_add(1),
-        }
-    }
-    counts
-}
 
 /// The counts of a text's tree, and of what is kept of it in a network at a threshold.
 fn kept(

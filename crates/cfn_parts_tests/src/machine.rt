@@ -85,21 +85,13 @@ fn split_root_is_given(rt: HostRuntime) -> Result<(), Fail> {
     Ok(())
 }
 
-/// Whether a world looks at the word of the worker 0 where a list of actions says so.
-fn looks(alloc: Global, world: &mut World<'_>) -> Result<bool, AllocError>
-    ensures { world.new.network ≡ world.old.network }
-{
-    let actions = [Action::Look { worker: 0 }];
-    let mut replies = Vec::with_capacity(alloc, 1)?;
-    world.run(&actions, &mut replies)?;
-    Ok(matches!(replies.as_slice(), [Reply::Seen { threshold: 10 }]))
-}
-
 /// Whether the worker 0 looks by a list, lowers the word by nothing that it found, sweeps and is met in a new world.
 fn goes_on(alloc: Global) -> Result<bool, AllocError> {
     let network = pair(alloc)?;
     let mut world = World::start(alloc, &network, 1, 2)?;
-    let looked = looks(alloc, &mut world)?;
+    let mut replies = Vec::with_capacity(alloc, 1)?;
+    world.run(&[Action::Look { worker: 0 }], &mut replies)?;
+    let looked = matches!(replies.as_slice(), [Reply::Seen { threshold: 10 }]);
     let found = Scored::empty(alloc, &network)?;
     let lowered = answer_to(&mut world, Action::Lower { worker: 0, found })?;
     let swept = answer_to(&mut world, Action::Sweep)?;

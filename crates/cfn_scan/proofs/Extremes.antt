@@ -5,10 +5,10 @@ use Rattle.std.proofs.lemmas.Int.{ints}
 use Rattle.std.specs.Prelude.{ℤ, pos, neg_ℤ, ◌+ℤ◌, IsTrue, slice_index, slice_index_or, nat_lt, Option, Some, None, MatchOption, is_some}
 use Rattle.cfn_model.specs.declared.step.Event.{Event}
 use Rattle.cfn_model.specs.Network.{Network, Fits, cell, cells, cell_from, dims, dims_at, scope_at, arity, function_at, entry_at}
-use Rattle.cfn_model.specs.Sums.{when, residual, is_live, is_cut, all_live, is_live_tuple}
+use Rattle.cfn_model.specs.Sums.{when, residual, is_cut, all_live, is_live_tuple}
 use Rattle.cfn_net.proofs.CallerLemmas.{cell-below, digit_at, Fits-length, get_or-dims, length-dims}
 use Rattle.cfn_scan.specs.Wrapped.{StandsFor}
-use Rattle.cfn_scan.specs.Shifts.{shift, along, offset}
+use Rattle.cfn_scan.specs.Shifts.{shift, along}
 use Rattle.cfn_scan.specs.Exact.{IsExact}
 use Rattle.cfn_scan.specs.Extremes.{NonePicked, IsExtreme, IsPickedBetween, NoneBetween, IsExtremeBetween, IsLeastBetween, Bounds, IsNumbered, IsTold}
 use Rattle.cfn_scan.specs.declared.scan.Scan.{Scan}

@@ -1,9 +1,10 @@
 -- What steps have moved from a function's tuples to its variables' values, by place and value: a project or an extend
 -- changes the residual costs of all tuples with one value at one place alike.
-use Rattle.std.specs.Prelude.{ℕ, zero, suc, ◌+◌, ◌&&◌, List, [], ◌∷◌, ℤ, pos, ◌+ℤ◌, neg_ℤ, ◌==◌}
+use Rattle.std.specs.Prelude.{ℕ, zero, suc, ◌+◌, ◌&&◌, List, [], ◌∷◌, length, ℤ, pos, ◌+ℤ◌, neg_ℤ, ◌==◌}
 use Rattle.cfn_model.specs.declared.step.Step.TheVariants.{Project, Extend, Lift, CutValue, CutTuple}
 use Rattle.cfn_model.specs.declared.step.Event.{Event}
 use Rattle.cfn_model.specs.declared.step.Event.TheVariants.{Did, Took, Refused}
+use Rattle.cfn_model.specs.Network.{Network, Function, dims}
 use Rattle.cfn_model.specs.Sums.{when}
 
 -- What an event moves away from the tuples of f with the value a at place i.
@@ -31,3 +32,7 @@ abbrev pub offset : List ℕ → ℕ → ℕ
 offset dims zero = 0
 offset [] (suc i) = 0
 offset (size ∷ dims) (suc i) = size + offset dims i
+
+-- How many places a function's row has, then.
+abbrev pub width_of : Network → Function → ℕ
+width_of P f = offset (dims P.sizes f.scope) (length f.scope)

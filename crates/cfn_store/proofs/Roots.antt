@@ -9,8 +9,8 @@ use Rattle.cfn_rows.specs.Jagged.{row_at}
 use Rattle.cfn_store.specs.declared.sums.Sums.{Sums}
 use Rattle.cfn_store.specs.declared.cuts.Cuts.{Cuts}
 use Rattle.cfn_scan.specs.Wrapped.{StandsFor}
-use Rattle.cfn_scan.specs.Shifts.{shift, offset}
-use Rattle.cfn_store.specs.Sums.{IsSums, given_word, lifted_word, shift_word, width_of}
+use Rattle.cfn_scan.specs.Shifts.{shift, offset, width_of}
+use Rattle.cfn_store.specs.Sums.{IsSums, given_word, lifted_word, shift_word}
 use Rattle.cfn_store.specs.Cutting.{IsCuts}
 use Rattle.cfn_scan.proofs.CallerLemmas.{itself}
 

@@ -1,7 +1,7 @@
 -- The words that a store keeps, and what they stand for.
 use Rattle.std.specs.Prelude.{◌≡◌, ℕ, ◌+◌, ◌-◌, ◌%◌, ◌<◌, ◌^◌, ◌&&◌, List, length, slice_index, slice_set, ℤ, pos, ◌+ℤ◌, ◌==◌}
 use Rattle.cfn_model.specs.declared.step.Event.{Event}
-use Rattle.cfn_model.specs.Network.{Function, Network, arity, variable_at, dims, dims_at}
+use Rattle.cfn_model.specs.Network.{Network, arity, variable_at, dims_at}
 use Rattle.cfn_model.specs.Sums.{when, floor, unary}
 use Rattle.cfn_model.specs.Steps.{IsValue, IsPlace}
 use Rattle.cfn_rows.specs.Jagged.{row_at}
@@ -29,10 +29,6 @@ lifted_word s x = slice_index s.lifted.items x
 
 abbrev pub shift_word : Network → Sums → ℕ → ℕ → ℕ → ℕ
 shift_word P s f i a = slice_index (row_at s.shifts f) (offset (dims_at P f) i + a)
-
--- How many words a function's row has.
-abbrev pub width_of : Network → Function → ℕ
-width_of P f = offset (dims P.sizes f.scope) (length f.scope)
 
 -- There is a word for each variable, for each of its values, and for each value of each place of each function.
 pub record HasShape (P : Network) (s : Sums) : Type 0 where

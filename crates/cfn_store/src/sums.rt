@@ -5,20 +5,19 @@
 //! of toulbar2). Costs are kept modulo 2^64. A unary cost is what was given to the value less what was lifted from its
 //! variable.
 
-ghost use Rattle.std.specs.Prelude.{◌≡◌, ℕ, ◌+◌, ◌-◌, ◌*◌, ◌^◌, ◌<◌, ◌≤◌, ◌%◌, List, [], length, map, slice_index, slice_set, ℤ, pos, neg_ℤ, ◌+ℤ◌, IfOk, IfSome};
-ghost use Rattle.cfn_model.specs.Network.{Network as CostNetwork, arity, dims_at, function_at};
-ghost use Rattle.cfn_model.specs.Sums.{constant, floor, unary};
+ghost use Rattle.std.specs.Prelude.{◌≡◌, ◌+◌, ◌-◌, ◌^◌, ◌<◌, ◌≤◌, List, [], length, pos, neg_ℤ, IfOk};
+ghost use Rattle.cfn_model.specs.Network.{Network as CostNetwork};
+ghost use Rattle.cfn_model.specs.Sums.{floor, unary};
 ghost use Rattle.cfn_model.specs.declared.step.Event.{Event};
 ghost use Rattle.cfn_scan.specs.Exact.{IsExact};
 ghost use Rattle.cfn_scan.specs.Unaries.{AreUnaries};
-ghost use Rattle.cfn_model.specs.Steps.{IsPlace, IsValue};
+ghost use Rattle.cfn_model.specs.Steps.{IsPlace};
 ghost use Rattle.cfn_rows.specs.Jagged.{row_at};
-ghost use Rattle.cfn_scan.specs.Shifts.{offset};
-ghost use Rattle.cfn_store.specs.Sums.{IsSums, Moves, Lifts, HasShape, has_more, has_less, width_of};
+ghost use Rattle.cfn_store.specs.Sums.{IsSums, Moves, Lifts, HasShape, has_more, has_less};
 
 use cfn_net::Network;
 use cfn_rows::Rows;
-use cfn_scan::Unaries;
+use cfn_scan::{Unaries, slot_of, widths};
 use std::alloc::{AllocError, Global};
 
 #[derive(Drop)]
@@ -105,44 +104,6 @@ impl Sums {
         self.floor -= u128::from(amount);
         self.lifted[x as usize] = self.lifted[x as usize].wrapping_sub(amount);
     }
-}
-
-/// How many words each function's row has. An `Err` is want of memory, or of numbers below 2^32.
-fn widths(alloc: Global, network: &Network) -> Result<Vec<u32>, AllocError>
-    ensures { IfOk result (λ widths. widths.items ≡ map (width_of network.now) network.now.functions) }
-{
-    let mut widths = Vec::with_capacity(alloc, network.functions() as usize)?;
-    for f in 0..network.functions() {
-        widths.push(width(network, f).ok_or(AllocError)?)?;
-    }
-    Ok(widths)
-}
-
-/// How many words a function's row has; `None` where that is 2^32 or more.
-fn width(network: &Network, f: u32) -> Option<u32>
-    requires { f < length network.now.functions }
-    ensures { IfSome result (λ width. width ≡ width_of network.now (function_at network.now f)) }
-{
-    network.law_limits();
-    let mut width: u32 = 0;
-    for x in network.scope(f) {
-        width = width.checked_add(network.size(*x))?;
-    }
-    Some(width)
-}
-
-/// Where a value of a place stands in a function's row, which has so many words.
-fn slot_of(network: &Network, f: u32, place: u32, value: u32, width: usize) -> usize
-    requires place { IsPlace network.now f place value }
-    requires width { width ≡ offset (dims_at network.now f) (arity network.now f) }
-    ensures { result ≡ offset (dims_at network.now f) place + value }
-{
-    network.law_limits();
-    let mut slot = value as usize;
-    for x in &network.scope(f)[..place as usize] {
-        slot += network.size(*x) as usize;
-    }
-    slot
 }
 
 /// Adds to one word of a row, modulo 2^64.

@@ -3,7 +3,7 @@
 //! - `splitting` has the words of a text, and the numbers that words are.
 //! - `wcsp` and `wcnf` have files that are read, and files that are refused.
 //! - `lines` writes lines of words, and `instances` networks.
-//! - `certificates` writes certificates, and `texts` reads them. `reports` says reports and messages.
+//! - `certificates` writes certificates. `reports` says reports and messages.
 //! - `records` writes records of searches, and `saying` says what is said of records that are replayed.
 //! - `lists` writes lists of the cheapest assignments, and says what is said of them.
 //! - `given` has what several of these are of.
@@ -27,8 +27,6 @@ mod reports;
 mod saying;
 #[cfg(test)]
 mod splitting;
-#[cfg(test)]
-mod texts;
 #[cfg(test)]
 mod wcnf;
 #[cfg(test)]

@@ -1,43 +1,9 @@
 //! Texts that are read, and texts that are refused.
 
+use crate::counts::{Counts, count_nodes};
 use cfn_certread::{Best, ReadCertificate, TextFault, read};
-use cfn_proof::{End, NodeId, Tree};
 use std::alloc::AllocError;
 use std::test::Fail;
-
-/// How many nodes of a tree are open leaves, closed leaves and splits, and how many steps they have.
-#[derive(Clone, Copy, PartialEq, Eq)]
-struct Counts {
-    open: u64,
-    closed: u64,
-    split: u64,
-    steps: u64,
-}
-
-/// Counts the nodes of a tree.
-fn count_nodes(tree: &Tree) -> Counts {
-    let mut counts = Counts {
-        open: 0,
-        closed: 0,
-        split: 0,
-        steps: 0,
-    };
-    for number in 0..tree.len() {
-        let Ok(number) = u32::try_from(number) else {
-            return counts;
-        };
-        let node = tree.node(NodeId { number });
-        for _step in node.block.cursor() {
-            counts.steps = counts.steps.saturating_add(1);
-        }
-        match node.end {
-            End::Free => counts.open = counts.open.saturating_add(1),
-            End::Shut => counts.closed = counts.closed.saturating_add(1),
-            End::Split { .. } => counts.split = counts.split.saturating_add(1),
-        }
-    }
-    counts
-}
 
 /// The numbers of a certificate before its best assignment.
 fn numbers(read: &ReadCertificate) -> [u64; 4] {

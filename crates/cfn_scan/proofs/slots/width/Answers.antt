@@ -2,8 +2,8 @@ use Rattle.std.proofs.Common.{◌≡◌, ◌<◌, length, get_or, arith, ap, sym
 use Rattle.std.specs.Prelude.{slice_index}
 use Rattle.cfn_model.specs.Network.{dims_at, scope_at, arity}
 use Rattle.cfn_net.proofs.CallerLemmas.{get_or-dims, length-dims}
-use Rattle.cfn_scan.proofs.CallerLemmas.{offset_next}
-use Rattle.cfn_store.proofs.sums.width.Goals as goal
+use Rattle.cfn_scan.proofs.Offsets.{offset_next}
+use Rattle.cfn_scan.proofs.slots.width.Goals as goal
 
 pub loop-x-preserved : goal.loop-x-preserved
 loop-x-preserved c =

@@ -4,8 +4,8 @@ use Rattle.std.specs.Prelude.{slice_index, take}
 use Rattle.cfn_model.specs.Network.{dims_at, scope_at}
 use Rattle.cfn_net.proofs.CallerLemmas.{get_or-dims, length-dims}
 use Rattle.cfn_scan.specs.Shifts.{offset}
-use Rattle.cfn_scan.proofs.CallerLemmas.{offset_next, offset_least}
-use Rattle.cfn_derivation.proofs.bans.slot_of.Goals as goal
+use Rattle.cfn_scan.proofs.Offsets.{offset_next, offset_least}
+use Rattle.cfn_scan.proofs.slots.slot_of.Goals as goal
 
 -- the size that comes next is that of the place, which is before the one that is asked for
 next : (c : goal.After-size) → (c.loop-x.x-index < c.args.place) × (c.size.result ≡ slice_index (dims_at c.args.network.now c.args.f) c.loop-x.x-index)
