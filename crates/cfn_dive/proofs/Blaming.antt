@@ -1,36 +1,21 @@
 -- What an expansion leaves of the weights of functions.
-use Rattle.std.proofs.Common.{◌≡◌, ℕ, ◌≤◌, true, false, inl, inr, Bool, List, [], length, sym, ap, ◌∙◌, subst, arith}
+use Rattle.std.proofs.Common.{◌≡◌, ℕ, ◌≤◌, true, false, inl, inr, Bool, List, length, subst}
 use Rattle.std.specs.Prelude.{Result, Ok, Err, OnOk}
 use Rattle.cfn_model.specs.declared.step.Event.{Event}
-use Rattle.cfn_model.specs.declared.step.Step.{Step}
 use Rattle.cfn_model.specs.Network.{Network}
 use Rattle.cfn_model.specs.Steps.{Run, after}
 use Rattle.cfn_model.specs.Tree.{CanClose}
 use Rattle.cfn_consistency.specs.Consistency.{AreFullyConsistent}
-use Rattle.cfn_proof.specs.declared.tree.NodeId.{NodeId}
 use Rattle.cfn_store.specs.Standing.{Standing, history}
 use Rattle.cfn_branch.specs.Weighing.{Blames}
-use Rattle.cfn_dive.specs.declared.parts.Parts.{Parts}
-use Rattle.cfn_dive.specs.declared.growth.Growth.{Growth}
 use Rattle.cfn_dive.specs.Blaming.{IsEnforced, IsWeighed}
 use Rattle.cfn_dive.specs.Limit.{step_limit}
-use Rattle.cfn_dive.specs.Diving.{IsClosing, IsSettledOrSpent}
+use Rattle.cfn_dive.specs.Diving.{IsSettledOrSpent}
 
 -- what was made is so
 pub on_ok : {A E : Type 0} (result : Result A E) (X : Type 0) → X → OnOk result X
 on_ok (Ok a) X x = x
 on_ok (Err e) X x = tt
-
--- a leaf that is closed without a step blames no function
-pub weighed_at_once : (P : Network) (p : Parts) (g : Growth) (leaf : NodeId) (block : List Step) (least most : ℕ) (new : List ℕ) → IsClosing P p g leaf block → block ≡ [] → least ≤ g.threshold → g.threshold ≤ most → new ≡ p.weights → IsWeighed P p.store.base least most p.weights new
-weighed_at_once P p g leaf block least most new closing none above below same = record {
-  threshold = g.threshold;
-  above = above;
-  below = below;
-  steps = [];
-  runs = tt;
-  ends = inl (subst (λ b. CanClose P (after b p.store.base) g.threshold) none closing.closes, inl (tt, same));
-}
 
 -- a dead leaf blames the function of the newest project, where there is one
 pub weighed_dead : (P : Network) (s : Standing) (path : List Event) (k least most : ℕ) (old mid new : List ℕ) → s.network ≡ P → s.base ≡ path → Run P s.base s.block k → CanClose s.network (history s) k → mid ≡ old → Blames s.block mid new → least ≤ k → k ≤ most → IsWeighed P path least most old new
@@ -55,5 +40,5 @@ weighed_alive P s path k least most settled old new network base runs is alive s
   below = below;
   steps = s.block;
   runs = subst (λ h. Run P h s.block k) base runs;
-  ends = inr (subst (λ h. IsEnforced P h k s.block) base (enforced P s k settled network is), (subst (λ h. CanClose P (after s.block h) k → ⊥) base (subst (λ Q. CanClose Q (history s) k → ⊥) network alive), same));
+  ends = inr (subst (λ h. IsEnforced P h k s.block) base (enforced P s k settled network is), subst (λ h. CanClose P (after s.block h) k → ⊥) base (subst (λ Q. CanClose Q (history s) k → ⊥) network alive), same);
 }

@@ -5,11 +5,12 @@ use Rattle.cfn_dive.specs.declared.parts.Parts.{Parts}
 use Rattle.cfn_net.specs.Scoring.{Scoring}
 use Rattle.cfn_dive.specs.Deciding.{IsByRule}
 use Rattle.cfn_dive.specs.Diving.{IsSettledOrSpent}
-use Rattle.cfn_low.specs.Holding.{Holding}
+use Rattle.cfn_low.specs.Holding.{Holding, price_of}
 use Rattle.cfn_proof.specs.Nodes.{node_at}
 use Rattle.cfn_dive.specs.Blaming.{IsWeighed}
+use Rattle.cfn_dive.specs.Enforcing.{Finds}
 use Rattle.cfn_dive.proofs.Naming.{split_where_ok, named_before}
-use Rattle.cfn_dive.proofs.Blaming.{on_ok, weighed_at_once, weighed_dead, weighed_alive}
+use Rattle.cfn_dive.proofs.Blaming.{on_ok, weighed_dead, weighed_alive}
 use Rattle.cfn_dive.proofs.Onwards.{diving_lower, closes_at_once, from_settled, from_spent, settled_alive, spent_alive}
 use Rattle.cfn_dive.proofs.parts.Parts.expand.Goals as goal
 use Rattle.cfn_dive.proofs.parts.Parts.expand.Goals.{in-Settled, in-Spent}
@@ -72,3 +73,59 @@ returns-in-Some-clause-named g c =
     (named_before found.rule old.rule found.store found.weights old.weights c.best.result.now.held c.args.holder.now.held d c.enforce.ensures.rule c.enforce.ensures.weights
     (ap (λ (b : Scoring). b.held) c.best.ensures ∙ ap (λ (h : Holding). h.held) c.look-growth.ensures.seen) c.in-Some.ensures.named))
     c.divide.ensures.split
+
+pub returns-in-Dead-clause-weighed : goal.returns-in-Dead-clause-weighed
+returns-in-Dead-clause-weighed g c =
+    let old = c.args.self.now in
+    let s = c.enforce.new.self.store in
+    let k = c.look-growth.result in
+    let most = price_of g.M.Incumbent.network c.args.holder.now in
+    let least = c.close_dead.new.growth.threshold in
+    let same = c.close_dead.ensures.threshold in
+    on_ok c.close_dead.result (IsWeighed old.store.network old.store.base least most old.weights c.close_dead.new.self.weights)
+    (weighed_dead old.store.network s old.store.base k least most old.weights c.enforce.new.self.weights c.close_dead.new.self.weights c.enforce.ensures.of.network (sym c.in_ok-enforce.ensures.begins.base)
+    c.in_ok-enforce.ensures.expanding.runs (subst (Finds s.network (history s) k) c.in-Dead.is c.in_ok-enforce.ensures.finds) c.enforce.ensures.weights c.close_dead.ensures.blames (omega (arith, same)) c.look-growth.ensures.below)
+
+pub returns-in-Some-clause-weighed : goal.returns-in-Some-clause-weighed
+returns-in-Some-clause-weighed g c =
+    let old = c.args.self.now in
+    let s = c.enforce.new.self.store in
+    let k = c.look-growth.result in
+    let found = c.in_ok-enforce.field-0 in
+    let most = price_of g.M.Incumbent.network c.args.holder.now in
+    let least = c.divide.new.growth.threshold in
+    let same = c.divide.ensures.threshold in
+    on_ok c.divide.result (IsWeighed old.store.network old.store.base least most old.weights c.divide.new.self.weights)
+    (weighed_alive old.store.network s old.store.base k least most c.match-branch-2.settled old.weights c.divide.new.self.weights c.enforce.ensures.of.network (sym c.in_ok-enforce.ensures.begins.base) c.in_ok-enforce.ensures.expanding.runs
+    (elim c.match-branch-2.branch [
+      | in-Settled w ↦ from_settled s k found c.match-branch-2.settled w.settled-is w.in-Settled.is c.in_ok-enforce.ensures.finds
+      | in-Spent w ↦ from_spent c.args.network.now s k found c.match-branch-2.settled w.settled-is w.in-Spent.is (c.requires.network ∙ sym c.enforce.ensures.of.network) c.in_ok-enforce.ensures.spent
+    ])
+    (elim c.match-branch-2.branch [
+      | in-Settled w ↦ settled_alive s.network (history s) k found w.in-Settled.is c.in_ok-enforce.ensures.finds
+      | in-Spent w ↦ spent_alive s.network (history s) k found w.in-Spent.is c.in_ok-enforce.ensures.finds
+    ])
+    (c.divide.ensures.weights ∙ ap (λ (p : Parts). p.weights) c.decide.ensures.same ∙ c.enforce.ensures.weights) (omega (arith, same)) c.look-growth.ensures.below)
+
+pub returns-clause-weighed : goal.returns-clause-weighed
+returns-clause-weighed g c =
+    let old = c.args.self.now in
+    let s = c.enforce.new.self.store in
+    let k = c.look-growth.result in
+    let found = c.in_ok-enforce.field-0 in
+    let most = price_of g.M.Incumbent.network c.args.holder.now in
+    let least = c.conclude.new.growth.threshold in
+    let same = c.conclude.ensures.threshold in
+    let falls = c.conclude.ensures.falls.seen in
+    let read = ap (λ (h : Holding). h.seen) c.look-growth.ensures.seen in
+    on_ok c.conclude.result (IsWeighed old.store.network old.store.base least most old.weights c.conclude.new.self.weights)
+    (weighed_alive old.store.network s old.store.base k least most c.match-branch-2.settled old.weights c.conclude.new.self.weights c.enforce.ensures.of.network (sym c.in_ok-enforce.ensures.begins.base) c.in_ok-enforce.ensures.expanding.runs
+    (elim c.match-branch-2.branch [
+      | in-Settled w ↦ from_settled s k found c.match-branch-2.settled w.settled-is w.in-Settled.is c.in_ok-enforce.ensures.finds
+      | in-Spent w ↦ from_spent c.args.network.now s k found c.match-branch-2.settled w.settled-is w.in-Spent.is (c.requires.network ∙ sym c.enforce.ensures.of.network) c.in_ok-enforce.ensures.spent
+    ])
+    (elim c.match-branch-2.branch [
+      | in-Settled w ↦ settled_alive s.network (history s) k found w.in-Settled.is c.in_ok-enforce.ensures.finds
+      | in-Spent w ↦ spent_alive s.network (history s) k found w.in-Spent.is c.in_ok-enforce.ensures.finds
+    ])
+    (c.conclude.ensures.weights ∙ ap (λ (p : Parts). p.weights) c.decide.ensures.same ∙ c.enforce.ensures.weights) (omega (arith, same, falls, read)) c.look-growth.ensures.below)
