@@ -14,9 +14,9 @@ use Rattle.cfn_model.specs.Steps.{after}
 use Rattle.cfn_model.specs.Tree.{Tree, Open, Closed, Split, OpenBelow, open_leaves, bound}
 use Rattle.cfn_model.specs.Certificate.{Solution, Certificate, Good, threshold, threshold_of}
 use Rattle.cfn_model.proofs.CallerLemmas.{lower_bounds, none_below, optimum}
-use Rattle.cfn_outcome.specs.declared.outcome.Stop.{Stop}
-use Rattle.cfn_outcome.specs.declared.outcome.Stop.TheVariants.{Done, Budget, Time, Part, Memory}
-use Rattle.cfn_outcome.specs.Outcome.{Limits, Start, IsSearched, HasCause}
+use Rattle.cfn_low.specs.declared.outcome.Stop.{Stop}
+use Rattle.cfn_low.specs.declared.outcome.Stop.TheVariants.{Done, Budget, Time, Part, Memory}
+use Rattle.cfn_low.specs.Outcome.{Limits, Start, IsSearched, HasCause}
 use Rattle.cfn_app.specs.Headline.{HasOptimum, HasNone, HasCauses, Promise}
 use Rattle.cfn_app.specs.Runs.Solving.{word_of, word_when_done}
 

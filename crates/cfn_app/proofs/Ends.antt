@@ -27,7 +27,7 @@ use Rattle.cfn_cli.specs.declared.format.Format.{Format}
 use Rattle.cfn_app.specs.declared.status.Status.{Status}
 use Rattle.cfn_app.specs.declared.status.Status.TheVariants.{Done, Fault}
 use Rattle.cfn_app.specs.Endings.{Ends, said, cut}
-use Rattle.cfn_outcome.specs.Outcome.{Start, fresh}
+use Rattle.cfn_low.specs.Outcome.{Start, fresh}
 use Rattle.cfn_app.specs.Headline.{Promise}
 use Rattle.cfn_app.specs.Loading.{ReadsAs, RefusesAs, SaysUnread, read_as, Unloaded, Unread, loaded}
 use Rattle.cfn_app.specs.Loading as loading

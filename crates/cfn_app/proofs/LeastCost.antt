@@ -4,7 +4,7 @@ use Rattle.std.specs.Prelude.{Option, Some, None, IsSomeAnd, slice_index}
 use Rattle.cfn_model.specs.declared.report.Row.{Row}
 use Rattle.cfn_model.specs.Network.{Network, Fits, Least, cost}
 use Rattle.cfn_model.specs.Certificate.{Solution, Certificate}
-use Rattle.cfn_outcome.specs.Outcome.{Limits, Start}
+use Rattle.cfn_low.specs.Outcome.{Limits, Start}
 use Rattle.cfn_app.specs.Headline.{Promise}
 use Rattle.cfn_app.specs.Runs.Solving.{word_when_done}
 

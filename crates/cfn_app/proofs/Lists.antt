@@ -9,13 +9,13 @@ use Rattle.cfn_best.specs.Tree.{ListTree, Open, Closed, Listed, Split, bound}
 use Rattle.cfn_best.specs.List.{ListCertificate, threshold_of}
 use Rattle.cfn_best.specs.Lines.{Spells}
 use Rattle.cfn_best.specs.Laws.{IsNotIn, OthersCostMore, Cheapest, Fewer}
-use Rattle.cfn_listing.specs.declared.word.ListWord.{ListWord}
-use Rattle.cfn_listing.specs.declared.word.ListWord.TheVariants as words
-use Rattle.cfn_listing.specs.Certificates.{spelling}
-use Rattle.cfn_listing.specs.Trees.{open_leaves}
+use Rattle.cfn_ranking.specs.declared.word.ListWord.{ListWord}
+use Rattle.cfn_ranking.specs.declared.word.ListWord.TheVariants as words
+use Rattle.cfn_ranking.specs.Certificates.{spelling}
+use Rattle.cfn_ranking.specs.Trees.{open_leaves}
 use Rattle.cfn_ranking.specs.Finished.{IsListOf, threshold}
 use Rattle.cfn_kbest.specs.Searching.{HasListCause}
-use Rattle.cfn_bestwrite.specs.Texts.{list_report}
+use Rattle.cfn_certwrite.specs.ListTexts.{list_report}
 use Rattle.cfn_desk.specs.Outside as desk
 use Rattle.cfn_desk.specs.Outside.{Outside, Call, Load, Bytes, HasFile}
 use Rattle.cfn_cli.specs.Request.Listing.{KBestRequest}

@@ -16,10 +16,10 @@ use Rattle.cfn_proof.specs.Nodes.{tree_of}
 use Rattle.cfn_mending.specs.Joining.{join}
 use Rattle.cfn_mending.specs.Merging.{anew, cheaper, merged}
 use Rattle.cfn_mending.proofs.CallerLemmas.{merged_good, all_merged_good, all_merged_anew}
-use Rattle.cfn_join.specs.Same.{same}
-use Rattle.cfn_join.specs.Finding.{certified}
-use Rattle.cfn_join.proofs.CallerLemmas.{is_test}
-use Rattle.cfn_join.specs.declared.findings.Findings.{Findings}
+use Rattle.cfn_merge.specs.Same.{same}
+use Rattle.cfn_merge.specs.Finding.{certified}
+use Rattle.cfn_merge.proofs.CallerLemmas.{is_test}
+use Rattle.cfn_merge.specs.declared.findings.Findings.{Findings}
 use Rattle.cfn_merge.specs.Judging.{HasFound, IsFound}
 use Rattle.cfn_report.specs.Texts.{merged_text, refused_in_text}
 use Rattle.cfn_line.specs.Appending.{Appends}

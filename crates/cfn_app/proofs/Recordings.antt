@@ -12,18 +12,18 @@ use Rattle.cfn_model.specs.Text.{spelling, report, write_fault_text, memory_faul
 use Rattle.cfn_proof.specs.Certificates as searched
 use Rattle.cfn_proof.specs.declared.certificate.Certificate as found
 use Rattle.cfn_machine.specs.Pool.{Pool, tree_of}
-use Rattle.cfn_history.specs.Histories.{HistoryValue}
+use Rattle.cfn_record.specs.Histories.{HistoryValue}
 use Rattle.cfn_record.specs.Entries.{Entry, Took, Gave, Freed, CalledBack, Swept, Follows, Runs}
 use Rattle.cfn_record.specs.Lines.{Record, Spells}
 use Rattle.cfn_record.specs.Replaying.{certificate_of}
 use Rattle.cfn_record.proofs.CallerLemmas.{seen_is}
-use Rattle.cfn_recordwrite.specs.Records as records
+use Rattle.cfn_certwrite.specs.Records as records
 use Rattle.cfn_search.specs.Recording.{IsRecorded}
 use Rattle.cfn_desk.specs.Outside.{Outside, Call, Load, Open, Bytes, HasFile, IsIdle, after, written}
 use Rattle.cfn_line.specs.Appending.{Appends}
 use Rattle.cfn_line.specs.declared.channel.Channel.TheVariants.{Screen}
 use Rattle.cfn_cli.specs.Request.Recording.{RecordedRequest}
-use Rattle.cfn_outcome.specs.Outcome.{fresh}
+use Rattle.cfn_low.specs.Outcome.{fresh}
 use Rattle.cfn_app.specs.declared.status.Status.{Status}
 use Rattle.cfn_app.specs.Headline.{Promise}
 use Rattle.cfn_app.specs.Loading.{ReadsAs, Unread}

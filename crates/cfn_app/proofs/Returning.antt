@@ -12,8 +12,8 @@ use Rattle.cfn_record.specs.Entries.{Runs}
 use Rattle.cfn_record.specs.Lines.{Record, Spells}
 use Rattle.cfn_record.specs.Replaying.{GoodRecord, certificate_of, opening}
 use Rattle.cfn_record.proofs.CallerLemmas.{one_end, one_record}
-use Rattle.cfn_recordwrite.specs.Records as records
-use Rattle.cfn_recordwrite.specs.Texts.{replayed_text}
+use Rattle.cfn_certwrite.specs.Records as records
+use Rattle.cfn_certwrite.specs.RecordTexts.{replayed_text}
 use Rattle.cfn_replay.specs.Replayed.{IsReplayed}
 use Rattle.cfn_desk.specs.Outside.{Outside, Open, Stored, Writing, after}
 use Rattle.cfn_cli.specs.Request.Recording.{RecordedRequest}

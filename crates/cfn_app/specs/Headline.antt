@@ -10,7 +10,7 @@ use Rattle.cfn_model.specs.Paths.{Tame}
 use Rattle.cfn_model.specs.Certificate.{Certificate, Good, threshold}
 use Rattle.cfn_model.specs.Text.{IsSpelled}
 use Rattle.cfn_machine.specs.Parts.{EndsAt}
-use Rattle.cfn_outcome.specs.Outcome.{Limits, RowsHold, Start}
+use Rattle.cfn_low.specs.Outcome.{Limits, RowsHold, Start}
 
 -- The best is an optimum: there is one, and the lower bound is its cost.
 abbrev pub HasOptimum : Certificate → Type 0

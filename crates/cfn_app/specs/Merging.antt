@@ -5,8 +5,8 @@ use Rattle.cfn_model.specs.Certificate.{Certificate}
 use Rattle.cfn_proof.specs.Nodes.{tree_of}
 use Rattle.cfn_mending.specs.Joining.{join}
 use Rattle.cfn_mending.specs.Merging.{cheaper}
-use Rattle.cfn_join.specs.Same.{same}
-use Rattle.cfn_join.specs.declared.findings.Findings.{Findings}
+use Rattle.cfn_merge.specs.Same.{same}
+use Rattle.cfn_merge.specs.declared.findings.Findings.{Findings}
 use Rattle.cfn_merge.specs.Judging.{IsFound}
 use Rattle.cfn_desk.specs.Outside.{Outside, Load, Bytes, HasFile, after}
 use Rattle.cfn_app.specs.Runs.Checking.{Verifies}

@@ -11,8 +11,8 @@
 //!   proofs/Stating.
 //! - `loading` goes from the names of files to bytes and a network in a format, and `output` writes a certificate and
 //!   says its report. `searching` is the search, with its gate told before and behind. `status` has the statuses.
-//! - A `Gate` is what the workers of a search pass, and what is told how far it is (`cfn_gate`). A limit of time is a `Deadline`
-//!   by the clock that `run` is given (`cfn_clock`).
+//! - A `Gate` is what the workers of a search pass, and what is told how far it is (`cfn_explore`). A limit of time is a `Deadline`
+//!   by the clock that `run` is given (`cfn_explore`).
 #![tactic(auto)]
 
 mod commands;

@@ -10,8 +10,8 @@ ghost use Rattle.cfn_app.specs.Runs.Solving.{status_of, word_of};
 
 use crate::status::{Status, ending};
 use cfn_desk::{Desk, Failed};
+use cfn_low::{Outcome, Stop};
 use cfn_model::ResultWord;
-use cfn_outcome::{Outcome, Stop};
 use cfn_proof::Certificate;
 use cfn_report::Report;
 use cfn_solve::Teamwork;

@@ -18,7 +18,7 @@ use std::time::Clock;
 /// Does all that the program does, and answers the status that it ends with.
 ///
 /// `words` begins with the program's name. `rt` is the runtime, in whose threads workers search, and `gate` is what these
-/// pass, and what is told how far a search is. Such bounds hold, and the gate is told of nothing else (`cfn_gate`). `clock` tells
+/// pass, and what is told how far a search is. Such bounds hold, and the gate is told of nothing else (`cfn_explore`). `clock` tells
 /// when a limit of time is past, which counts from the call on.
 pub fn run<R: Threads + Wait + Sync, D: Desk, G: Gate + Sync, C: Clock + Sync>(
     rt: &R,

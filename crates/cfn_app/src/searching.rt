@@ -4,7 +4,7 @@ ghost use Rattle.std.specs.Prelude.{◌≡◌, ◌≤◌, All, length, is_some, 
 ghost use Rattle.cfn_model.specs.Certificate.{threshold};
 ghost use Rattle.cfn_model.specs.declared.limits.TheConstants.{GREATEST};
 ghost use Rattle.cfn_proof.specs.Certificates.{certificate_of};
-ghost use Rattle.cfn_outcome.specs.Outcome.{IsOutcome, timed_nodes};
+ghost use Rattle.cfn_low.specs.Outcome.{IsOutcome, timed_nodes};
 ghost use Rattle.cfn_search.specs.Beginning.{MayBegin, start_of};
 ghost use Rattle.cfn_search.specs.Recording.{IsRecorded};
 

@@ -5,7 +5,7 @@ use Rattle.std.specs.Prelude.{slice_index, if◌then◌else◌, IsTrue}
 use Rattle.cfn_model.specs.declared.step.Event.{Event}
 use Rattle.cfn_model.specs.declared.step.Decision.TheVariants.{Most}
 use Rattle.cfn_model.specs.Sums.{is_live}
-use Rattle.cfn_live.specs.Sets.{live_below}
+use Rattle.cfn_rows.specs.Sets.{live_below}
 use Rattle.cfn_store.specs.Standing.{Standing, history}
 use Rattle.cfn_branch.specs.Splits.{IsSplit}
 use Rattle.cfn_branch.specs.Choosing.{choices, IsOpen}

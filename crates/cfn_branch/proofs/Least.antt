@@ -3,7 +3,7 @@ use Rattle.std.proofs.Common.{◌≡◌, ℕ, ◌<◌, ◌≤◌, List, length, 
 use Rattle.std.specs.Prelude.{slice_index, pos, ◌≤ℤ◌, IsTrue}
 use Rattle.cfn_model.specs.Sums.{unary, is_live}
 use Rattle.cfn_model.specs.Steps.{IsValue}
-use Rattle.cfn_live.specs.Sets.{AreLive}
+use Rattle.cfn_rows.specs.Sets.{AreLive}
 use Rattle.cfn_store.specs.Standing.{Standing, history}
 use Rattle.cfn_store.specs.Rooms.{sets_of}
 use Rattle.cfn_branch.specs.Choosing.{IsCheapest}

@@ -4,7 +4,7 @@ use Rattle.std.proofs.lemmas.Bool.{cases_eq}
 use Rattle.std.proofs.lemmas.Int.{ints}
 use Rattle.std.specs.Prelude.{slice_index, ℤ, pos, ◌≤ℤ◌}
 use Rattle.cfn_model.specs.Sums.{unary}
-use Rattle.cfn_live.specs.Sets.{AreLive}
+use Rattle.cfn_rows.specs.Sets.{AreLive}
 use Rattle.cfn_store.specs.Standing.{Standing, history}
 use Rattle.cfn_store.specs.Rooms.{sets_of}
 use Rattle.cfn_branch.specs.Choosing.{IsChoice, IsSecondLeast}

@@ -5,7 +5,7 @@ use Rattle.cfn_model.specs.Steps.{IsValue}
 use Rattle.cfn_consistency.specs.Openness.{open_count}
 use Rattle.cfn_incidence.specs.declared.incidence.Place.{Place}
 use Rattle.cfn_incidence.specs.Places.{places_of}
-use Rattle.cfn_live.specs.Sets.{live_count}
+use Rattle.cfn_rows.specs.Sets.{live_count}
 use Rattle.cfn_store.specs.Standing.{Standing, history}
 use Rattle.cfn_store.specs.Rooms.{sets_of}
 use Rattle.cfn_branch.specs.declared.choosing.Score.{Score}

@@ -2,7 +2,7 @@
 use Rattle.std.specs.Prelude.{◌≡◌, ℕ, ◌+◌, ◌/◌, ◌<◌, ◌≤◌}
 use Rattle.cfn_model.specs.declared.step.Decision.{Decision}
 use Rattle.cfn_model.specs.declared.step.Decision.TheVariants.{Is, Most}
-use Rattle.cfn_live.specs.Sets.{live_below}
+use Rattle.cfn_rows.specs.Sets.{live_below}
 use Rattle.cfn_store.specs.Standing.{Standing, history}
 use Rattle.cfn_branch.specs.declared.fewest.TheConstants.{HALVED_FROM}
 use Rattle.cfn_branch.specs.Choosing.{choices, IsOpen, IsChoice, IsCheapest}

@@ -4,7 +4,7 @@ use Rattle.cfn_model.specs.declared.step.Decision.{Decision}
 use Rattle.cfn_model.specs.declared.step.Decision.TheVariants.{Is, Most}
 use Rattle.cfn_model.specs.Sums.{is_live}
 use Rattle.cfn_model.specs.Steps.{IsValue}
-use Rattle.cfn_live.specs.Sets.{live_count}
+use Rattle.cfn_rows.specs.Sets.{live_count}
 use Rattle.cfn_store.specs.Standing.{Standing, history}
 use Rattle.cfn_store.specs.Rooms.{sets_of}
 

@@ -13,8 +13,8 @@ use Rattle.cfn_proof.specs.declared.tree.Node as nodes
 use Rattle.cfn_proof.specs.Nodes.{node_at, open_node, IsLinked, split_behind_at, close_at, leave_at, tree_of}
 use Rattle.cfn_proof.proofs.CallerLemmas.{length-split_behind_at, split_behind_at-first, split_behind_at-other, split_behind_at-second, length-close_at, close_at-other, length-leave_at, leave_at-other, leave_at-same}
 use Rattle.cfn_certtext.specs.Stages.{owed_after}
-use Rattle.cfn_made.specs.Making as made
-use Rattle.cfn_made.proofs.CallerLemmas.{makes_from_one, makes_same, makes_split, makes_close, makes_leave, makes_whole}
+use Rattle.cfn_mending.specs.Making as made
+use Rattle.cfn_mending.proofs.CallerLemmas.{makes_from_one, makes_same, makes_split, makes_close, makes_leave, makes_whole}
 use Rattle.cfn_certread.specs.declared.maker.Due.{Due}
 use Rattle.cfn_certread.specs.declared.maker.Due.TheVariants.{Read, Skip}
 use Rattle.cfn_certread.specs.Narrowing.{is_small_step, is_small_decision, are_small, narrowed}

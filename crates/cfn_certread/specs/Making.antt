@@ -9,7 +9,7 @@ use Rattle.cfn_fault.specs.Lines.{Line, Node, lines_of_tree}
 use Rattle.cfn_proof.specs.declared.tree.Node as nodes
 use Rattle.cfn_proof.specs.Nodes.{node_at, IsFree, split_behind_at, close_at, leave_at}
 use Rattle.cfn_certtext.specs.Stages.{owed_after}
-use Rattle.cfn_made.specs.Making.{Makes}
+use Rattle.cfn_mending.specs.Making.{Makes}
 use Rattle.cfn_certread.specs.declared.maker.Due.{Due}
 use Rattle.cfn_certread.specs.declared.maker.Due.TheVariants.{Read, Skip}
 use Rattle.cfn_certread.specs.Narrowing.{are_small, is_small_decision, narrowed}

@@ -6,7 +6,7 @@ use Rattle.cfn_machine.specs.Pool.{Task, View}
 use Rattle.cfn_machine.specs.Steps.{PoolTakes, Lack, HasNone, IsOut, PoolGives, IsNotOut, PoolReturns, PoolRecalls, PoolSweeps}
 use Rattle.cfn_leaves.specs.Value.{Holding as Leaves, pool_of}
 use Rattle.cfn_leaves.specs.Answers.{Hands}
-use Rattle.cfn_task.specs.Values.{TaskValue, PieceValue, piece_of}
+use Rattle.cfn_explore.specs.Values.{TaskValue, PieceValue, piece_of}
 use Rattle.cfn_core.specs.Actions.{Acts, Take, Give, Back, Recall, Sweep, Given, Gone, NotOut, Done, IsThere, CanTake, CanGive, none_reply, take_none, take_task, give_gone, give_done, back_not, back_done, without}
 use Rattle.cfn_core.specs.Machine.{Machine, world_of}
 

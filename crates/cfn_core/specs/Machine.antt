@@ -15,7 +15,7 @@ use Rattle.cfn_core.specs.World.{World}
 use Rattle.cfn_core.specs.Actions as actions
 use Rattle.cfn_core.specs.Laws.{IsWorld, IsHanded}
 use Rattle.cfn_leaves.specs.Value.{Holding as Leaves, pool_of}
-use Rattle.cfn_task.specs.Values.{piece_of}
+use Rattle.cfn_explore.specs.Values.{piece_of}
 
 -- The network, the pool's leaves and its view, the word, the views of it, the notes and the tasks in hand.
 pub record Machine : Type 0 where

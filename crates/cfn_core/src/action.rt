@@ -1,7 +1,7 @@
 //! What the workers do, and what they are answered.
 
+use cfn_explore::{Piece, Task};
 use cfn_net::Scored;
-use cfn_task::{Piece, Task};
 
 /// One atomic step of one worker. Workers have the numbers from 0 on; the main thread counts as one more, and has the
 /// last number. Notes have numbers from 0 on, in the order in which they were made.

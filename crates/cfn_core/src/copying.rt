@@ -2,8 +2,8 @@
 
 ghost use Rattle.std.specs.Prelude.{◌≡◌, IfOk};
 
+use cfn_explore::{Piece, Task};
 use cfn_net::Network;
-use cfn_task::{Piece, Task};
 use std::alloc::{AllocError, Global};
 
 /// The same piece, of the network that it is of. An `Err` is want of memory.

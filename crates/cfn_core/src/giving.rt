@@ -4,14 +4,14 @@ ghost use Rattle.std.specs.Prelude.{◌≡◌, ◌↔◌, ◌≤◌, MatchOption
 ghost use Rattle.cfn_core.specs.World.{note_at};
 ghost use Rattle.cfn_core.specs.Actions.{Acts, CanGive, Give};
 ghost use Rattle.cfn_core.specs.Machine.{IsReplyOf, reply_of, world_of};
-ghost use Rattle.cfn_task.specs.Values.{piece_of};
+ghost use Rattle.cfn_explore.specs.Values.{piece_of};
 
 use crate::action::Reply;
 use crate::copying::piece_copy;
 use crate::hands::let_go;
 use crate::world::World;
+use cfn_explore::Piece;
 use cfn_leaves::Handed;
-use cfn_task::Piece;
 use std::alloc::AllocError;
 
 impl World<'_> {

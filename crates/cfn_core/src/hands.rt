@@ -3,7 +3,7 @@
 ghost use Rattle.std.specs.Prelude.{◌≡◌, reverse};
 ghost use Rattle.cfn_core.specs.Actions.{without};
 
-use cfn_task::Task;
+use cfn_explore::Task;
 use std::marker::Model;
 use std::snapshot::Snapshot;
 

@@ -8,8 +8,8 @@ ghost use Rattle.cfn_core.specs.Machine.{IsReplyOf, reply_of, world_of};
 use crate::action::Reply;
 use crate::hands::{Hand, let_go};
 use crate::world::World;
+use cfn_explore::Task;
 use cfn_leaves::Taken;
-use cfn_task::Task;
 use std::alloc::AllocError;
 
 impl World<'_> {

@@ -22,5 +22,5 @@ mod word;
 mod world;
 
 pub use action::{Action, Reply};
-pub use cfn_task::{Piece, Task};
+pub use cfn_explore::{Piece, Task};
 pub use world::World;

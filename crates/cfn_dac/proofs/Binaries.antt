@@ -6,7 +6,7 @@ use Rattle.cfn_model.specs.Network.{Network, IsNetwork}
 use Rattle.cfn_model.specs.Sums.{is_live}
 use Rattle.cfn_scan.specs.declared.line.Line.{Line}
 use Rattle.cfn_scan.specs.Lines.{IsLine}
-use Rattle.cfn_live.specs.Sets.{AreLive}
+use Rattle.cfn_rows.specs.Sets.{AreLive}
 use Rattle.cfn_store.specs.Rooms.{sets_of}
 use Rattle.cfn_store.specs.Standing.{Standing, history}
 use Rattle.cfn_scan.proofs.CallerLemmas.{tuple_at}

@@ -4,7 +4,7 @@ use Rattle.std.proofs.lemmas.Bool.{cases_Bool, cases_eq}
 use Rattle.std.specs.Prelude.{if◌then◌else◌}
 use Rattle.cfn_model.specs.declared.step.Event.{Event}
 use Rattle.cfn_model.specs.Sums.{is_live}
-use Rattle.cfn_live.specs.Sets.{live_below}
+use Rattle.cfn_rows.specs.Sets.{live_below}
 use Rattle.cfn_consistency.specs.Openness.{count_below}
 
 abbrev one_if : Bool → ℕ

@@ -5,7 +5,7 @@ use Rattle.std.proofs.lemmas.Bool.Decides.{nat_tests}
 use Rattle.std.specs.Prelude.{nat_le, slice_index, IsTrue, IsFalse}
 use Rattle.cfn_model.specs.declared.step.Event.{Event}
 use Rattle.cfn_model.specs.Network.{Network, arity, variable_at}
-use Rattle.cfn_live.specs.Sets.{live_count as count_of_live}
+use Rattle.cfn_rows.specs.Sets.{live_count as count_of_live}
 use Rattle.cfn_consistency.specs.Openness.{live_count, is_open, open_count}
 use Rattle.cfn_store.specs.Standing.{Standing, history}
 use Rattle.cfn_store.specs.Rooms.{sets_of}

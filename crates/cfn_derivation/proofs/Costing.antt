@@ -9,7 +9,7 @@ use Rattle.cfn_model.specs.Sums.{residual, is_live, is_live_tuple}
 use Rattle.cfn_model.specs.Steps.{IsPlace, CanProject}
 use Rattle.cfn_net.proofs.CallerLemmas.{get_or-dims}
 use Rattle.cfn_consistency.specs.Virtual.{HasCheapTuple}
-use Rattle.cfn_live.specs.Sets.{AreLive}
+use Rattle.cfn_rows.specs.Sets.{AreLive}
 use Rattle.cfn_scan.specs.declared.line.Line.{Line}
 use Rattle.cfn_scan.specs.declared.scan.Extreme.{Extreme}
 use Rattle.cfn_scan.specs.Extremes.{NoneBetween, IsLeastBetween}

@@ -9,8 +9,8 @@ use Rattle.cfn_model.specs.Network.{Network}
 use Rattle.cfn_model.specs.Sums.{is_live}
 use Rattle.cfn_model.specs.Steps.{IsValue}
 use Rattle.cfn_model.proofs.CallerLemmas.{eqb_other}
-use Rattle.cfn_live.specs.Sets.{live_below}
-use Rattle.cfn_live.proofs.CallerLemmas.{live_below_most}
+use Rattle.cfn_rows.specs.Sets.{live_below}
+use Rattle.cfn_rows.proofs.CallerLemmas.{live_below_most}
 use Rattle.cfn_derivation.specs.Derived.{values_of, value_count, live_of, live_values}
 
 abbrev one : Bool → ℕ

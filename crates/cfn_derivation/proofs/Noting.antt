@@ -17,7 +17,7 @@ use Rattle.cfn_due.proofs.CallerLemmas.{arc_goes_on}
 use Rattle.cfn_incidence.specs.declared.incidence.Place.{Place}
 use Rattle.cfn_incidence.specs.Places.{ArePlaces, place_at}
 use Rattle.cfn_incidence.proofs.CallerLemmas.{place_found}
-use Rattle.cfn_live.specs.Sets.{AreLive}
+use Rattle.cfn_rows.specs.Sets.{AreLive}
 use Rattle.cfn_scan.specs.Exact.{AllInPlace, HasNoDebts, IsExactAlong}
 use Rattle.cfn_store.specs.Rooms.{sets_of}
 use Rattle.cfn_store.specs.Standing.{Standing, history}

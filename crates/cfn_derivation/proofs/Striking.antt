@@ -9,8 +9,8 @@ use Rattle.cfn_model.specs.Steps.{IsValue}
 use Rattle.cfn_queue.specs.Waiting.{is_in}
 use Rattle.cfn_consistency.specs.declared.deletion.Deletion.{Deletion}
 use Rattle.cfn_consistency.specs.Virtual.{Bans, IsDeletion}
-use Rattle.cfn_live.specs.Sets.{live_count}
-use Rattle.cfn_live.proofs.CallerLemmas.{live_below_none}
+use Rattle.cfn_rows.specs.Sets.{live_count}
+use Rattle.cfn_rows.proofs.CallerLemmas.{live_below_none}
 use Rattle.cfn_store.specs.Rooms.{sets_of}
 use Rattle.cfn_store.specs.Standing.{Standing, history, with_step}
 use Rattle.cfn_derivation.specs.Derived.{AllAlive, EmptiesLast}

@@ -9,7 +9,7 @@ use Rattle.cfn_model.specs.Sums.{is_live}
 use Rattle.cfn_model.specs.Steps.{IsValue}
 use Rattle.cfn_consistency.specs.declared.deletion.Deletion.{Deletion}
 use Rattle.cfn_consistency.specs.Virtual.{Bans, without, IsDerivation, IsEmptied}
-use Rattle.cfn_live.specs.Sets.{live_below}
+use Rattle.cfn_rows.specs.Sets.{live_below}
 use Rattle.cfn_store.specs.Standing.{Standing, history}
 
 -- How many values the first n variables have, and how many all have.

@@ -1,6 +1,6 @@
 //! When a limit of time is past.
 
-use cfn_clock::{Deadline, Halt};
+use cfn_explore::{Deadline, Halt};
 use std::cell::Cell;
 use std::io;
 use std::io::ErrorKind;

@@ -1,12 +1,12 @@
 //! What a line says, and when one is shown.
 
 ghost use Rattle.std.specs.Prelude.{◌≡◌, None};
-ghost use Rattle.cfn_gate.specs.Telling.{AreBounds};
+ghost use Rattle.cfn_explore.specs.Telling.{AreBounds};
 
-use cfn_gate::{Gate, News};
+use cfn_explore::{Gate, News};
 use cfn_model::Row;
 use cfn_net::{Builder, Network};
-use cfn_progress::{Line, Progress};
+use cfn_report::{Line, Progress};
 use std::alloc::{AllocError, Global};
 use std::cell::{Cell, RefCell};
 use std::fmt::Display;

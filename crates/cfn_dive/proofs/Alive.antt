@@ -7,7 +7,7 @@ use Rattle.cfn_model.specs.declared.step.Event.{Event}
 use Rattle.cfn_model.specs.Network.{Network, IsNetwork, Fits}
 use Rattle.cfn_model.specs.Sums.{floor}
 use Rattle.cfn_model.specs.Tree.{CanClose}
-use Rattle.cfn_live.proofs.CallerLemmas.{live_below_none, live_below_two}
+use Rattle.cfn_rows.proofs.CallerLemmas.{live_below_none, live_below_two}
 use Rattle.cfn_consistency.specs.Consistency.{IsNodeConsistent}
 use Rattle.cfn_store.specs.Standing.{Standing, history}
 use Rattle.cfn_branch.specs.Choosing.{choices, AllDecided, IsChoice}

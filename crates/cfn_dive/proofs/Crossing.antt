@@ -7,8 +7,8 @@ use Rattle.cfn_net.specs.contracts.network.Network as Network
 use Rattle.cfn_net.specs.contracts.tables.Tables as Tables
 use Rattle.cfn_net.specs.contracts.scored.Scored as Scored
 use Rattle.cfn_net.proofs.CallerLemmas.{snapshot_send, snapshot_sync}
-use Rattle.cfn_live.specs.contracts.past.Past as Past
-use Rattle.cfn_live.specs.contracts.live.LiveSets as LiveSets
+use Rattle.cfn_rows.specs.contracts.past.Past as Past
+use Rattle.cfn_rows.specs.contracts.live.LiveSets as LiveSets
 use Rattle.cfn_store.specs.contracts.state.State as State
 use Rattle.cfn_store.specs.contracts.shelf.Shelf as Shelf
 use Rattle.cfn_store.specs.contracts.supports.Supports as Supports

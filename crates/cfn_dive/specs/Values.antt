@@ -4,7 +4,7 @@ use Rattle.cfn_model.specs.Sums.{is_live}
 use Rattle.cfn_model.specs.Certificate.{Solution, threshold_of}
 use Rattle.cfn_net.specs.Scoring.{Scoring}
 use Rattle.cfn_store.specs.Standing.{Standing, history}
-use Rattle.cfn_eac.specs.Asking.{IsCheapest}
+use Rattle.cfn_edac.specs.Asking.{IsCheapest}
 
 -- The threshold: the price of what is held.
 abbrev pub price_of : Scoring → ℕ

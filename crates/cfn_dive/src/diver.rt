@@ -9,11 +9,9 @@ ghost use Rattle.cfn_dive.specs.Making.{IsMade};
 use crate::growing::Grown;
 use crate::parts::Parts;
 use cfn_branch::Rule;
-use cfn_clock::Halt;
-use cfn_explore::{Explore, Explored};
+use cfn_explore::{Explore, Explored, Halt, Piece, Task};
 use cfn_low::{Holder, Incumbent, Low};
 use cfn_net::{Network, Tables};
-use cfn_task::{Piece, Task};
 use std::alloc::{AllocError, Global};
 use std::marker::Model;
 

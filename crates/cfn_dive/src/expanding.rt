@@ -25,7 +25,7 @@ use crate::parts::{Parts, Waiting};
 use crate::propagation::{Asked, since};
 use crate::root::{Around, enforce};
 use crate::values::take_values;
-use cfn_clock::Halt;
+use cfn_explore::Halt;
 use cfn_gain::Settling;
 use cfn_low::{Holder, Incumbent, Low};
 use cfn_model::{Decision, Event};

@@ -10,11 +10,10 @@ ghost use Rattle.cfn_dive.specs.Making.{Begins, IsMade};
 
 use crate::growth::{Growth, Leaf};
 use crate::parts::Parts;
-use cfn_clock::Halt;
+use cfn_explore::{Halt, Task};
 use cfn_low::{Holder, Incumbent, Low};
 use cfn_net::Network;
 use cfn_proof::Tree;
-use cfn_task::Task;
 use std::alloc::{AllocError, Global};
 use std::snapshot::Snapshot;
 

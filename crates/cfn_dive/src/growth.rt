@@ -2,7 +2,7 @@
 
 ghost use Rattle.cfn_dive.specs.Diving.{GoesOn};
 
-use cfn_clock::Halt;
+use cfn_explore::Halt;
 use cfn_model::Event;
 use cfn_proof::{NodeId, Path, Tree};
 use std::snapshot::Snapshot;

@@ -8,8 +8,8 @@ ghost use Rattle.cfn_edac.specs.Settling.{IsBehindSettled};
 ghost use Rattle.cfn_dive.specs.Enforcing.{GoesOn, Finds, Groups, IsRound, AreRounds, IsRooted, IsSpent};
 
 use crate::propagation::{Asked, propagate, settle};
-use cfn_clock::Halt;
 use cfn_edac::Enforcer;
+use cfn_explore::Halt;
 use cfn_gain::{Limits, Settling};
 use cfn_incidence::Incidence;
 use cfn_store::Store;

@@ -3,8 +3,8 @@
 ghost use Rattle.std.specs.Prelude.{◌≤◌};
 
 use crate::judging::Verdict;
+use cfn_low::{Outcome, Stop};
 use cfn_net::Network;
-use cfn_outcome::{Outcome, Stop};
 use cfn_proof::Row;
 use cfn_solve::solve;
 use cfn_testing::drawing::{Dice, MOST, draw, file_of, least_of};

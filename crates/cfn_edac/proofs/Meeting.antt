@@ -8,8 +8,8 @@ use Rattle.cfn_model.specs.Network.{Network, arity, scope_at, variable_at, dims_
 use Rattle.cfn_model.specs.Sums.{is_live}
 use Rattle.cfn_model.proofs.CallerLemmas.{fits_at}
 use Rattle.cfn_net.proofs.CallerLemmas.{get_or-dims}
-use Rattle.cfn_live.specs.Sets.{live_below}
-use Rattle.cfn_live.proofs.CallerLemmas.{live_below_two}
+use Rattle.cfn_rows.specs.Sets.{live_below}
+use Rattle.cfn_rows.proofs.CallerLemmas.{live_below_two}
 use Rattle.cfn_consistency.proofs.CallerLemmas.{tuple_live_at}
 use Rattle.cfn_due.specs.Siding.{HasSupports}
 

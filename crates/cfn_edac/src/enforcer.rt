@@ -1,10 +1,10 @@
 //! Existential directional arc consistency for a caller: what is due is looked at until nothing is (`reviser.rt`).
 
 ghost use Rattle.std.specs.Prelude.{◌≡◌, ◌<◌, ◌≤◌, ◌+◌, length, IfOk, IfSome};
-ghost use Rattle.cfn_live.specs.Sets.{live_count};
+ghost use Rattle.cfn_rows.specs.Sets.{live_count};
 ghost use Rattle.cfn_store.specs.Rooms.{sets_of};
 ghost use Rattle.cfn_store.specs.Standing.{history};
-ghost use Rattle.cfn_eac.specs.Asking.{IsCheapest};
+ghost use Rattle.cfn_edac.specs.Asking.{IsCheapest};
 ghost use Rattle.cfn_gain.specs.Calls.{Adds};
 ghost use Rattle.cfn_edac.specs.Settling.{Answers, HasGained, IsBehindSettled};
 

@@ -9,10 +9,10 @@ ghost use Rattle.std.specs.Prelude.{◌≡◌, ◌<◌, ◌≤◌, length, take,
 ghost use Rattle.cfn_model.specs.declared.limits.TheConstants.{MOST_VALUES};
 ghost use Rattle.cfn_queue.specs.Waiting.{IsFirst};
 ghost use Rattle.cfn_consistency.specs.Consistency.{IsNodeConsistent, AreFullyConsistent};
-ghost use Rattle.cfn_live.specs.Sets.{live_count};
+ghost use Rattle.cfn_rows.specs.Sets.{live_count};
 ghost use Rattle.cfn_store.specs.Rooms.{sets_of};
 ghost use Rattle.cfn_store.specs.Standing.{history};
-ghost use Rattle.cfn_eac.specs.Asking.{IsCheapest};
+ghost use Rattle.cfn_edac.specs.Asking.{IsCheapest};
 ghost use Rattle.cfn_model.specs.Steps.{after};
 ghost use Rattle.cfn_due.specs.Dues.{Holds};
 ghost use Rattle.cfn_due.specs.Nexts.{IsNext};
@@ -24,9 +24,9 @@ ghost use Rattle.cfn_edac.specs.Revising.{HoldsIn, IsSureIn, IsKnownIn, IsRevise
 ghost use Rattle.cfn_edac.specs.Settling.{IsBehindSettled};
 
 use crate::looks::{arc, levels};
+use crate::{Neighbours, cheapest, existential};
 use cfn_dac::directional;
 use cfn_due::{Due, Next, Rests, Sides};
-use cfn_eac::{Neighbours, cheapest, existential};
 use cfn_gain::{Halt, Limits};
 use cfn_incidence::Incidence;
 use cfn_model::{Event, MOST_VALUES};

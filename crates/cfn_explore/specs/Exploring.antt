@@ -4,7 +4,7 @@ use Rattle.cfn_model.specs.declared.step.Event.{Event}
 use Rattle.cfn_model.specs.Network.{Network}
 use Rattle.cfn_model.specs.Tree.{Tree, count, open_leaves}
 use Rattle.cfn_proof.specs.Nodes.{tree_of}
-use Rattle.cfn_task.specs.Values.{TaskValue, PieceValue}
+use Rattle.cfn_explore.specs.Values.{TaskValue, PieceValue}
 use Rattle.cfn_explore.specs.declared.explore.Explored.{Explored}
 use Rattle.cfn_explore.specs.declared.explore.Explored.TheVariants.{Piece, Memory}
 use Rattle.cfn_explore.specs.Backtracks.{backtracks}

@@ -1,9 +1,8 @@
 //! What makes a piece of a task.
 
-use cfn_clock::Halt;
+use crate::{Halt, Piece, Task};
 use cfn_low::{Holder, Incumbent, Low};
 use cfn_net::Network;
-use cfn_task::{Piece, Task};
 use std::alloc::Global;
 
 /// What is made of a task: a piece, and whether all backtracks were made; or, at want of memory, nothing.

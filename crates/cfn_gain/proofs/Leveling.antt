@@ -14,7 +14,7 @@ use Rattle.cfn_gain.specs.declared.limits.Limits.{Limits}
 use Rattle.cfn_gain.specs.declared.limits.Halt.{Halt}
 use Rattle.cfn_gain.specs.declared.limits.Halt.TheVariants.{Dead, Spent}
 use Rattle.cfn_gain.specs.Calls.{GoesOn, Adds, Does, Shows, Grows, Passing}
-use Rattle.cfn_live.specs.Sets.{AreLive}
+use Rattle.cfn_rows.specs.Sets.{AreLive}
 use Rattle.cfn_store.specs.Rooms.{sets_of}
 use Rattle.cfn_gain.specs.Passes.{IsLeast}
 use Rattle.cfn_gain.proofs.Stepping.{append_none, history_step}

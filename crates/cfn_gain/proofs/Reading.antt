@@ -6,7 +6,7 @@ use Rattle.std.specs.Prelude.{ℤ, pos, ◌≤ℤ◌, IsTrue, slice_index}
 use Rattle.cfn_model.specs.Network.{Network}
 use Rattle.cfn_model.specs.Sums.{unary, is_live}
 use Rattle.cfn_model.specs.Steps.{IsValue}
-use Rattle.cfn_live.specs.Sets.{AreLive}
+use Rattle.cfn_rows.specs.Sets.{AreLive}
 use Rattle.cfn_store.specs.Standing.{Standing, history}
 use Rattle.cfn_store.specs.Rooms.{sets_of}
 use Rattle.cfn_gain.specs.Passes.{HasLive, IsLeast}

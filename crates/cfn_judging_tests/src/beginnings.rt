@@ -2,7 +2,7 @@
 
 use crate::samples::{TINY, TRI, tiny, tri};
 use cfn_net::Network;
-use cfn_resume::{Resumed, resume};
+use cfn_rebase::{Resumed, resume};
 use std::test::Fail;
 
 /// What is known of a beginning.

@@ -13,7 +13,7 @@ use Rattle.cfn_proof.specs.declared.tree.Node.{Node}
 use Rattle.cfn_proof.specs.Nodes.{Before, split_behind_at}
 use Rattle.cfn_proof.proofs.CallerLemmas.{before_some, before_split_behind, length-split_behind_at, split_behind_at-first}
 use Rattle.cfn_leaves.specs.Ways.{IsPathOf}
-use Rattle.cfn_listing.specs.Trees.{number_at}
+use Rattle.cfn_ranking.specs.Trees.{number_at}
 use Rattle.cfn_ranking.specs.Ranked.{Ranked, IsRanked, Waits}
 use Rattle.cfn_ranking.specs.Changes.{divided}
 use Rattle.cfn_ranking.proofs.CallerLemmas.{before_runs, before_tame}

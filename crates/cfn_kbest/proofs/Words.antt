@@ -3,8 +3,8 @@ use Rattle.std.proofs.Common.{◌≡◌, ℕ, ◌<◌, ◌≤◌, inl, inr, None
 use Rattle.std.proofs.lemmas.Bool.{cases_eq, false≢true}
 use Rattle.std.specs.Prelude.{◌↔◌, Option, IfSome, IsTrue, is_some}
 use Rattle.cfn_model.specs.Network.{Network}
-use Rattle.cfn_listing.specs.declared.word.ListWord.{ListWord}
-use Rattle.cfn_listing.specs.declared.word.ListWord.TheVariants.{Complete, Budget, Time, Memory}
+use Rattle.cfn_ranking.specs.declared.word.ListWord.{ListWord}
+use Rattle.cfn_ranking.specs.declared.word.ListWord.TheVariants.{Complete, Budget, Time, Memory}
 use Rattle.cfn_kbest.specs.declared.search.Best.{Best}
 use Rattle.cfn_kbest.specs.Searching.{HasListCause, IsBestOf, word_of}
 

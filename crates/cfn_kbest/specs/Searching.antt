@@ -1,10 +1,10 @@
 -- What a search for the cheapest assignments promises.
 use Rattle.std.specs.Prelude.{◌≡◌, ◌↔◌, true, false, ℕ, ◌<◌, ◌≤◌, Bool}
 use Rattle.cfn_model.specs.Network.{Network}
-use Rattle.cfn_listing.specs.declared.word.ListWord.{ListWord}
-use Rattle.cfn_listing.specs.declared.word.ListWord.TheVariants.{Complete, Budget, Time, Memory}
-use Rattle.cfn_listing.specs.Certificates.{list_certificate_of}
-use Rattle.cfn_listing.specs.Trees.{open_leaves}
+use Rattle.cfn_ranking.specs.declared.word.ListWord.{ListWord}
+use Rattle.cfn_ranking.specs.declared.word.ListWord.TheVariants.{Complete, Budget, Time, Memory}
+use Rattle.cfn_ranking.specs.Certificates.{list_certificate_of}
+use Rattle.cfn_ranking.specs.Trees.{open_leaves}
 use Rattle.cfn_ranking.specs.Finished.{IsListOf}
 use Rattle.cfn_kbest.specs.declared.search.Best.{Best}
 

@@ -11,8 +11,8 @@ ghost use Rattle.cfn_dive.specs.Enforcing.{Finds, IsSettledAt};
 ghost use Rattle.cfn_dive.specs.Diving.{IsOf};
 ghost use Rattle.cfn_kbest.specs.Expanding.{IsExpanded};
 
-use cfn_clock::Halt;
 use cfn_dive::{Around, Asked, Parts, enforce, take_values};
+use cfn_explore::Halt;
 use cfn_gain::Settling;
 use cfn_model::{Decision, Event};
 use cfn_net::{Network, Scored};

@@ -13,11 +13,10 @@ ghost use Rattle.cfn_kbest.specs.Searching.{IsBestOf, word_of as the_word};
 use crate::dive::Dive;
 use crate::steps::{go_on, turn};
 use cfn_branch::Rule;
-use cfn_clock::{Halt, Past};
 use cfn_dive::Parts;
-use cfn_listing::{BestCertificate, ListWord};
+use cfn_explore::{Halt, Past};
 use cfn_net::{Network, Scored, Tables};
-use cfn_ranking::Ranking;
+use cfn_ranking::{BestCertificate, ListWord, Ranking};
 use cfn_store::Store;
 use std::alloc::{AllocError, Global};
 

@@ -10,8 +10,8 @@ ghost use Rattle.cfn_kbest.specs.Steps.{AreMarked, EndsBehindPlace, IsAt, IsChil
 
 use crate::dive::Dive;
 use crate::expanding::{Expanded, Stand, expand};
-use cfn_clock::Halt;
 use cfn_dive::{Parts, since};
+use cfn_explore::Halt;
 use cfn_leaves::path_to;
 use cfn_model::{Decision, Event};
 use cfn_net::{Network, Scored};

@@ -6,8 +6,8 @@ use Rattle.std.proofs.lemmas.List.Elements.{All-contains}
 use Rattle.cfn_model.specs.declared.step.Event.{Event}
 use Rattle.cfn_model.specs.Network.{Network}
 use Rattle.cfn_model.specs.Sums.{floor}
-use Rattle.cfn_open.specs.declared.list.OpenLeaf.{OpenLeaf}
-use Rattle.cfn_open.specs.Listing.{Listing, IsLeast, IsBefore}
+use Rattle.cfn_queue.specs.declared.list.OpenLeaf.{OpenLeaf}
+use Rattle.cfn_queue.specs.Listing.{Listing, IsLeast, IsBefore}
 use Rattle.cfn_proof.specs.declared.tree.Node.{Node}
 use Rattle.cfn_proof.specs.Nodes.{node_at, IsFree, IsLinked}
 use Rattle.cfn_proof.specs.Local.{BeforeOnceLaw}

@@ -12,8 +12,8 @@ use Rattle.cfn_model.specs.Network.{Network}
 use Rattle.cfn_model.specs.Sums.{floor}
 use Rattle.cfn_model.specs.Steps.{after}
 use Rattle.cfn_model.specs.Tree.{open_leaves}
-use Rattle.cfn_open.specs.declared.list.OpenLeaf.{OpenLeaf}
-use Rattle.cfn_open.specs.Listing.{Listing, is_below}
+use Rattle.cfn_queue.specs.declared.list.OpenLeaf.{OpenLeaf}
+use Rattle.cfn_queue.specs.Listing.{Listing, is_below}
 use Rattle.cfn_proof.specs.declared.tree.Node.{Node}
 use Rattle.cfn_proof.specs.Nodes.{node_at, IsLinked, IsFree, close_at}
 use Rattle.cfn_proof.specs.Local.{BeforeOnceLaw}

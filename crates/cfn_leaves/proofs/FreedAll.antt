@@ -4,7 +4,7 @@ use Rattle.std.proofs.lemmas.Bool.{cases_eq}
 use Rattle.std.proofs.lemmas.List.{length-set, get_or-set_same, get_or-set_other}
 use Rattle.cfn_model.specs.declared.step.Event.{Event}
 use Rattle.cfn_model.specs.Network.{Network}
-use Rattle.cfn_open.specs.Listing.{Listing}
+use Rattle.cfn_queue.specs.Listing.{Listing}
 use Rattle.cfn_proof.specs.declared.tree.Node.{Node}
 use Rattle.cfn_proof.specs.Local.{BeforeOnceLaw}
 use Rattle.cfn_machine.specs.Pool.{Out, PoolTree, IsLeaf, granted, recalled}

@@ -5,7 +5,7 @@ use Rattle.std.proofs.lemmas.List.Elements.{All-weaker}
 use Rattle.cfn_model.specs.Network.{Network}
 use Rattle.cfn_model.specs.Sums.{floor}
 use Rattle.cfn_model.specs.Tree.{open_leaves, count}
-use Rattle.cfn_open.specs.Listing.{Listing}
+use Rattle.cfn_queue.specs.Listing.{Listing}
 use Rattle.cfn_proof.specs.declared.tree.Node.{Node}
 use Rattle.cfn_proof.specs.Nodes.{tree_of, IsLinked, IsFree, graft_at}
 use Rattle.cfn_proof.specs.Local.{BeforeOnceLaw}

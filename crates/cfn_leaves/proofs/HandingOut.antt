@@ -6,12 +6,12 @@ use Rattle.std.proofs.lemmas.List.Elements.{All-head}
 use Rattle.cfn_model.specs.declared.step.Event.{Event}
 use Rattle.cfn_model.specs.Network.{Network}
 use Rattle.cfn_model.specs.Sums.{floor}
-use Rattle.cfn_open.specs.declared.list.OpenLeaf.{OpenLeaf}
-use Rattle.cfn_open.specs.Listing.{Listing, IsLeast}
+use Rattle.cfn_queue.specs.declared.list.OpenLeaf.{OpenLeaf}
+use Rattle.cfn_queue.specs.Listing.{Listing, IsLeast}
 use Rattle.cfn_proof.specs.Local.{BeforeOnceLaw}
 use Rattle.cfn_machine.specs.Pool.{Free, Out, PoolTree, Leaf, IsLeaf, Replaced, granted, active_leaves, Task, View}
 use Rattle.cfn_machine.proofs.CallerLemmas.{free_active, granted_active, none_active}
-use Rattle.cfn_open.proofs.CallerLemmas.{least_once}
+use Rattle.cfn_queue.proofs.CallerLemmas.{least_once}
 use Rattle.cfn_machine.specs.Steps.{PoolTakes, IsFirst}
 use Rattle.cfn_leaves.specs.declared.entry.Mark.TheVariants as held
 use Rattle.cfn_leaves.specs.declared.entry.Entry.{Entry}

@@ -3,8 +3,8 @@ use Rattle.std.proofs.Common.{◌≡◌, ◌≢◌, ℕ, ◌+◌, ◌<◌, ◌�
 use Rattle.cfn_model.specs.declared.step.Event.{Event}
 use Rattle.cfn_model.specs.Network.{Network}
 use Rattle.cfn_model.specs.Sums.{floor}
-use Rattle.cfn_open.specs.declared.list.OpenLeaf.{OpenLeaf}
-use Rattle.cfn_open.specs.Listing.{Listing, IsLeast}
+use Rattle.cfn_queue.specs.declared.list.OpenLeaf.{OpenLeaf}
+use Rattle.cfn_queue.specs.Listing.{Listing, IsLeast}
 use Rattle.cfn_proof.specs.declared.tree.NodeId.{NodeId}
 use Rattle.cfn_proof.specs.Local.{BeforeOnceLaw}
 use Rattle.cfn_machine.specs.Pool.{Free, PoolTree, IsLeaf, IsTask, Task, View}

@@ -5,7 +5,7 @@ use Rattle.std.proofs.lemmas.List.{get_or_past, get_or_push, get_or_append_left,
 use Rattle.std.proofs.lemmas.List.Sums.{sum_by-cons, sum_by-set}
 use Rattle.std.proofs.lemmas.List.Sorted.{sum_by-IsPermutation, All-permutation}
 use Rattle.std.proofs.lemmas.List.Elements.{All-nil, All-cons, All-head, All-tail, All-contains}
-use Rattle.cfn_open.specs.declared.list.OpenLeaf.{OpenLeaf}
+use Rattle.cfn_queue.specs.declared.list.OpenLeaf.{OpenLeaf}
 use Rattle.cfn_leaves.specs.declared.entry.Mark.TheVariants as held
 use Rattle.cfn_leaves.specs.declared.entry.Entry.{Entry}
 use Rattle.cfn_leaves.specs.Standing.{entry_at}

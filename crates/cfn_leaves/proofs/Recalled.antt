@@ -4,7 +4,7 @@ use Rattle.std.proofs.lemmas.List.{length-set}
 use Rattle.cfn_model.specs.declared.step.Event.{Event}
 use Rattle.cfn_model.specs.declared.step.Event.TheVariants.{Took, Refused}
 use Rattle.cfn_model.specs.Steps.{after}
-use Rattle.cfn_open.specs.Listing.{Listing}
+use Rattle.cfn_queue.specs.Listing.{Listing}
 use Rattle.cfn_proof.specs.Local.{BeforeOnceLaw}
 use Rattle.cfn_machine.specs.Pool.{Free, Out, PoolTree, Leaf, Shut, Fork, IsLeaf, Replaced, granted, recalled, Task, View}
 use Rattle.cfn_machine.specs.Steps.{PoolReturns, IsNotOut}

@@ -2,8 +2,8 @@
 use Rattle.std.proofs.Common.{◌≡◌, ℕ, ◌+◌, ◌<◌, ◌≤◌, List, [], ◌∷◌, length, drop, get_or, sym, ap, ◌∙◌, subst, IsPermutation}
 use Rattle.std.specs.List.{filter}
 use Rattle.std.proofs.lemmas.List.{drop_more, drop_all}
-use Rattle.cfn_open.specs.declared.list.OpenLeaf.{OpenLeaf}
-use Rattle.cfn_open.specs.Listing.{Listing}
+use Rattle.cfn_queue.specs.declared.list.OpenLeaf.{OpenLeaf}
+use Rattle.cfn_queue.specs.Listing.{Listing}
 use Rattle.cfn_proof.specs.Local.{BeforeOnceLaw}
 use Rattle.cfn_machine.specs.Pool.{swept}
 use Rattle.cfn_leaves.specs.declared.leaves.Leaves.TheInside.{Inside}

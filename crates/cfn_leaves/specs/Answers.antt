@@ -1,6 +1,6 @@
 -- What the calls on the leaves answer, each by a step of the pool.
 use Rattle.std.specs.Prelude.{◌≡◌, ℕ}
-use Rattle.cfn_task.specs.Values.{TaskValue}
+use Rattle.cfn_explore.specs.Values.{TaskValue}
 use Rattle.cfn_machine.specs.Pool.{View, IsSound}
 use Rattle.cfn_machine.specs.Steps.{PoolTakes, HasNone, NoneOpen, AllSpent, AllOut}
 use Rattle.cfn_leaves.specs.declared.taking.Taken.{Taken}

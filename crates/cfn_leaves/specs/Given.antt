@@ -2,7 +2,7 @@
 use Rattle.std.specs.Prelude.{◌≡◌, ℕ, Some}
 use Rattle.cfn_machine.specs.Pool.{View, Task}
 use Rattle.cfn_machine.specs.Steps.{PoolGives, IsOut}
-use Rattle.cfn_task.specs.Values.{PieceValue, piece_of}
+use Rattle.cfn_explore.specs.Values.{PieceValue, piece_of}
 use Rattle.cfn_leaves.specs.declared.entry.Entry.{Entry}
 use Rattle.cfn_leaves.specs.declared.entry.Mark.TheVariants as held
 use Rattle.cfn_leaves.specs.declared.giving.Handed.{Handed}

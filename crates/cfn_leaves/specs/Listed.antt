@@ -1,6 +1,6 @@
 -- The free leaves in the open list.
 use Rattle.std.specs.Prelude.{◌≡◌, ℕ, List, All, sum_by, Option, Some, None, if◌then◌else◌, ◌==◌}
-use Rattle.cfn_open.specs.declared.list.OpenLeaf.{OpenLeaf}
+use Rattle.cfn_queue.specs.declared.list.OpenLeaf.{OpenLeaf}
 use Rattle.cfn_leaves.specs.declared.entry.Mark.{Mark as HeldMark}
 use Rattle.cfn_leaves.specs.declared.entry.Mark.TheVariants as held
 use Rattle.cfn_leaves.specs.declared.entry.Entry.{Entry}

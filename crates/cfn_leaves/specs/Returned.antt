@@ -1,7 +1,7 @@
 -- What is kept after every leaf that is out was freed.
 use Rattle.std.specs.Prelude.{◌≡◌, ℕ, List, length, Option}
 use Rattle.cfn_model.specs.Network.{Network}
-use Rattle.cfn_open.specs.Listing.{Listing}
+use Rattle.cfn_queue.specs.Listing.{Listing}
 use Rattle.cfn_proof.specs.declared.tree.Node.{Node}
 use Rattle.cfn_machine.specs.Pool.{recalled}
 use Rattle.cfn_leaves.specs.declared.entry.Entry.{Entry}

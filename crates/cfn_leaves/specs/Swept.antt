@@ -1,6 +1,6 @@
 -- Leaves by their floors.
 use Rattle.std.specs.Prelude.{ℕ, ◌<◌, ◌≤◌}
-use Rattle.cfn_open.specs.declared.list.OpenLeaf.{OpenLeaf}
+use Rattle.cfn_queue.specs.declared.list.OpenLeaf.{OpenLeaf}
 
 abbrev pub IsBelow : ℕ → OpenLeaf → Type 0
 IsBelow k leaf = leaf.floor < k

@@ -4,7 +4,7 @@ use Rattle.std.specs.Prelude.{◌≡◌, ℕ, ◌+◌, ◌≤◌, ◌^◌, List,
 use Rattle.cfn_model.specs.declared.report.Row.{Row}
 use Rattle.cfn_model.specs.Network.{Network}
 use Rattle.cfn_model.specs.Tree.{open_leaves}
-use Rattle.cfn_open.specs.Listing.{Listing}
+use Rattle.cfn_queue.specs.Listing.{Listing}
 use Rattle.cfn_proof.specs.declared.tree.Node.{Node}
 use Rattle.cfn_machine.specs.Pool.{PoolTree, tree_of, granted, View, Pool}
 use Rattle.cfn_leaves.specs.declared.entry.Entry.{Entry}

@@ -12,9 +12,9 @@ use crate::placed::Placed;
 use crate::placing::{place, reserve};
 use crate::taking::clear;
 use crate::walk::open_spots;
+use cfn_explore::{Piece, Task};
 use cfn_proof::laws::law_same_before;
 use cfn_proof::{NodeId, Tree};
-use cfn_task::{Piece, Task};
 
 /// The answer to a piece that is given.
 #[derive(Drop)]

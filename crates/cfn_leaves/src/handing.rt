@@ -8,9 +8,9 @@ ghost use Rattle.cfn_leaves.specs.Value.{pool_tree};
 use crate::entry::Mark;
 use crate::leaves::Leaves;
 use crate::taking::{held, mark};
-use cfn_open::OpenLeaf;
 use cfn_proof::NodeId;
 use cfn_proof::laws::law_same_before;
+use cfn_queue::OpenLeaf;
 
 /// A leaf that was handed out: its number, and how many nodes may be made below it, at least 1.
 #[derive(Clone, Copy)]

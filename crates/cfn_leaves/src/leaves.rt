@@ -2,8 +2,8 @@
 
 use crate::entry::Entry;
 use cfn_net::NetworkSnapshot;
-use cfn_open::OpenList;
 use cfn_proof::{Row, Tree};
+use cfn_queue::OpenList;
 use std::marker::Model;
 
 /// How many rows of bounds are kept at most.

@@ -8,7 +8,7 @@
 //! (`handing`), `put` and `put_back`, which know a leaf by its number, its worker and its grant alone, and ask for nothing.
 //!
 //! The tree is an arena of nodes that only grows (`finish` hands it out). Beside it stand a table of the open leaves by
-//! their numbers (`entry`), and the free ones in the order of their floors (cfn_open). A leaf's path is read up the
+//! their numbers (`entry`), and the free ones in the order of their floors (cfn_queue). A leaf's path is read up the
 //! tree (`way`), and a piece's leaves are numbered by a walk over it (`walk`) and put behind the table (`placing`).
 //! Only `start`, `take`, `give` and `put` take memory, and a place in the list is kept for each leaf that is out, so that no
 //! other call needs any.

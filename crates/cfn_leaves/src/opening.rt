@@ -13,9 +13,9 @@ use crate::placing::{place, reserve};
 use crate::walk::open_spots;
 use cfn_machine::Part;
 use cfn_net::{Network, NetworkSnapshot};
-use cfn_open::OpenList;
 use cfn_proof::Tree;
 use cfn_proof::laws::law_same_before;
+use cfn_queue::OpenList;
 use std::alloc::{AllocError, Global};
 
 impl Leaves {

@@ -8,8 +8,8 @@ ghost use Rattle.cfn_leaves.specs.Placed.{placed, FitsPlace};
 
 use crate::entry::{Entry, Mark};
 use crate::walk::Spot;
-use cfn_open::{OpenLeaf, OpenList};
 use cfn_proof::NodeId;
+use cfn_queue::{OpenLeaf, OpenList};
 use std::alloc::AllocError;
 
 /// How many leaves may have a number.

@@ -13,9 +13,9 @@ ghost use Rattle.cfn_leaves.specs.Value.{pool_of};
 use crate::entry::{Entry, Mark};
 use crate::leaves::Leaves;
 use crate::taking::{held, mark};
-use cfn_open::{OpenLeaf, OpenList};
+use cfn_explore::Task;
 use cfn_proof::laws::law_same_before;
-use cfn_task::Task;
+use cfn_queue::{OpenLeaf, OpenList};
 
 impl Leaves {
     /// Frees a task's leaf, where it is out to the task's worker with the task's grant, and answers whether it was. If it

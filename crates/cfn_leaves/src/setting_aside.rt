@@ -12,8 +12,8 @@ use crate::entry::{Entry, Mark};
 use crate::leaves::Leaves;
 use crate::taking::{held, mark};
 use cfn_machine::Part;
-use cfn_open::OpenList;
 use cfn_proof::laws::law_same_before;
+use cfn_queue::OpenList;
 use std::alloc::{AllocError, Global};
 
 impl Leaves {

@@ -8,8 +8,8 @@ use crate::entry::{Entry, Mark};
 use crate::handing::Lack;
 use crate::leaves::Leaves;
 use crate::way::path_to;
+use cfn_explore::Task;
 use cfn_net::Network;
-use cfn_task::Task;
 
 /// The answer to a worker that asks for a leaf.
 #[derive(Drop)]

@@ -1,3 +1,4 @@
 pub mod Sights
 pub mod Turns
+pub mod Rows
 pub mod CallerLemmas

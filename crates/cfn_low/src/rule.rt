@@ -15,7 +15,7 @@ use std::marker::{Brand, PhantomData};
 pub trait Incumbent {
     ghost use Rattle.atomic_table.specs.Seated.{TableId};
     ghost use Rattle.cfn_model.specs.Network.{Network};
-    ghost use Rattle.cfn_outcome.specs.Outcome.{Start};
+    ghost use Rattle.cfn_low.specs.Outcome.{Start};
 
     ghost table: { TableId };
 

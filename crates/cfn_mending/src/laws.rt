@@ -1,6 +1,7 @@
 //! The laws that the definitions have, each the contract of a function with nothing to do.
 
 ghost use Rattle.cfn_mending.specs.Laws.{KeptIsWell, KeptOnce, KeepsAll, JoinValid, JoinBound, BoundOfHeight, MergedGood, MergedLower, AllMergedGood, AllMergedLower, AllMergedSpelled, AllMergedAnew};
+ghost use Rattle.cfn_mending.specs.MakingLaws.{MakesFromOne, MakesSame, MakesSplit, MakesClose, MakesLeave, MakesWhole};
 
 /// What is kept of a tree is one tree, and well formed; of a tree that is well formed all is kept.
 pub fn law_kept()
@@ -33,4 +34,15 @@ pub fn law_all_merged()
     ensures lower { AllMergedLower }
     ensures spelled { AllMergedSpelled }
     ensures anew { AllMergedAnew }
+{}
+
+/// A tree of one open leaf will be what is due there. A leaf may be split, closed, or left open behind a block where that
+/// is due, and the tree will be the same. Where each open leaf is due as it is, the tree is made.
+pub fn law_making()
+    ensures one { MakesFromOne }
+    ensures same { MakesSame }
+    ensures split { MakesSplit }
+    ensures close { MakesClose }
+    ensures leave { MakesLeave }
+    ensures whole { MakesWhole }
 {}

@@ -8,7 +8,7 @@ use Rattle.cfn_proof.specs.Nodes.{tree_of}
 use Rattle.cfn_certtext.specs.declared.event.TextFault.{TextFault}
 use Rattle.cfn_certread.specs.declared.certificate.ReadCertificate.{ReadCertificate}
 use Rattle.cfn_certread.specs.Reading.{IsExact, IsRead, solution_of}
-use Rattle.cfn_join.specs.declared.findings.Findings.{Findings}
+use Rattle.cfn_merge.specs.declared.findings.Findings.{Findings}
 use Rattle.cfn_merge.specs.Judging.{HasFound}
 use Rattle.cfn_merge.proofs.Wholes.{narrowed_is}
 

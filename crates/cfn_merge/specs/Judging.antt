@@ -5,7 +5,7 @@ use Rattle.cfn_model.specs.Certificate.{Certificate, Good}
 use Rattle.cfn_model.specs.Text.{Spells}
 use Rattle.cfn_fault.specs.Fault.{Fault}
 use Rattle.cfn_proof.specs.Nodes.{tree_of}
-use Rattle.cfn_join.specs.declared.findings.Findings.{Findings}
+use Rattle.cfn_merge.specs.declared.findings.Findings.{Findings}
 use Rattle.cfn_merge.specs.declared.judging.Judged.{Judged}
 use Rattle.cfn_merge.specs.declared.judging.Judged.TheVariants.{Good as GoodText, Refused}
 

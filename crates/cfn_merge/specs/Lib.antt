@@ -1,1 +1,5 @@
 pub mod Judging
+pub mod Same
+pub mod Ranking
+pub mod Sources
+pub mod Finding

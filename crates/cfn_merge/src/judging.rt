@@ -6,10 +6,10 @@ ghost use Rattle.cfn_certread.specs.Reading.{solution_of};
 ghost use Rattle.cfn_model.specs.Text.{Spells};
 ghost use Rattle.cfn_merge.specs.Judging.{HasFound, IsJudged};
 
+use crate::Findings;
 use cfn_certread::{Best, read};
 use cfn_check::{Check, check};
 use cfn_fault::FaultKind;
-use cfn_join::Findings;
 use cfn_net::{Network, Scored};
 use std::alloc::{AllocError, Global};
 

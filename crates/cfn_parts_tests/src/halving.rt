@@ -4,9 +4,9 @@ ghost use Rattle.std.specs.Prelude.{◌≡◌, ◌≤◌, IsTrue, IfOk, IfSome, 
 ghost use Rattle.cfn_model.specs.Decisions.{variable_of, keeps};
 ghost use Rattle.cfn_model.specs.Sums.{is_live, removes};
 
+use cfn_explore::{Piece, Task};
 use cfn_net::{Builder, Network};
 use cfn_proof::{Decision, Event, Path, Step, Tree};
-use cfn_task::{Piece, Task};
 use std::alloc::{AllocError, Global};
 
 /// Two variables with two values, which cost 1 where they agree, below 10.

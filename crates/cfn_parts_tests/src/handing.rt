@@ -4,10 +4,10 @@ ghost use Rattle.std.specs.Prelude.{◌≡◌, ◌≤◌, IfOk, IfSome};
 ghost use Rattle.cfn_leaves.specs.Answers.{IsSoundPool};
 
 use crate::halving::{halved, pair};
+use cfn_explore::Task;
 use cfn_leaves::{Handed, Leaves, Taken};
 use cfn_net::Network;
 use cfn_proof::{End, Tree};
-use cfn_task::Task;
 use std::alloc::{AllocError, Global};
 use std::test::*;
 

@@ -2,7 +2,7 @@
 
 ghost use Rattle.std.specs.Prelude.{◌≡◌, ◌≤◌, length};
 
-use cfn_open::{OpenLeaf, OpenList};
+use cfn_queue::{OpenLeaf, OpenList};
 use std::alloc::{AllocError, Global};
 use std::test::*;
 

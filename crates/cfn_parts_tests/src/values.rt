@@ -1,7 +1,7 @@
 //! Tests of live values.
 
-use cfn_live::LiveSets;
 use cfn_model::Decision;
+use cfn_rows::LiveSets;
 use std::alloc::{AllocError, Global};
 use std::test::*;
 

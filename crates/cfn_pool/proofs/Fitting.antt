@@ -6,7 +6,7 @@ use Rattle.cfn_model.specs.Network.{Network}
 use Rattle.cfn_machine.specs.Pool.{Free, Out, Pool, Task, IsLeaf, View}
 use Rattle.cfn_machine.specs.Laws.{IsPool}
 use Rattle.cfn_record.specs.Lines.{AreSpelled}
-use Rattle.cfn_task.specs.Values.{PieceValue}
+use Rattle.cfn_explore.specs.Values.{PieceValue}
 use Rattle.cfn_leaves.specs.Value.{Holding as Leaves, pool_of}
 use Rattle.cfn_leaves.specs.Answers as leaves
 use Rattle.cfn_leaves.specs.declared.taking.Taken.{Taken}

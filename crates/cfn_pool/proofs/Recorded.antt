@@ -9,9 +9,9 @@ use Rattle.cfn_machine.proofs.CallerLemmas.{by_noted}
 use Rattle.cfn_record.specs.Entries.{Entry, Gave, Swept, Follows, Runs, IsAlike, entry_of}
 use Rattle.cfn_record.specs.Replaying.{opening}
 use Rattle.cfn_record.proofs.CallerLemmas.{step_follows}
-use Rattle.cfn_history.specs.Histories.{HistoryValue, entry_of as entry_in}
+use Rattle.cfn_record.specs.Histories.{HistoryValue, entry_of as entry_in}
 use Rattle.cfn_model.specs.declared.limits.TheConstants.{GREATEST}
-use Rattle.cfn_task.specs.Values.{PieceValue}
+use Rattle.cfn_explore.specs.Values.{PieceValue}
 use Rattle.cfn_pool.specs.declared.recording.PieceCopy.{PieceCopy}
 use Rattle.cfn_pool.specs.Recorded.{RecordingValue, IsRecordOf, IsExactRecordOf, HasMore, IsCopied, entries_in, Adds, gave, out_after, outs, told_by}
 use Rattle.cfn_pool.specs.Views.{IsRecorded}

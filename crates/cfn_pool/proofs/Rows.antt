@@ -5,7 +5,7 @@ use Rattle.cfn_model.specs.Tree.{Tree, Valid}
 use Rattle.cfn_model.proofs.CallerLemmas.{bounds}
 use Rattle.cfn_machine.specs.Pool.{row_of}
 use Rattle.cfn_low.specs.Steps.{IsReached}
-use Rattle.cfn_gate.specs.Telling.{IsPrice, AreBounds}
+use Rattle.cfn_explore.specs.Telling.{IsPrice, AreBounds}
 use Rattle.cfn_pool.proofs.Kept.{upper_reached}
 
 -- a threshold that was reached is a price where it is below the upper bound

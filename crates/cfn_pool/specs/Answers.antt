@@ -1,7 +1,7 @@
 -- What the pool's calls answer, each by a step of the pool.
 use Rattle.std.specs.Prelude.{◌≡◌, ℕ, ◌≤◌, ◌⊎◌, length, Option}
 use Rattle.cfn_model.specs.Network.{Network}
-use Rattle.cfn_task.specs.Values.{PieceValue, piece_of}
+use Rattle.cfn_explore.specs.Values.{PieceValue, piece_of}
 use Rattle.cfn_machine.specs.Pool.{Pool, price}
 use Rattle.cfn_machine.specs.Word.{all_shares}
 use Rattle.cfn_machine.specs.Steps.{PoolTakes, PoolGives, PoolSweeps, PoolNotes, IsOut, HasNone, NoneOpen, AllSpent, AllOut}

@@ -6,9 +6,9 @@ use Rattle.cfn_machine.specs.Pool.{Mark, Free, Out, PoolTree, Leaf, Shut, Fork, 
 use Rattle.cfn_record.specs.Entries.{Entry, Took, Gave, Freed, CalledBack, Swept, Runs, IsAlike}
 use Rattle.cfn_record.specs.Lines.{AreSpelled}
 use Rattle.cfn_record.specs.Replaying.{opening}
-use Rattle.cfn_history.specs.declared.happened.Happened.{Happened}
-use Rattle.cfn_history.specs.Histories.{HistoryValue, entry_of}
-use Rattle.cfn_task.specs.Values.{PieceValue}
+use Rattle.cfn_record.specs.declared.happened.Happened.{Happened}
+use Rattle.cfn_record.specs.Histories.{HistoryValue, entry_of}
+use Rattle.cfn_explore.specs.Values.{PieceValue}
 use Rattle.cfn_leaves.specs.declared.taking.Taken.{Taken}
 use Rattle.cfn_leaves.specs.declared.taking.Taken.TheVariants.{Given, Empty, Spent, Again, Memory}
 use Rattle.cfn_pool.specs.declared.recording.PieceCopy.{PieceCopy}

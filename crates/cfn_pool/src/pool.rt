@@ -11,12 +11,12 @@ ghost use Rattle.cfn_pool.specs.Recorded.{IsRecordOf, record_of, told_by, told_i
 ghost use Rattle.cfn_pool.specs.Views.{pool, values_of, view_of};
 
 use crate::recording::{Recording, SPARE};
-use cfn_history::History;
 use cfn_leaves::Leaves;
 use cfn_low::{Holder, Incumbent};
 use cfn_machine::Part;
 use cfn_net::Network;
 use cfn_proof::{Row, Tree};
+use cfn_record::History;
 use std::alloc::{AllocError, Global};
 use std::marker::Model;
 

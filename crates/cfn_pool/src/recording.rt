@@ -6,14 +6,14 @@
 ghost use Rattle.std.specs.Prelude.{◌≡◌, ◌<◌, ◌≤◌, ◌^◌, ◌∷◌, ◌+◌, [], IfOk, IfSome, OnOk};
 ghost use Rattle.cfn_record.specs.Entries.{CalledBack, Freed, Swept};
 ghost use Rattle.cfn_record.specs.Lines.{AreSpelled};
-ghost use Rattle.cfn_history.specs.Histories.{entry_of, numbers_of};
-ghost use Rattle.cfn_task.specs.Values.{PieceValue};
+ghost use Rattle.cfn_record.specs.Histories.{entry_of, numbers_of};
+ghost use Rattle.cfn_explore.specs.Values.{PieceValue};
 ghost use Rattle.cfn_pool.specs.Recorded.{Adds, AddsTaken, HasRoom, HasRoomFor, HasSpare, IsCopied, IsSpelledTaken, gave, out_after, promised, record_of, spare_after, told_in, value_of};
 
-use cfn_history::{Happened, History};
+use cfn_explore::{Piece, Task};
 use cfn_leaves::Taken;
 use cfn_proof::Tree;
-use cfn_task::{Piece, Task};
+use cfn_record::{Happened, History};
 use std::alloc::AllocError;
 
 /// For how many entries there is room at the opening: a sweep, and at the end a call for all leaves and a sweep. It is the most that

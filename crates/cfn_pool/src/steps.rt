@@ -10,11 +10,11 @@ ghost use Rattle.cfn_pool.specs.Views.{pool, view_of};
 ghost use Rattle.cfn_pool.specs.Answers.{AddsGiven, Takes, Gives, Sweeps, NotesOrWaits};
 
 use crate::pool::Pool;
+use cfn_explore::{Piece, Task};
 use cfn_leaves as leaves;
 use cfn_leaves::Taken;
 use cfn_low::{Holder, Incumbent, Low, Note};
 use cfn_net::Network;
-use cfn_task::{Piece, Task};
 
 /// How many rows of bounds are noted as they come.
 const CLOSE_ROWS: usize = 128;

@@ -1,12 +1,12 @@
 //! What is told of the pool while a search runs.
 
 ghost use Rattle.std.specs.Prelude.{◌≡◌, Some, None, nat_lt, if◌then◌else◌};
-ghost use Rattle.cfn_gate.specs.Telling.{AreBounds};
+ghost use Rattle.cfn_explore.specs.Telling.{AreBounds};
 ghost use Rattle.cfn_pool.specs.Telling.{IsNews};
 ghost use Rattle.cfn_pool.specs.Views.{pool};
 
 use crate::pool::Pool;
-use cfn_gate::News;
+use cfn_explore::News;
 use cfn_low::Incumbent;
 use cfn_net::Network;
 use cfn_proof::Row;

@@ -1,3 +1,6 @@
 pub mod Flags
 mod Rows
+pub mod Order
+pub mod Unique
+pub mod Keeping
 pub mod CallerLemmas

@@ -16,9 +16,9 @@ use Rattle.cfn_proof.proofs.CallerLemmas.{before_some, close_at-same, close_at-o
 use Rattle.cfn_best.specs.Tree as best
 use Rattle.cfn_best.specs.Tree.{bound, solution_at}
 use Rattle.cfn_best.specs.List.{ListCertificate}
-use Rattle.cfn_listing.specs.Trees.{listed_of, open_leaves, NumbersAreThere, OpenBelow}
-use Rattle.cfn_listing.specs.Laws.{LeavesAreListed, FloorsBelow}
-use Rattle.cfn_listing.proofs.CallerLemmas.{plain_law, valid_law, open_below_law, bound_from_law, bound_at_law, bound_most, none_open_law, some_open_law}
+use Rattle.cfn_ranking.specs.Trees.{listed_of, open_leaves, NumbersAreThere, OpenBelow}
+use Rattle.cfn_ranking.specs.Laws.{LeavesAreListed, FloorsBelow}
+use Rattle.cfn_ranking.proofs.CallerLemmas.{plain_law, valid_law, open_below_law, bound_from_law, bound_at_law, bound_most, none_open_law, some_open_law}
 use Rattle.cfn_ranking.specs.Ranked.{Ranked, floor_at, AreLeaves, IsFound, IsLeafOf, HasLeaf, Waits, IsRanked}
 use Rattle.cfn_ranking.specs.Changes.{MayClose}
 use Rattle.cfn_ranking.specs.Finished.{AreNumbered, AreThere, IsLeastFloor, IsLesserAt, IsListOf, IsSwept, IsSweptAt}

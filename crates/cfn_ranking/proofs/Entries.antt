@@ -20,9 +20,9 @@ use Rattle.cfn_proof.specs.Nodes.{node_at, tree_of, IsLinked, IsFree, Before, cl
 use Rattle.cfn_proof.specs.Local.{ValidNode, StrictNode}
 use Rattle.cfn_proof.proofs.CallerLemmas.{before_close, before_some, close_at-same, close_at-other, count_close, length-close_at, length-leave_at, leave_at-same, leave_at-other}
 use Rattle.cfn_best.specs.List.{IsOrdered, last_cost, threshold_of}
-use Rattle.cfn_listing.specs.declared.list.Listed.{Listed}
-use Rattle.cfn_listing.specs.Certificates.{solution_of, solutions_of}
-use Rattle.cfn_listing.specs.Trees.{number_at}
+use Rattle.cfn_ranking.specs.declared.list.Listed.{Listed}
+use Rattle.cfn_ranking.specs.Certificates.{solution_of, solutions_of}
+use Rattle.cfn_ranking.specs.Trees.{number_at}
 use Rattle.cfn_ranking.specs.Ranked.{Ranked, AreLeaves, AreWithin, IsFound, IsLeafOf, HasLeaf, IsToExpand, Waits, IsKept, IsRanked}
 use Rattle.cfn_ranking.specs.Changes.{Drops, CanStay, Exchanges, KeepsPaths, IsPlaceOf, Leaves, MakesRoom, MayClose, entered, has_room, drops}
 use Rattle.cfn_ranking.proofs.Nodes.{before_leave, free_shut, kept_by_leave}

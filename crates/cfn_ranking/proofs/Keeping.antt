@@ -17,7 +17,7 @@ use Rattle.cfn_proof.specs.declared.tree.Node.{Node}
 use Rattle.cfn_proof.specs.Nodes.{node_at, IsLinked, IsFree, Before, split_behind_at, close_at}
 use Rattle.cfn_proof.specs.Local.{ValidNode, StrictNode}
 use Rattle.cfn_proof.proofs.CallerLemmas.{before_close, before_some, before_split_behind, count_close, count_split_behind, splits_close, splits_split_behind, length-close_at, close_at-same, close_at-other, length-split_behind_at, split_behind_at-same, split_behind_at-other, split_behind_at-first, split_behind_at-second, valid_split_behind, strict_split_behind}
-use Rattle.cfn_listing.specs.Trees.{number_at}
+use Rattle.cfn_ranking.specs.Trees.{number_at}
 use Rattle.cfn_ranking.specs.Ranked.{Ranked, floor_at, IsFound, IsLeafOf, HasLeaf, IsToExpand, Waits, TameNodes, IsKept}
 use Rattle.cfn_ranking.specs.Changes.{CanDivide, MayClose, divided}
 use Rattle.cfn_ranking.proofs.Nodes.{free_split, free_shut, kept_by_close, kept_by_split}

@@ -8,4 +8,7 @@ mod Roots
 mod Numbers
 mod Ends
 pub mod Paths
+pub mod TreeLemmas
+pub mod WholeTree
+pub mod Spelled
 pub mod CallerLemmas

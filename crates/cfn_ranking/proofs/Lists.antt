@@ -8,8 +8,8 @@ use Rattle.cfn_model.specs.Network.{Network}
 use Rattle.cfn_model.specs.Certificate.{Solution}
 use Rattle.cfn_proof.specs.declared.tree.NodeId.{NodeId}
 use Rattle.cfn_best.specs.List.{IsBefore, IsOrdered, last_cost, order}
-use Rattle.cfn_listing.specs.declared.list.Listed.{Listed}
-use Rattle.cfn_listing.specs.Certificates.{solution_of, solutions_of}
+use Rattle.cfn_ranking.specs.declared.list.Listed.{Listed}
+use Rattle.cfn_ranking.specs.Certificates.{solution_of, solutions_of}
 use Rattle.cfn_ranking.specs.Ranked.{Ranked, AreLeaves, AreWithin, HasLeaf, IsLeafOf}
 use Rattle.cfn_ranking.specs.Changes.{IsPlaceOf}
 

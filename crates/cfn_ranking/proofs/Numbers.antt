@@ -4,7 +4,7 @@ use Rattle.std.proofs.lemmas.Bool.{cases_eq}
 use Rattle.std.proofs.lemmas.List.{get_or-set_same, get_or-set_other, length-set}
 use Rattle.std.specs.Prelude.{slice_index_or, slice_set}
 use Rattle.cfn_proof.specs.declared.tree.NodeId.{NodeId}
-use Rattle.cfn_listing.specs.Trees.{number_at}
+use Rattle.cfn_ranking.specs.Trees.{number_at}
 use Rattle.cfn_ranking.specs.Ranked.{HasLeaf}
 use Rattle.cfn_ranking.specs.Finished.{AreNumbered, AreNumberedSoFar, AreThere, IsNumbered}
 

@@ -14,8 +14,8 @@ use Rattle.cfn_proof.specs.declared.tree.Node.{Node}
 use Rattle.cfn_proof.specs.Nodes.{node_at, Before, IsFree}
 use Rattle.cfn_proof.proofs.CallerLemmas.{before_some, length-close_at, close_at-other}
 use Rattle.cfn_best.specs.List.{IsBefore, last_cost, threshold_of}
-use Rattle.cfn_listing.specs.declared.list.Listed.{Listed}
-use Rattle.cfn_listing.specs.Certificates.{solution_of, solutions_of}
+use Rattle.cfn_ranking.specs.declared.list.Listed.{Listed}
+use Rattle.cfn_ranking.specs.Certificates.{solution_of, solutions_of}
 use Rattle.cfn_ranking.specs.Ranked.{Ranked, HasLeaf, IsRanked, Waits}
 use Rattle.cfn_ranking.specs.Changes.{CanStay, Exchanges, Leaves, MakesRoom, has_room, drops}
 use Rattle.cfn_ranking.proofs.Lists.{length_solutions}

@@ -9,7 +9,7 @@ use Rattle.cfn_proof.specs.declared.tree.NodeId.{NodeId}
 use Rattle.cfn_proof.specs.declared.tree.Node.{Node}
 use Rattle.cfn_proof.specs.Nodes.{node_at, open_node, IsLinked, Before, at_root, at_first, at_second}
 use Rattle.cfn_proof.specs.Local.{StrictNode, ValidNode}
-use Rattle.cfn_listing.specs.Trees.{number_at}
+use Rattle.cfn_ranking.specs.Trees.{number_at}
 use Rattle.cfn_ranking.specs.Ranked.{Ranked, IsRanked, IsToExpand}
 use Rattle.cfn_ranking.proofs.Nodes.{free_split}
 use Rattle.cfn_ranking.proofs.Keeping.{closed_waits}

@@ -13,8 +13,8 @@ use Rattle.cfn_model.specs.Certificate.{Solution, IsSolution}
 use Rattle.cfn_proof.specs.declared.tree.NodeId.{NodeId}
 use Rattle.cfn_proof.specs.declared.tree.Node.{Node}
 use Rattle.cfn_proof.specs.Nodes.{node_at, Before, IsFree, IsLinked, split_behind_at, close_at, leave_at}
-use Rattle.cfn_listing.specs.declared.list.Listed.{Listed}
-use Rattle.cfn_listing.specs.Certificates.{solution_of, solutions_of}
+use Rattle.cfn_ranking.specs.declared.list.Listed.{Listed}
+use Rattle.cfn_ranking.specs.Certificates.{solution_of, solutions_of}
 use Rattle.cfn_best.specs.List.{IsBefore}
 use Rattle.cfn_ranking.specs.Ranked.{Ranked, IsFound, HasLeaf}
 

@@ -5,7 +5,7 @@ use Rattle.cfn_model.specs.Tree.{count, splits, Strict}
 use Rattle.cfn_proof.specs.declared.tree.NodeId.{NodeId}
 use Rattle.cfn_best.specs.Tree.{bound}
 use Rattle.cfn_best.specs.List.{ListCertificate, GoodList, threshold_of}
-use Rattle.cfn_listing.specs.Trees.{number_at, plain, OpenBelow}
+use Rattle.cfn_ranking.specs.Trees.{number_at, plain, OpenBelow}
 use Rattle.cfn_ranking.specs.Ranked.{Ranked, IsRanked, Waits, HasLeaf, floor_at}
 
 -- Leaves that wait are below the threshold, and nothing else has changed but that others were closed.

@@ -13,7 +13,7 @@ use Rattle.cfn_proof.specs.declared.tree.Node.{Node}
 use Rattle.cfn_proof.specs.Nodes.{node_at, tree_of, IsFree, IsLinked, Before}
 use Rattle.cfn_proof.specs.Local.{ValidNodes, StrictNodes}
 use Rattle.cfn_best.specs.List.{IsOrdered, threshold_of}
-use Rattle.cfn_listing.specs.Trees.{number_at}
+use Rattle.cfn_ranking.specs.Trees.{number_at}
 
 -- The nodes of the tree; by a node's number, the floor of an open leaf, and some number where the leaf is that of a listed
 -- assignment; the list, and the leaf of each of its assignments; how many assignments are asked for; the threshold; and how

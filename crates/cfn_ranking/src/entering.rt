@@ -8,9 +8,9 @@ ghost use Rattle.cfn_best.specs.List.{threshold_of};
 ghost use Rattle.cfn_ranking.specs.Ranked.{IsRanked, Waits};
 ghost use Rattle.cfn_ranking.specs.Changes.{CanStay, Drops, Exchanges, KeepsPaths, Leaves, MakesRoom};
 
+use crate::Listed;
 use crate::place::place_of;
 use crate::ranking::{Ranking, is_free};
-use cfn_listing::Listed;
 use cfn_net::Network;
 use cfn_proof::{Block, NodeId, Tree};
 use std::alloc::{AllocError, Global};

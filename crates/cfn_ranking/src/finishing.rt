@@ -1,14 +1,14 @@
 //! The certificate of a list, where its search ends.
 
 ghost use Rattle.std.specs.Prelude.{◌≡◌, ◌↔◌, ℕ, ◌<◌, ◌≤◌, ◌^◌, min, length, IsTrue};
-ghost use Rattle.cfn_listing.specs.Certificates.{list_certificate_of};
-ghost use Rattle.cfn_listing.specs.Trees.{open_leaves};
+ghost use Rattle.cfn_ranking.specs.Certificates.{list_certificate_of};
+ghost use Rattle.cfn_ranking.specs.Trees.{open_leaves};
 ghost use Rattle.cfn_ranking.specs.Ranked.{IsRanked, Waits};
 ghost use Rattle.cfn_ranking.specs.Finished.{AreNumbered, AreThere, IsLeastFloor, IsLesserAt, IsListOf, IsSwept, IsSweptAt};
 ghost use Rattle.cfn_ranking.specs.Changes.{shut};
 
+use crate::BestCertificate;
 use crate::ranking::Ranking;
-use cfn_listing::BestCertificate;
 use cfn_net::Network;
 use cfn_proof::NodeId;
 

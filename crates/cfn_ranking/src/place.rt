@@ -1,11 +1,11 @@
 //! Where an assignment goes in the list.
 
 ghost use Rattle.std.specs.Prelude.{◌≡◌, ◌↔◌, IfSome, IsTrue};
-ghost use Rattle.cfn_listing.specs.Certificates.{solution_of, solutions_of};
+ghost use Rattle.cfn_ranking.specs.Certificates.{solution_of, solutions_of};
 ghost use Rattle.cfn_best.specs.List.{IsBefore};
 ghost use Rattle.cfn_ranking.specs.Changes.{IsPlaceOf};
 
-use cfn_listing::Listed;
+use crate::Listed;
 
 /// The place of an assignment in an ordered list, where it is not in it.
 pub(crate) fn place_of(list: &[Listed], cost: u64, values: &[u32]) -> Option<usize>

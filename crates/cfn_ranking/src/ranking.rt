@@ -7,10 +7,10 @@ ghost use Rattle.cfn_proof.specs.declared.tree.End.TheVariants.{Free};
 ghost use Rattle.cfn_proof.specs.Nodes.{IsLinked};
 ghost use Rattle.cfn_ranking.specs.Ranked.{IsRanked, Waits, WaitsIn};
 
-use cfn_listing::Listed;
+use crate::Listed;
 use cfn_net::Network;
-use cfn_open::{OpenLeaf, OpenList};
 use cfn_proof::{End, NodeId, Tree};
+use cfn_queue::{OpenLeaf, OpenList};
 use std::alloc::{AllocError, Global};
 use std::marker::Model;
 
@@ -32,7 +32,7 @@ pub struct Ranking {
 }
 
 impl Model for Ranking {
-    ghost use Rattle.cfn_listing.specs.Certificates.{solutions_of};
+    ghost use Rattle.cfn_ranking.specs.Certificates.{solutions_of};
     ghost use Rattle.cfn_ranking.specs.Ranked.{Ranked};
 
     ghost Value = { Ranked };

@@ -11,8 +11,8 @@ use Rattle.cfn_model.specs.Steps.{IsDecision, after}
 use Rattle.cfn_model.specs.Sums.{is_live}
 use Rattle.cfn_model.specs.Tree as trees
 use Rattle.cfn_model.specs.Tree.{CanClose, IsStrictSplit}
-use Rattle.cfn_live.specs.Sets.{live_below, live_count}
-use Rattle.cfn_live.proofs.CallerLemmas.{live_below_none}
+use Rattle.cfn_rows.specs.Sets.{live_below, live_count}
+use Rattle.cfn_rows.proofs.CallerLemmas.{live_below_none}
 use Rattle.cfn_proof.specs.declared.tree.NodeId.{NodeId}
 use Rattle.cfn_proof.specs.declared.tree.End.{End}
 use Rattle.cfn_proof.specs.declared.tree.End.TheVariants.{Free, Shut, Split}

@@ -5,3 +5,7 @@ pub mod Fronting
 pub mod Ended
 pub mod Keepings
 pub mod Walkings
+pub mod Small
+pub mod Narrowed
+pub mod Counted
+pub mod Beginning

@@ -1,5 +1,6 @@
-//! What is kept of an old search tree in a network: the tree of an interrupted run, or one of a network that was edited since.
+//! What a search goes on with from the text of an earlier certificate, of an interrupted run or of a network that was edited since.
 //!
+//! - `resume` reads the text; what is kept of its tree and of its best assignment is a search's beginning (`resuming.rt`, `best.rt`).
 //! - `keep` makes the tree that is kept (`keeping.rt`), by a walk over the old one (`walk.rt`).
 //! - `Ground` is where the walk stands: the store, with the events that lead there (`ground.rt`). It makes the front of a block
 //!   that is kept (`front.rt`), and tells how the block's node ends then (`ending.rt`).
@@ -8,12 +9,15 @@
 #![tactic(auto)]
 
 mod balance;
+mod best;
 mod ending;
 mod front;
 mod ground;
 mod keeping;
 mod ranges;
+mod resuming;
 mod testing;
 mod walk;
 
 pub use keeping::keep;
+pub use resuming::{Resumed, resume};

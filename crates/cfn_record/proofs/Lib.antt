@@ -7,4 +7,5 @@ pub mod Reading
 pub mod Searching
 pub mod Judging
 pub mod Rows
+mod Spelled
 pub mod CallerLemmas

@@ -4,3 +4,4 @@ pub mod Decoding
 pub mod Replaying
 pub mod Fault
 pub mod Laws
+pub mod Histories

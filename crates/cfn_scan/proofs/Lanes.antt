@@ -4,8 +4,8 @@ use Rattle.std.proofs.lemmas.Bool.{and_parts, and_from, or_left, not_from_false,
 use Rattle.std.specs.Prelude.{IsTrue, if◌then◌else◌}
 use Rattle.cfn_model.specs.declared.step.Event.{Event}
 use Rattle.cfn_model.specs.Sums.{is_live}
-use Rattle.cfn_live.specs.Sets.{live_below}
-use Rattle.cfn_live.proofs.CallerLemmas.{live_below_most}
+use Rattle.cfn_rows.specs.Sets.{live_below}
+use Rattle.cfn_rows.proofs.CallerLemmas.{live_below_most}
 use Rattle.cfn_scan.specs.declared.rows.Row.{Row}
 use Rattle.cfn_scan.specs.declared.rows.Found.{Found}
 use Rattle.cfn_scan.specs.Rows.{IsOpenAt, NoneOpen, IsLeastOpen, left_at}

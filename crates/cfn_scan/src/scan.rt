@@ -12,7 +12,7 @@ ghost use Rattle.cfn_scan.specs.declared.scan.Sense.{Sense as ScanSense};
 ghost use Rattle.cfn_scan.specs.Scanning.{AsksNone, HasDigits, IsAt, IsSpot, IsInner, AreChoices, NoneMet, IsFound, IsSooner, gone_on, agrees, ended, key, found_in, IsBest, IsTail, IsLane};
 
 use crate::rows::{Row, least_open};
-use cfn_live::LiveSets;
+use cfn_rows::LiveSets;
 use std::slice;
 
 /// Which residual cost is looked for.

@@ -9,7 +9,7 @@ use Rattle.cfn_model.specs.Tree.{Open, Tree, count, open_leaves}
 use Rattle.cfn_proof.specs.declared.tree.Node.{Node}
 use Rattle.cfn_proof.specs.Nodes.{tree_of, open_node}
 use Rattle.cfn_net.specs.Scoring.{Scoring}
-use Rattle.cfn_outcome.specs.Outcome.{Start, fresh}
+use Rattle.cfn_low.specs.Outcome.{Start, fresh}
 use Rattle.cfn_model.specs.declared.step.Event.{Event}
 use Rattle.cfn_machine.specs.declared.part.Part.{Part}
 use Rattle.cfn_machine.specs.Parts.{IsPart, has_leaf, others_among, others_of}

@@ -16,9 +16,9 @@ use Rattle.cfn_low.specs.contracts.low.Low as Low
 use Rattle.cfn_low.proofs.CallerLemmas.{holder_send, low_sync}
 use Rattle.cfn_proof.specs.contracts.block.Block as Block
 use Rattle.cfn_proof.specs.contracts.path.Path as Path
-use Rattle.cfn_history.specs.contracts.history.History as History
+use Rattle.cfn_record.specs.contracts.history.History as History
 use Rattle.cfn_pool.specs.contracts.pool.Pool as Pool
-use Rattle.cfn_task.specs.contracts.task.Task as Task
+use Rattle.cfn_explore.specs.contracts.task.Task as Task
 use Rattle.cfn_rota.specs.contracts.ends.Ends as Ends
 use Rattle.cfn_rota.proofs.CallerLemmas.{ends_send}
 use Rattle.cfn_search.specs.declared.board.Crew as crew

@@ -16,9 +16,9 @@ use Rattle.cfn_model.specs.Tree as trees
 use Rattle.cfn_model.specs.Tree.{bound, count, splits, open_leaves}
 use Rattle.cfn_model.specs.Certificate.{Solution, Certificate, IsBest, threshold_of, threshold}
 use Rattle.cfn_model.proofs.CallerLemmas.{bound_low, fits_length}
-use Rattle.cfn_outcome.specs.declared.outcome.Stop.{Stop}
-use Rattle.cfn_outcome.specs.declared.outcome.Stop.TheVariants.{Done, Budget, Time, Part, Memory}
-use Rattle.cfn_outcome.specs.Outcome.{HasCause, IsSearched, RowHolds, UpperHolds, Start, timed_nodes}
+use Rattle.cfn_low.specs.declared.outcome.Stop.{Stop}
+use Rattle.cfn_low.specs.declared.outcome.Stop.TheVariants.{Done, Budget, Time, Part, Memory}
+use Rattle.cfn_low.specs.Outcome.{HasCause, IsSearched, RowHolds, UpperHolds, Start, timed_nodes}
 use Rattle.cfn_net.specs.Scoring.{Scoring, IsPriced}
 use Rattle.cfn_proof.specs.Certificates.{solution_of}
 use Rattle.cfn_low.specs.Holding.{Holding}

@@ -7,8 +7,8 @@ use Rattle.cfn_machine.specs.Pool.{Pool, Task, AreNumbered}
 use Rattle.cfn_machine.specs.Steps.{PoolStep, PoolSteps, IsLegal, Takes, Gives, Returns, Sweeps, PoolTakes, PoolReturns}
 use Rattle.cfn_machine.specs.Laws.{MayMake}
 use Rattle.cfn_machine.proofs.CallerLemmas.{keeps_aside}
-use Rattle.cfn_outcome.specs.Outcome.{Start}
-use Rattle.cfn_task.specs.Values.{PieceValue, piece_of}
+use Rattle.cfn_low.specs.Outcome.{Start}
+use Rattle.cfn_explore.specs.Values.{PieceValue, piece_of}
 use Rattle.cfn_machine.specs.Pool.{IsPiece}
 use Rattle.cfn_pool.specs.Answers as answers
 use Rattle.cfn_pool.specs.Answers.{IsGiven}

@@ -10,7 +10,7 @@ use Rattle.cfn_machine.specs.Steps.{PoolTakes}
 use Rattle.cfn_machine.proofs.CallerLemmas.{leaf_counts, replaced_leaf, takes_out}
 use Rattle.cfn_pool.specs.Views.{Held, pool}
 use Rattle.cfn_rota.specs.Values.{EndsValue}
-use Rattle.cfn_task.specs.Values.{TaskValue}
+use Rattle.cfn_explore.specs.Values.{TaskValue}
 use Rattle.cfn_search.specs.Searching.{IsReturned}
 use Rattle.cfn_search.specs.Boards.{TakesAll, IsLaid, Lays, laid}
 

@@ -4,7 +4,7 @@ use Rattle.cfn_model.specs.declared.report.Row.{Row}
 use Rattle.cfn_model.specs.Network.{Network}
 use Rattle.cfn_machine.specs.Pool.{Pool, row_of, tree_of}
 use Rattle.cfn_machine.specs.Steps.{is_last}
-use Rattle.cfn_outcome.specs.Outcome.{Start}
+use Rattle.cfn_low.specs.Outcome.{Start}
 use Rattle.cfn_pool.specs.Answers.{NotesOrWaits}
 use Rattle.cfn_search.specs.Searching.{IsSearch, GoesOn}
 

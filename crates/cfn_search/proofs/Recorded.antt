@@ -6,7 +6,7 @@ use Rattle.cfn_model.specs.Tree.{Valid}
 use Rattle.cfn_model.specs.Certificate.{Certificate, IsBest, threshold_of}
 use Rattle.cfn_machine.specs.Pool.{Pool, tree_of}
 use Rattle.cfn_machine.specs.Laws.{IsPool}
-use Rattle.cfn_history.specs.Histories.{HistoryValue}
+use Rattle.cfn_record.specs.Histories.{HistoryValue}
 use Rattle.cfn_pool.specs.Recorded.{RecordingValue, IsExactRecordOf, told_by, told_in, record_of}
 use Rattle.cfn_search.specs.Recording.{IsRecorded}
 

@@ -2,7 +2,7 @@
 use Rattle.std.specs.Prelude.{ℕ}
 use Rattle.cfn_low.specs.Holding.{Holding}
 use Rattle.cfn_rota.specs.Values.{EndsValue, Access, access}
-use Rattle.cfn_task.specs.Values.{TaskValue}
+use Rattle.cfn_explore.specs.Values.{TaskValue}
 
 -- A part of the word, and the least threshold at which a piece was made with it.
 pub record AccountValue : Type 0 where

@@ -3,7 +3,7 @@ use Rattle.std.specs.Prelude.{◌≡◌, ◌<◌, ◌^◌, [], None, IfSome, IsT
 use Rattle.cfn_model.specs.Network.{Network}
 use Rattle.cfn_model.specs.Tree.{Open, count}
 use Rattle.cfn_proof.specs.Nodes.{tree_of}
-use Rattle.cfn_outcome.specs.Outcome.{Start}
+use Rattle.cfn_low.specs.Outcome.{Start}
 use Rattle.cfn_machine.specs.Parts.{IsPart, others_of}
 use Rattle.cfn_machine.specs.Pool.{IsKept, price, row_of}
 use Rattle.cfn_pool.specs.Views.{values_of}

@@ -1,14 +1,14 @@
 -- The pool of a search under the lock, while workers have parts of the word.
 use Rattle.std.specs.Prelude.{◌≡◌, true, false, IsTrue, IsFalse, ℕ, ◌+◌, ◌<◌, ◌≤◌, ◌⊎◌, Bool, List, [], ◌∷◌, ◌++◌, length, is_some}
 use Rattle.cfn_model.specs.Network.{Network}
-use Rattle.cfn_outcome.specs.Outcome.{Start}
+use Rattle.cfn_low.specs.Outcome.{Start}
 use Rattle.cfn_machine.specs.Pool.{Pool}
 use Rattle.cfn_machine.specs.Steps.{PoolTakes, HasNone, NoneOpen, AllSpent, AllOut}
 use Rattle.cfn_machine.specs.Word.{all_shares}
 use Rattle.cfn_pool.specs.Recorded.{HasSpare}
 use Rattle.cfn_pool.specs.Views.{Held, pool}
 use Rattle.cfn_rota.specs.Values.{EndsValue}
-use Rattle.cfn_task.specs.Values.{TaskValue, PieceValue}
+use Rattle.cfn_explore.specs.Values.{TaskValue, PieceValue}
 use Rattle.cfn_search.specs.declared.board.Offer.{Offer}
 use Rattle.cfn_search.specs.declared.board.Offer.TheVariants as offer
 use Rattle.cfn_search.specs.declared.hand.Unplaced.{Unplaced}

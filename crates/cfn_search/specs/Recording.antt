@@ -5,7 +5,7 @@ use Rattle.cfn_model.specs.Certificate.{Certificate}
 use Rattle.cfn_machine.specs.Pool.{tree_of}
 use Rattle.cfn_record.specs.Lines.{Record}
 use Rattle.cfn_record.specs.Replaying.{GoodRecord}
-use Rattle.cfn_history.specs.Histories.{HistoryValue, entries_of}
+use Rattle.cfn_record.specs.Histories.{HistoryValue, entries_of}
 
 -- The record of a search with this certificate.
 abbrev pub record_of : HistoryValue → Certificate → Record

@@ -3,8 +3,8 @@ use Rattle.std.specs.Prelude.{◌≡◌, ℕ, ◌<◌, ◌≤◌, ◌⊎◌, Boo
 use Rattle.cfn_model.specs.declared.report.Row.{Row}
 use Rattle.cfn_model.specs.declared.step.Event.{Event}
 use Rattle.cfn_model.specs.Network.{Network}
-use Rattle.cfn_outcome.specs.Outcome.{Start}
-use Rattle.cfn_task.specs.Values.{TaskValue, PieceValue}
+use Rattle.cfn_low.specs.Outcome.{Start}
+use Rattle.cfn_explore.specs.Values.{TaskValue, PieceValue}
 use Rattle.cfn_pool.specs.Answers.{IsGiven, NotesOrWaits, Sweeps}
 use Rattle.cfn_explore.specs.Exploring.{Keeping, IsPieceOf}
 use Rattle.cfn_machine.specs.Parts.{IsAside}

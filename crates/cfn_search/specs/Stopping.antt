@@ -4,9 +4,9 @@ use Rattle.cfn_model.specs.declared.report.Row.{Row}
 use Rattle.cfn_model.specs.declared.step.Event.{Event}
 use Rattle.cfn_model.specs.Network.{Network}
 use Rattle.cfn_model.specs.Tree.{OpenBelow}
-use Rattle.cfn_outcome.specs.declared.outcome.Stop.{Stop}
-use Rattle.cfn_outcome.specs.declared.outcome.Stop.TheVariants.{Done, Budget, Time, Part, Memory}
-use Rattle.cfn_outcome.specs.Outcome.{Start}
+use Rattle.cfn_low.specs.declared.outcome.Stop.{Stop}
+use Rattle.cfn_low.specs.declared.outcome.Stop.TheVariants.{Done, Budget, Time, Part, Memory}
+use Rattle.cfn_low.specs.Outcome.{Start}
 use Rattle.cfn_machine.specs.Parts.{EndsAt}
 use Rattle.cfn_machine.specs.Pool.{Pool, tree_of, price}
 use Rattle.cfn_machine.specs.Word.{all_shares}

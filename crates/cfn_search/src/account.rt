@@ -8,11 +8,9 @@ ghost use Rattle.std.specs.Prelude.{◌≡◌, ◌≤◌, min, is_some, IfOk, If
 ghost use Rattle.cfn_explore.specs.Falling.{HasFallen};
 ghost use Rattle.cfn_search.specs.Searching.{IsMadeOf};
 
-use cfn_clock::Halt;
-use cfn_explore::{Explore, Explored};
+use cfn_explore::{Explore, Explored, Halt, Piece, Task};
 use cfn_low::{Holder, Incumbent, Low, Note};
 use cfn_net::Network;
-use cfn_task::{Piece, Task};
 use std::alloc::Global;
 use std::marker::Model;
 

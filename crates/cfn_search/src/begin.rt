@@ -3,7 +3,7 @@
 ghost use Rattle.std.specs.Prelude.{◌≡◌, [], ◌∷◌, None, IfOk};
 ghost use Rattle.cfn_proof.specs.Nodes.{open_node};
 ghost use Rattle.cfn_search.specs.Beginning.{MayBegin, start_of};
-ghost use Rattle.cfn_outcome.specs.Outcome.{fresh};
+ghost use Rattle.cfn_low.specs.Outcome.{fresh};
 
 use cfn_machine::Part;
 use cfn_net::{Network, Scored};

@@ -2,7 +2,7 @@
 
 ghost use Rattle.std.specs.Prelude.{◌≡◌, ◌+◌, ◌≤◌, ◌^◌, ◌%◌, ◌==◌, true, false, None, is_some, length, IfSome, IsTrue, IsFalse};
 ghost use Rattle.cfn_model.specs.declared.limits.TheConstants.{GREATEST};
-ghost use Rattle.cfn_gate.specs.Telling.{AreBounds};
+ghost use Rattle.cfn_explore.specs.Telling.{AreBounds};
 ghost use Rattle.cfn_pool.specs.Views.{pool};
 ghost use Rattle.cfn_rota.specs.Values.{access};
 ghost use Rattle.cfn_search.specs.Searching.{IsReturned};
@@ -14,7 +14,7 @@ use crate::grants::wanted;
 use crate::hand::{InHand, Made, Unplaced};
 use crate::lanes::Lanes;
 use crate::steps::{Asked, hand_in, news, take};
-use cfn_gate::{Gate, News};
+use cfn_explore::{Gate, News};
 use cfn_low::{Incumbent, Low};
 use cfn_net::Network;
 use cfn_pool::Pool;

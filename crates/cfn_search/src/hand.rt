@@ -9,17 +9,15 @@ ghost use Rattle.cfn_explore.specs.Falling.{HasFallen};
 ghost use Rattle.cfn_pool.specs.Answers.{IsGiven};
 ghost use Rattle.cfn_pool.specs.Recorded.{HasSpare};
 ghost use Rattle.cfn_pool.specs.Views.{pool};
-ghost use Rattle.cfn_task.specs.Values.{IsTaskOf};
+ghost use Rattle.cfn_explore.specs.Values.{IsTaskOf};
 ghost use Rattle.cfn_search.specs.Searching.{IsSearch, GoesOn, IsMadeOf, IsReturned, IsUnplaced, StaysReady};
 
 use crate::account::Account;
 use crate::lanes::Lanes;
-use cfn_clock::Halt;
-use cfn_explore::Explore;
+use cfn_explore::{Explore, Halt, Piece, Task};
 use cfn_low::{Incumbent, Low};
 use cfn_net::Network;
 use cfn_pool::{Handed, Pool};
-use cfn_task::{Piece, Task};
 use std::alloc::Global;
 use std::marker::Model;
 
@@ -29,7 +27,7 @@ pub struct InHand {
 }
 
 impl Model for InHand {
-    ghost use Rattle.cfn_task.specs.Values.{TaskValue};
+    ghost use Rattle.cfn_explore.specs.Values.{TaskValue};
 
     ghost Value = { TaskValue };
 
@@ -116,7 +114,7 @@ pub struct Made {
 }
 
 impl Model for Made {
-    ghost use Rattle.cfn_task.specs.Values.{PieceValue};
+    ghost use Rattle.cfn_explore.specs.Values.{PieceValue};
 
     ghost Value = { PieceValue };
 

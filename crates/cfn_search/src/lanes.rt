@@ -3,12 +3,12 @@
 ghost use Rattle.std.specs.Prelude.{◌≡◌, ◌≤◌, [], ◌∷◌, ◌++◌, length, IfOk, IfErr, IfSome, MatchOption};
 ghost use Rattle.cfn_rota.specs.Balances.{AreWhole, AreWithin};
 ghost use Rattle.cfn_rota.specs.Values.{Meets, EndsWith, access, lanes_of};
-ghost use Rattle.cfn_task.specs.Values.{IsTaskOf};
+ghost use Rattle.cfn_explore.specs.Values.{IsTaskOf};
 
 use crate::hand::InHand;
+use cfn_explore::Task;
 use cfn_low::Incumbent;
 use cfn_rota::{Ends, Kind};
-use cfn_task::Task;
 use std::marker::{Model, PhantomData};
 
 /// For how many pushes a lane has room that no want of memory can refuse. A worker pushes at most three tasks at once, and only
@@ -21,7 +21,7 @@ pub struct LaneTasks<M> {
 }
 
 impl<M: Incumbent> Kind<Task> for LaneTasks<M> {
-    ghost use Rattle.cfn_task.specs.Values.{IsTaskOf};
+    ghost use Rattle.cfn_explore.specs.Values.{IsTaskOf};
 
     ghost fits = { IsTaskOf M.network };
 }
@@ -34,7 +34,7 @@ pub struct Lanes<M: Incumbent> {
 
 impl<M: Incumbent> Model for Lanes<M> {
     ghost use Rattle.cfn_rota.specs.Values.{EndsValue};
-    ghost use Rattle.cfn_task.specs.Values.{TaskValue};
+    ghost use Rattle.cfn_explore.specs.Values.{TaskValue};
 
     ghost Value = { EndsValue TaskValue };
 

@@ -1,7 +1,7 @@
 //! Hybrid best-first search (Allouche et al. 2015) over a pool of open leaves, on the caller's thread or by several workers.
 //!
 //! `solve` and `solve_together` make the outcome that a report and a certificate are written from. Their contract is the
-//! promise of every search, as `cfn_outcome` defines it: a good certificate with its tree's bound, and why the search stopped.
+//! promise of every search, as `cfn_low` defines it: a good certificate with its tree's bound, and why the search stopped.
 //! What makes a piece of a task they are given with the network, as a `Problem`.
 //!
 //! - `begin.rt`: what a search goes on from, which is one open leaf or the tree of an earlier search;
@@ -34,7 +34,7 @@ mod worker;
 pub use account::{Account, Threshold};
 pub use begin::Begin;
 pub use board::{Board, Crew};
-pub use cfn_gate::{Gate, News, OpenGate, Point};
+pub use cfn_explore::{Gate, News, OpenGate, Point};
 pub use grants::{FEWEST_BACKTRACKS, wanted};
 pub use hand::{InHand, Made, Unplaced};
 pub use lanes::{LaneTasks, Lanes, ROOM};

@@ -5,7 +5,7 @@ ghost use Rattle.std.specs.Option.{ForSome};
 ghost use Rattle.cfn_model.specs.Certificate.{IsBest, threshold, threshold_of};
 ghost use Rattle.cfn_net.specs.Scoring.{IsPriced};
 ghost use Rattle.cfn_proof.specs.Certificates.{certificate_of, solution_of};
-ghost use Rattle.cfn_outcome.specs.Outcome.{IsOutcome, timed_nodes};
+ghost use Rattle.cfn_low.specs.Outcome.{IsOutcome, timed_nodes};
 ghost use Rattle.cfn_machine.specs.Word.{all_shares};
 ghost use Rattle.cfn_pool.specs.Recorded.{HasSpare, IsExactRecordOf};
 ghost use Rattle.cfn_pool.specs.Views.{pool};
@@ -13,13 +13,12 @@ ghost use Rattle.cfn_search.specs.Searching.{IsSearch};
 ghost use Rattle.cfn_search.specs.Recording.{IsRecorded};
 ghost use Rattle.cfn_search.specs.Stopping.{IsEnded, IsLast, IsStop};
 
-use cfn_clock::Halt;
-use cfn_history::History;
-use cfn_low::{Holder, Incumbent, Low};
+use cfn_explore::Halt;
+use cfn_low::{Holder, Incumbent, Low, Outcome, Stop};
 use cfn_net::{Network, Scored};
-use cfn_outcome::{Outcome, Stop};
 use cfn_pool::Pool;
 use cfn_proof::Certificate;
+use cfn_record::History;
 
 /// Joins a worker's part of the word into the pool's, which has seen the lesser of both then. It takes no memory.
 pub(crate) fn meet<M: Incumbent>(low: &Low<M>, held: &mut Pool<M>, part: Holder<M>)

@@ -2,7 +2,7 @@
 
 ghost use Rattle.std.specs.Prelude.{◌≡◌, ◌≤◌, IfSome, IfOk, IfErr, OnOk};
 ghost use Rattle.cfn_model.specs.declared.limits.TheConstants.{GREATEST};
-ghost use Rattle.cfn_gate.specs.Telling.{AreBounds};
+ghost use Rattle.cfn_explore.specs.Telling.{AreBounds};
 ghost use Rattle.cfn_pool.specs.Answers.{NotesOrWaits, Sweeps};
 ghost use Rattle.cfn_pool.specs.Recorded.{HasSpare};
 ghost use Rattle.cfn_pool.specs.Telling.{IsNews};
@@ -13,7 +13,7 @@ ghost use Rattle.cfn_search.specs.Granting.{IsLimit};
 use crate::account::Account;
 use crate::grants::limit_after;
 use crate::hand::{InHand, Made, Unplaced};
-use cfn_gate::{Gate, News};
+use cfn_explore::{Gate, News};
 use cfn_low::{Incumbent, Low};
 use cfn_net::Network;
 use cfn_pool::{Pool, Taken};

@@ -3,8 +3,8 @@
 ghost use Rattle.std.specs.Prelude.{◌≤◌};
 
 use crate::networks::{tiny, tri};
+use cfn_low::Stop;
 use cfn_net::Network;
-use cfn_outcome::Stop;
 use cfn_solve::solve;
 use std::alloc::{AllocError, Global};
 use std::test::*;

@@ -1,18 +1,16 @@
 //! What one dive makes of the task that a pool begins with.
 
 ghost use Rattle.std.specs.Prelude.{◌≡◌, ◌≤◌, None, IfOk, IfSome};
-ghost use Rattle.cfn_task.specs.Values.{IsTaskOf};
+ghost use Rattle.cfn_explore.specs.Values.{IsTaskOf};
 
 use crate::networks::tri;
 use cfn_branch::Rule;
-use cfn_clock::Never;
 use cfn_dive::Diver;
-use cfn_explore::Explored;
+use cfn_explore::{Explored, Never, Piece, Task};
 use cfn_low::{Holder, Incumbent, Low, Unnamed};
 use cfn_net::{Network, Scored, Tables};
 use cfn_pool::{Pool, Taken};
 use cfn_proof::{End, NodeId, Tree};
-use cfn_task::{Piece, Task};
 use std::alloc::{AllocError, Global};
 use std::marker::Brand;
 use std::test::*;

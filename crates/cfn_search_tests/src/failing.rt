@@ -1,14 +1,11 @@
 //! Searches by explorers that want memory at one of their calls.
 
 use crate::networks::tri;
-use cfn_clock::{Halt, Never};
 use cfn_dive::{Diver, Divers};
-use cfn_explore::{Explore, Explored, Explorers, Problem};
-use cfn_low::{Holder, Incumbent, Low};
+use cfn_explore::{Explore, Explored, Explorers, Halt, Never, Problem, Task};
+use cfn_low::{Holder, Incumbent, Low, Stop};
 use cfn_net::{Network, Tables};
-use cfn_outcome::Stop;
 use cfn_search::{OpenGate, solve_together};
-use cfn_task::Task;
 use std::alloc::{AllocError, AllocGlobal, Global};
 use std::sync::Wait;
 use std::test::*;

@@ -3,9 +3,9 @@
 use cfn_branch::Rule;
 use cfn_dive::Divers;
 use cfn_explore::Problem;
+use cfn_low::{Outcome, Stop};
 use cfn_model::Decision;
 use cfn_net::{Network, Tables};
-use cfn_outcome::{Outcome, Stop};
 use cfn_proof::{End, NodeId, Tree};
 use cfn_search::solve;
 use std::alloc::{AllocError, Global};

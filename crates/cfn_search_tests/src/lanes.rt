@@ -4,23 +4,20 @@ ghost use Rattle.std.specs.Prelude.{◌≡◌, false, [], ◌∷◌, None, IfOk,
 ghost use Rattle.cfn_pool.specs.Recorded.{HasSpare};
 ghost use Rattle.cfn_pool.specs.Views.{pool};
 ghost use Rattle.cfn_rota.specs.Values.{AreAll, access};
-ghost use Rattle.cfn_task.specs.Values.{IsTaskOf};
-ghost use Rattle.cfn_outcome.specs.Outcome.{fresh};
+ghost use Rattle.cfn_explore.specs.Values.{IsTaskOf};
+ghost use Rattle.cfn_low.specs.Outcome.{fresh};
 ghost use Rattle.cfn_search.specs.Accounts.{reach};
 ghost use Rattle.cfn_search.specs.Boards.{IsBoard};
 ghost use Rattle.cfn_search.specs.Searching.{IsSearch, GoesOn, StaysReady};
 
 use crate::networks::tiny;
-use cfn_clock::Never;
 use cfn_dive::{Diver, Divers};
-use cfn_explore::Explorers;
-use cfn_gate::OpenGate;
+use cfn_explore::{Explorers, Never, OpenGate, Task};
 use cfn_low::{Holder, Incumbent, Low, Unnamed};
 use cfn_net::{Network, Scored, Tables};
 use cfn_pool::{Pool, Taken};
 use cfn_rota::{Ends, deal};
 use cfn_search::{Asked, Board, Crew, LaneTasks, Lanes, ROOM, Shared, Worker, take};
-use cfn_task::Task;
 use std::alloc::{AllocError, AllocGlobal, Global};
 use std::marker::Brand;
 use std::sync::{Condvar, Mutex, Wait};

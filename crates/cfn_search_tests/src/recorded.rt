@@ -3,7 +3,7 @@
 ghost use Rattle.std.specs.Prelude.{◌≤◌};
 
 use crate::networks::tiny;
-use cfn_history::Happened;
+use cfn_record::Happened;
 use cfn_solve::{Begin, Never, OpenGate, solve_from};
 use std::alloc::{AllocError, AllocGlobal};
 use std::sync::Wait;

@@ -3,7 +3,7 @@
 ghost use Rattle.std.specs.Prelude.{◌≤◌};
 
 use crate::networks::tri;
-use cfn_outcome::Stop;
+use cfn_low::Stop;
 use cfn_solve::{Gate, Never, OpenGate, Point, Threshold, solve_together};
 use std::alloc::{AllocError, AllocGlobal};
 use std::sync::Wait;

@@ -4,16 +4,14 @@ ghost use Rattle.std.specs.Prelude.{◌≡◌, ◌≤◌, All, length, is_some, 
 ghost use Rattle.cfn_model.specs.Certificate.{threshold};
 ghost use Rattle.cfn_model.specs.declared.limits.TheConstants.{GREATEST};
 ghost use Rattle.cfn_proof.specs.Certificates.{certificate_of};
-ghost use Rattle.cfn_outcome.specs.Outcome.{IsOutcome, fresh, nodes_alone, timed_nodes};
+ghost use Rattle.cfn_low.specs.Outcome.{IsOutcome, fresh, nodes_alone, timed_nodes};
 ghost use Rattle.cfn_search.specs.Beginning.{MayBegin, start_of};
 ghost use Rattle.cfn_search.specs.Recording.{IsRecorded};
 
-use cfn_clock::Halt;
 use cfn_dive::Divers;
-use cfn_explore::Problem;
-use cfn_gate::Gate;
+use cfn_explore::{Gate, Halt, Problem};
+use cfn_low::Outcome;
 use cfn_net::{Network, Tables};
-use cfn_outcome::Outcome;
 use cfn_search::{Begin, Teamwork};
 use std::alloc::{AllocError, Global};
 use std::sync::Wait;

@@ -4,7 +4,7 @@ use Rattle.std.proofs.lemmas.List.{reverse-append}
 use Rattle.cfn_model.specs.declared.step.Event.{Event}
 use Rattle.cfn_model.specs.Network.{Network}
 use Rattle.cfn_model.specs.Sums.{lifted}
-use Rattle.cfn_live.specs.Sets.{Sets}
+use Rattle.cfn_rows.specs.Sets.{Sets}
 use Rattle.cfn_store.specs.Sums.{IsSums}
 use Rattle.cfn_store.specs.Cutting.{IsCuts}
 use Rattle.cfn_store.specs.declared.state.State.{State}

@@ -6,7 +6,7 @@ use Rattle.std.specs.Prelude.{Option, Some, None, slice_index, ℤ, pos, ◌≤�
 use Rattle.cfn_model.specs.declared.step.Event.{Event}
 use Rattle.cfn_model.specs.Network.{Network, arity, cell, dims_at, scope_at, variable_at}
 use Rattle.cfn_model.specs.Sums.{residual}
-use Rattle.cfn_live.specs.Sets.{AreLive}
+use Rattle.cfn_rows.specs.Sets.{AreLive}
 use Rattle.cfn_scan.specs.Exact.{IsExact}
 use Rattle.cfn_net.proofs.CallerLemmas.{get_or-dims}
 use Rattle.cfn_scan.specs.declared.line.Line.{Line}

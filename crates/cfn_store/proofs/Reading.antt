@@ -4,7 +4,7 @@ use Rattle.std.specs.Prelude.{slice_index, slice_index_or, false}
 use Rattle.cfn_model.specs.Network.{Network, dims_at, function_at}
 use Rattle.cfn_model.specs.Sums.{is_live}
 use Rattle.cfn_rows.specs.Jagged.{row_at}
-use Rattle.cfn_live.specs.Sets.{Sets}
+use Rattle.cfn_rows.specs.Sets.{Sets}
 use Rattle.cfn_scan.specs.Wrapped.{StandsFor}
 use Rattle.cfn_scan.specs.Shifts.{shift, offset}
 use Rattle.cfn_scan.specs.Reading.{Reads}

@@ -7,7 +7,7 @@ use Rattle.cfn_model.specs.declared.step.Step.TheVariants.{Project, Extend, Lift
 use Rattle.cfn_model.specs.declared.step.Event.{Event}
 use Rattle.cfn_model.specs.declared.step.Event.TheVariants.{Did, Took, Refused}
 use Rattle.cfn_model.specs.Network.{Network, IsNetwork}
-use Rattle.cfn_live.specs.Sets.{Sets, with_event, without_newest}
+use Rattle.cfn_rows.specs.Sets.{Sets, with_event, without_newest}
 use Rattle.cfn_store.specs.declared.cuts.Cuts.{Cuts}
 use Rattle.cfn_store.specs.declared.state.State.{State}
 use Rattle.cfn_store.specs.Events.{removals}

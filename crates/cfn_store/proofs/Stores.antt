@@ -12,7 +12,7 @@ use Rattle.cfn_model.specs.Network.{Network}
 use Rattle.cfn_model.specs.Steps.{IsValue, IsCell, IsDecision}
 use Rattle.cfn_model.specs.Text.{IsSpelledStep}
 use Rattle.cfn_model.specs.Sums.{is_live}
-use Rattle.cfn_live.specs.Sets.{Sets, AreLive, live_below, live_count}
+use Rattle.cfn_rows.specs.Sets.{Sets, AreLive, live_below, live_count}
 use Rattle.cfn_store.specs.declared.state.State.{State}
 use Rattle.cfn_store.specs.Events.{steps_in, AllSteps}
 use Rattle.cfn_scan.specs.Exact.{IsExact, IsExactAlong, LiftsFit}

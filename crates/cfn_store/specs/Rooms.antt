@@ -4,7 +4,7 @@ use Rattle.cfn_model.specs.declared.limits.TheConstants.{GREATEST}
 use Rattle.cfn_model.specs.Network.{Fits, dims_at, variable_at}
 use Rattle.cfn_model.specs.Sums.{unary, residual, is_live, is_live_tuple}
 use Rattle.cfn_model.specs.Steps.{CanProject, CanExtend, CanLift}
-use Rattle.cfn_live.specs.Sets.{Sets}
+use Rattle.cfn_rows.specs.Sets.{Sets}
 use Rattle.cfn_store.specs.Standing.{Standing, history}
 
 -- What a store makes live, as the sets of its variables.

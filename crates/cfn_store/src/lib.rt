@@ -9,7 +9,7 @@
 //! store's own or shared with other stores (`shelf.rt`).
 //!
 //! Inside, `State` keeps the events and undoes each as it was made: `Sums` has the costs (`sums.rt`), `Cuts` which
-//! tuples are cut, and `cfn_live` which values are live; `peaks.rt` has the greatest unary costs. `cfn_scan` goes over the
+//! tuples are cut, and `cfn_rows` which values are live; `peaks.rt` has the greatest unary costs. `cfn_scan` goes over the
 //! tuples of a function with what these have; `amounts.rt` has the greatest amounts, and `block.rt` packs the newest steps.
 #![tactic(auto)]
 

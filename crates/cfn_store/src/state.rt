@@ -19,10 +19,10 @@ use crate::cuts::Cuts;
 use crate::peaks::{UNKNOWN, forget_changed};
 use crate::shelf::Shelf;
 use crate::sums::Sums;
-use cfn_live::LiveSets;
 use cfn_model::{Event, Step};
 use cfn_net::Network;
 use cfn_proof::Events;
+use cfn_rows::LiveSets;
 use cfn_scan::{Extreme, Pin, Scan, Sense, Side, Spot};
 use std::alloc::{AllocError, Global};
 

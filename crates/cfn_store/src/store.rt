@@ -10,7 +10,7 @@ ghost use Rattle.cfn_model.specs.Steps.{IsValue, IsCell, IsPlace, IsDecision};
 ghost use Rattle.cfn_model.specs.Paths.{RunsAlong, TameAlong};
 ghost use Rattle.cfn_model.specs.Text.{IsSpelledStep};
 ghost use Rattle.cfn_scan.specs.Exact.{IsExact, IsExactAlong};
-ghost use Rattle.cfn_live.specs.Sets.{AreLive, live_count};
+ghost use Rattle.cfn_rows.specs.Sets.{AreLive, live_count};
 ghost use Rattle.cfn_scan.specs.declared.scan.Sense.TheVariants.{Least, Greatest};
 ghost use Rattle.cfn_scan.specs.Extremes.{NonePicked, IsExtreme, NoneBetween, IsLeastBetween, IsFree, IsNumbered};
 ghost use Rattle.cfn_scan.specs.Lines.{IsLine, IsSide};

@@ -1,6 +1,6 @@
 //! What a gate is told of a run while it searches.
 
-ghost use Rattle.cfn_gate.specs.Telling.{AreBounds};
+ghost use Rattle.cfn_explore.specs.Telling.{AreBounds};
 
 use cfn_app::{Gate, News, Point};
 use cfn_net::Network;

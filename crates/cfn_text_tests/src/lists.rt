@@ -5,11 +5,11 @@ ghost use Rattle.cfn_model.specs.declared.limits.TheConstants.{GREATEST};
 
 use crate::given::{split_tree, writing_desk};
 use cfn_best::ListFault;
-use cfn_bestwrite::{write_best, write_list_refused, write_list_report, write_list_verified};
+use cfn_certwrite::{write_best, write_list_refused, write_list_report, write_list_verified};
 use cfn_desk::{Desk, Failed, MemoryDesk};
 use cfn_fault::FaultKind;
-use cfn_listing::{BestCertificate, ListWord, Listed};
 use cfn_proof::{Block, Decision, Step, Tree};
+use cfn_ranking::{BestCertificate, ListWord, Listed};
 use std::alloc::{AllocError, Global};
 use std::test::Fail;
 

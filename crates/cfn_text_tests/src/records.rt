@@ -5,10 +5,10 @@ ghost use Rattle.cfn_model.specs.Text.{IsSpelledBest};
 ghost use Rattle.cfn_proof.specs.Certificates.{solution_of};
 
 use crate::given::{split_tree, writing_desk};
+use cfn_certwrite::write_record;
 use cfn_desk::Failed;
-use cfn_history::{Happened, History};
 use cfn_proof::{Certificate, Tree};
-use cfn_recordwrite::write;
+use cfn_record::{Happened, History};
 use std::alloc::{AllocError, Global};
 use std::test::Fail;
 
@@ -62,7 +62,7 @@ const RECORD: &[u8] = b"wcsprecord 1\nnetwork 1 5 10\nbudget 100\ntake 0 2 0 1\n
 fn written(rt: &HostRuntime, history: &History) -> Result<(Result<(), Failed>, bool), Fail> {
     let certificate = certificate(rt.alloc())?;
     let mut desk = writing_desk(rt, &[])?;
-    let answer = write(history, &certificate, &mut desk);
+    let answer = write_record(history, &certificate, &mut desk);
     Ok((answer, desk.out_bytes() == RECORD))
 }
 

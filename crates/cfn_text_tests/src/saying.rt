@@ -1,8 +1,8 @@
 //! Tests of what is said of records that are replayed.
 
+use cfn_certwrite::{write_record_refused, write_replayed};
 use cfn_desk::MemoryDesk;
 use cfn_record::RecordFault;
-use cfn_recordwrite::{write_record_refused, write_replayed};
 use std::alloc::AllocError;
 use std::test::Fail;
 

@@ -15,7 +15,7 @@ use Rattle.cfn_store.specs.Standing.{Standing, history}
 use Rattle.cfn_scan.specs.Extremes.{IsPicked}
 use Rattle.cfn_trim.specs.Leaves.{IsLeaf}
 use Rattle.cfn_trim.specs.Shifting.{IsShutting, IsLifted, IsProjected, IsMade}
-use Rattle.cfn_live.specs.Sets.{AreLive}
+use Rattle.cfn_rows.specs.Sets.{AreLive}
 use Rattle.cfn_store.specs.Rooms.{sets_of}
 use Rattle.cfn_net.proofs.CallerLemmas.{get_or-dims}
 use Rattle.cfn_trim.proofs.Steps.{history_step, adds_none, lift_shifts, project_shifts}

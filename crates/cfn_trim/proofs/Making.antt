@@ -4,8 +4,8 @@ use Rattle.cfn_model.specs.declared.step.Step.{Step}
 use Rattle.cfn_model.specs.declared.step.Step.TheVariants.{Project, Extend, Lift, CutValue, CutTuple}
 use Rattle.cfn_model.specs.Steps.{Allowed}
 use Rattle.cfn_model.specs.Tree.{CanClose}
-use Rattle.cfn_live.specs.Sets.{live_count}
-use Rattle.cfn_live.proofs.CallerLemmas.{live_below_none}
+use Rattle.cfn_rows.specs.Sets.{live_count}
+use Rattle.cfn_rows.proofs.CallerLemmas.{live_below_none}
 use Rattle.cfn_store.specs.Standing.{Standing, history}
 use Rattle.cfn_store.specs.Rooms.{sets_of}
 use Rattle.cfn_trim.specs.Making.{CanMake}

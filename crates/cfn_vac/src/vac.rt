@@ -23,8 +23,8 @@ ghost use Rattle.cfn_vac.specs.Roots.{IsReady, EndsWith, HasLifted, BansMore};
 
 use crate::amounts::first_amount;
 use crate::lifter::{Lifter, Lifting};
-use cfn_clock::Halt;
 use cfn_derivation::{Bans, Derived, Deriver};
+use cfn_explore::Halt;
 use cfn_gain::Limits;
 use cfn_incidence::Incidence;
 use cfn_model::Step;

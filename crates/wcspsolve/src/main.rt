@@ -7,7 +7,7 @@ ghost use Rattle.wcspsolve.specs.Ending.{Ended, Ran};
 
 use cfn_app::{Status, run};
 use cfn_desk::HostDesk;
-use cfn_progress::Progress;
+use cfn_report::Progress;
 use std::alloc::{AllocError, AllocGlobal};
 use std::env;
 use std::env::{Args, Env};

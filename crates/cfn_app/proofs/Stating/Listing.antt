@@ -4,10 +4,10 @@ use Rattle.cfn_wcnf.specs.declared.fault.Unread.{Unread as FirstUnread}
 use Rattle.cfn_model.specs.Network.{Network}
 use Rattle.cfn_model.specs.Certificate.{Solution}
 use Rattle.cfn_best.specs.List.{ListCertificate}
-use Rattle.cfn_listing.specs.declared.word.ListWord.{ListWord}
-use Rattle.cfn_listing.specs.declared.word.ListWord.TheVariants as words
-use Rattle.cfn_listing.specs.Certificates.{spelling}
-use Rattle.cfn_bestwrite.specs.Texts.{list_report}
+use Rattle.cfn_ranking.specs.declared.word.ListWord.{ListWord}
+use Rattle.cfn_ranking.specs.declared.word.ListWord.TheVariants as words
+use Rattle.cfn_ranking.specs.Certificates.{spelling}
+use Rattle.cfn_certwrite.specs.ListTexts.{list_report}
 use Rattle.cfn_desk.specs.Outside.{Outside, Call, Load, Open, Bytes, HasFile, IsIdle, after, faults, says}
 use Rattle.cfn_cli.specs.Request.Listing.{KBestRequest}
 use Rattle.cfn_app.specs.declared.status.Status.{Status}

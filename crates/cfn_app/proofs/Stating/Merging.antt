@@ -9,8 +9,8 @@ use Rattle.cfn_fault.specs.declared.kind.FaultKind.{FaultKind}
 use Rattle.cfn_fault.specs.Fault as faulty
 use Rattle.cfn_fault.proofs.CallerLemmas.{no_fault_where_good}
 use Rattle.cfn_mending.proofs.CallerLemmas.{all_merged_good, all_merged_lower, all_merged_spelled}
-use Rattle.cfn_join.specs.Same.{same as one_split}
-use Rattle.cfn_join.proofs.CallerLemmas.{is_test}
+use Rattle.cfn_merge.specs.Same.{same as one_split}
+use Rattle.cfn_merge.proofs.CallerLemmas.{is_test}
 use Rattle.cfn_check.specs.Checking.{cost_of}
 use Rattle.cfn_report.specs.Texts.{merged_text}
 use Rattle.cfn_desk.specs.Outside.{Outside, Call, Load, Open, Close, Bytes, HasFile, IsIdle, Stored, Writing, after, faults, puts, says}

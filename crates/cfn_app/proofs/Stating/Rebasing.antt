@@ -10,8 +10,8 @@ use Rattle.cfn_model.specs.Text.{Spells, spelling, report}
 use Rattle.cfn_fault.specs.Fault.{TextFault}
 use Rattle.cfn_fault.proofs.CallerLemmas.{no_text_fault_where_spelled}
 use Rattle.cfn_desk.specs.Outside.{Outside, Open, IsIdle, Stored, Writing, after, says}
-use Rattle.cfn_outcome.specs.Outcome.{Start}
-use Rattle.cfn_resume.specs.Resuming.{Resumes}
+use Rattle.cfn_low.specs.Outcome.{Start}
+use Rattle.cfn_rebase.specs.Resuming.{Resumes}
 use Rattle.cfn_cli.specs.Request.Rebasing.{RebaseRequest}
 use Rattle.cfn_app.specs.declared.status.Status.{Status}
 use Rattle.cfn_app.specs.declared.status.Status.TheVariants.{Refused, Disproved}

@@ -8,10 +8,10 @@ use Rattle.cfn_model.specs.Network.{Network}
 use Rattle.cfn_model.specs.Certificate.{Certificate}
 use Rattle.cfn_model.specs.Text.{spelling, report}
 use Rattle.cfn_record.specs.Lines.{Record}
-use Rattle.cfn_recordwrite.specs.Records as records
+use Rattle.cfn_certwrite.specs.Records as records
 use Rattle.cfn_desk.specs.Outside.{Outside, Call, Load, Open, Bytes, HasFile, IsIdle, after, faults, says, written}
 use Rattle.cfn_cli.specs.Request.Recording.{RecordedRequest}
-use Rattle.cfn_outcome.specs.Outcome.{fresh}
+use Rattle.cfn_low.specs.Outcome.{fresh}
 use Rattle.cfn_app.specs.declared.status.Status.{Status}
 use Rattle.cfn_app.specs.declared.status.Status.TheVariants.{Refused}
 use Rattle.cfn_app.specs.Endings.{Ends, IsHindered, Outputs, Wrote}

@@ -9,7 +9,7 @@ use Rattle.cfn_record.specs.Fault as faulty
 use Rattle.cfn_record.specs.Lines.{Record, Spells}
 use Rattle.cfn_record.specs.Replaying.{GoodRecord}
 use Rattle.cfn_record.proofs.CallerLemmas.{no_fault_where_good}
-use Rattle.cfn_recordwrite.specs.Texts.{replayed_text}
+use Rattle.cfn_certwrite.specs.RecordTexts.{replayed_text}
 use Rattle.cfn_desk.specs.Outside.{Outside, Open, IsIdle, Stored, Writing, after, faults, says}
 use Rattle.cfn_cli.specs.Request.Replaying.{ReplayRequest}
 use Rattle.cfn_app.specs.declared.status.Status.{Status}

@@ -12,7 +12,7 @@ use Rattle.cfn_cli.specs.Request.Solving.{SolveRequest}
 use Rattle.cfn_app.specs.declared.status.Status.{Status}
 use Rattle.cfn_app.specs.declared.status.Status.TheVariants.{Refused}
 use Rattle.cfn_app.specs.Endings.{Ending, Ends, IsHindered}
-use Rattle.cfn_outcome.specs.Outcome.{Start, fresh}
+use Rattle.cfn_low.specs.Outcome.{Start, fresh}
 use Rattle.cfn_app.specs.Headline.{Promise}
 use Rattle.cfn_app.specs.Loading.{ReadsAs, RefusesAs, Tells, loaded}
 use Rattle.cfn_app.specs.Loading as loading

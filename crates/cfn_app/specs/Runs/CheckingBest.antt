@@ -6,7 +6,7 @@ use Rattle.cfn_best.specs.declared.kind.ListFault.{ListFault}
 use Rattle.cfn_best.specs.List.{ListCertificate, GoodList}
 use Rattle.cfn_best.specs.Lines.{Spells}
 use Rattle.cfn_best.specs.Laws.{IsNotIn}
-use Rattle.cfn_bestwrite.specs.Texts.{list_verified_text, list_refused_text}
+use Rattle.cfn_certwrite.specs.ListTexts.{list_verified_text, list_refused_text}
 use Rattle.cfn_desk.specs.Outside.{Outside, Call}
 use Rattle.cfn_cli.specs.Request.CheckingBest.{CheckBestRequest}
 use Rattle.cfn_app.specs.declared.status.Status.{Status}

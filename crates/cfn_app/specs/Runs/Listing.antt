@@ -8,13 +8,13 @@ use Rattle.cfn_best.specs.Tree.{bound, solution_at}
 use Rattle.cfn_best.specs.List.{ListCertificate, GoodList, threshold_of}
 use Rattle.cfn_best.specs.Lines.{Spells}
 use Rattle.cfn_best.specs.Laws.{IsNotIn}
-use Rattle.cfn_listing.specs.declared.word.ListWord.{ListWord}
-use Rattle.cfn_listing.specs.declared.word.ListWord.TheVariants as words
-use Rattle.cfn_listing.specs.Certificates.{spelling}
-use Rattle.cfn_listing.specs.Trees.{plain, open_leaves, OpenBelow}
+use Rattle.cfn_ranking.specs.declared.word.ListWord.{ListWord}
+use Rattle.cfn_ranking.specs.declared.word.ListWord.TheVariants as words
+use Rattle.cfn_ranking.specs.Certificates.{spelling}
+use Rattle.cfn_ranking.specs.Trees.{plain, open_leaves, OpenBelow}
 use Rattle.cfn_ranking.specs.Finished.{threshold}
 use Rattle.cfn_kbest.specs.Searching.{HasListCause}
-use Rattle.cfn_bestwrite.specs.Texts.{list_report}
+use Rattle.cfn_certwrite.specs.ListTexts.{list_report}
 use Rattle.cfn_desk.specs.Outside.{Outside, Load, Open, Close, Discard, Bytes, HasFile, Stored, after, puts, Writing, says}
 use Rattle.cfn_cli.specs.Request.Listing.{KBestRequest}
 use Rattle.cfn_wcnf.specs.declared.fault.Unread.{Unread as FirstUnread}

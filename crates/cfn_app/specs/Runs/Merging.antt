@@ -7,7 +7,7 @@ use Rattle.cfn_model.specs.Text.{spelling, write_fault_text, memory_fault_text, 
 use Rattle.cfn_fault.specs.declared.kind.FaultKind.{FaultKind}
 use Rattle.cfn_fault.specs.Fault as faults
 use Rattle.cfn_mending.specs.Merging.{all_merged}
-use Rattle.cfn_join.specs.Same.{same}
+use Rattle.cfn_merge.specs.Same.{same}
 use Rattle.cfn_check.specs.Checking.{cost_of}
 use Rattle.cfn_report.specs.Texts.{merged_text, refused_in_text}
 use Rattle.cfn_desk.specs.Outside.{Outside, Call, Load, Open, Close, Bytes, HasFile, Stored, Writing, after, puts, says}

@@ -11,8 +11,8 @@ use Rattle.cfn_fault.specs.Fault.{TextFault}
 use Rattle.cfn_report.specs.Texts.{refused_text}
 use Rattle.cfn_desk.specs.Outside.{Outside, Open, Close, Stored, Writing, puts, says}
 use Rattle.cfn_machine.specs.declared.part.Part.{Part}
-use Rattle.cfn_outcome.specs.Outcome.{Start}
-use Rattle.cfn_resume.specs.Resuming.{Resumes}
+use Rattle.cfn_low.specs.Outcome.{Start}
+use Rattle.cfn_rebase.specs.Resuming.{Resumes}
 use Rattle.cfn_wcnf.specs.declared.fault.Unread.{Unread as FirstUnread}
 use Rattle.cfn_cli.specs.Request.Rebasing.{RebaseRequest}
 use Rattle.cfn_app.specs.declared.status.Status.{Status}

@@ -11,10 +11,10 @@ use Rattle.cfn_machine.specs.Pool.{tree_of}
 use Rattle.cfn_record.specs.Entries.{Entry, Took, Gave, Freed, CalledBack, Swept}
 use Rattle.cfn_record.specs.Lines.{Record, Spells}
 use Rattle.cfn_record.specs.Replaying.{GoodRecord, certificate_of}
-use Rattle.cfn_recordwrite.specs.Records as records
+use Rattle.cfn_certwrite.specs.Records as records
 use Rattle.cfn_desk.specs.Outside.{Outside, Load, Open, Close, Discard, Bytes, HasFile, Stored, after, puts, Writing, says}
 use Rattle.cfn_cli.specs.Request.Recording.{RecordedRequest}
-use Rattle.cfn_outcome.specs.Outcome.{fresh}
+use Rattle.cfn_low.specs.Outcome.{fresh}
 use Rattle.cfn_wcnf.specs.declared.fault.Unread.{Unread as FirstUnread}
 use Rattle.cfn_app.specs.declared.status.Status.{Status}
 use Rattle.cfn_app.specs.declared.status.Status.TheVariants.{Done, Nothing, LimitSpent, Fault, NoMemory, Usage, Refused, Disproved}

@@ -9,8 +9,8 @@ use Rattle.cfn_record.specs.declared.kind.RecordFault.{RecordFault}
 use Rattle.cfn_record.specs.Fault as faults
 use Rattle.cfn_record.specs.Lines.{Record, Spells}
 use Rattle.cfn_record.specs.Replaying.{GoodRecord, certificate_of}
-use Rattle.cfn_recordwrite.specs.Records as records
-use Rattle.cfn_recordwrite.specs.Texts.{replayed_text, record_refused_text}
+use Rattle.cfn_certwrite.specs.Records as records
+use Rattle.cfn_certwrite.specs.RecordTexts.{replayed_text, record_refused_text}
 use Rattle.cfn_desk.specs.Outside.{Outside, Open, Close, Stored, Writing, after, puts, says}
 use Rattle.cfn_cli.specs.Request.Recording.{RecordedRequest}
 use Rattle.cfn_cli.specs.Request.Replaying.{ReplayRequest}

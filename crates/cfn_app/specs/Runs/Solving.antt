@@ -6,18 +6,18 @@ use Rattle.cfn_model.specs.Network.{Network}
 use Rattle.cfn_model.specs.Certificate.{Solution, Certificate}
 use Rattle.cfn_model.specs.Text.{spelling, report, write_fault_text, memory_fault_text}
 use Rattle.cfn_desk.specs.Outside.{Outside, Load, Open, Close, Discard, Bytes, HasFile, Stored, after, puts, Writing, says}
-use Rattle.cfn_outcome.specs.declared.outcome.Stop.{Stop}
+use Rattle.cfn_low.specs.declared.outcome.Stop.{Stop}
 use Rattle.cfn_cli.specs.Request.Solving.{SolveRequest}
 use Rattle.cfn_app.specs.declared.status.Status.{Status}
 use Rattle.cfn_app.specs.declared.status.Status.TheVariants.{Done, Nothing, LimitSpent, Fault, NoMemory, Usage, Refused, Disproved}
 use Rattle.cfn_app.specs.Endings.{Ends, Outputs, IsHindered}
-use Rattle.cfn_outcome.specs.Outcome.{Limits, Start, fresh, timed_nodes}
+use Rattle.cfn_low.specs.Outcome.{Limits, Start, fresh, timed_nodes}
 use Rattle.cfn_app.specs.Headline.{Promise}
 use Rattle.cfn_app.specs.Loading.{ReadsAs, Unloaded, Unread, loaded, RefusesAs, Tells}
 use Rattle.cfn_wcnf.specs.declared.fault.Unread.{Unread as FirstUnread}
 use Rattle.cfn_app.specs.Saying.{SaysNoMemory, FileRefused}
 use Rattle.cfn_model.specs.declared.report.ResultWord.TheVariants as words
-use Rattle.cfn_outcome.specs.declared.outcome.Stop.TheVariants as stops
+use Rattle.cfn_low.specs.declared.outcome.Stop.TheVariants as stops
 
 -- The status by the result of a search.
 abbrev pub status_of : ResultWord → Status

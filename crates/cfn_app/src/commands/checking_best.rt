@@ -39,13 +39,13 @@ fn judge<D: Desk>(alloc: Global, network: &Network, text: &[u8], desk: &mut D) -
     match check_best(alloc, network, text) {
         Ok(BestCheck::Verified { lower, count }) => {
             ending(
-                cfn_bestwrite::write_list_verified(lower, count, desk),
+                cfn_certwrite::write_list_verified(lower, count, desk),
                 Status::Done,
             )
         }
         Ok(BestCheck::Refused { kind, line }) => {
             ending(
-                cfn_bestwrite::write_list_refused(kind, line, desk),
+                cfn_certwrite::write_list_refused(kind, line, desk),
                 Status::Disproved,
             )
         }

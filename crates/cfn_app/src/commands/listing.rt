@@ -2,8 +2,8 @@
 
 ghost use Rattle.std.specs.Prelude.{◌≡◌, ◌≤◌, is_some, IfOk, OnOk, OnErr};
 ghost use Rattle.cfn_model.specs.declared.limits.TheConstants.{GREATEST};
-ghost use Rattle.cfn_listing.specs.Certificates.{list_certificate_of, spelling};
-ghost use Rattle.cfn_bestwrite.specs.Texts.{list_report};
+ghost use Rattle.cfn_ranking.specs.Certificates.{list_certificate_of, spelling};
+ghost use Rattle.cfn_certwrite.specs.ListTexts.{list_report};
 ghost use Rattle.cfn_desk.specs.Outside.{IsIdle, IsWriting};
 ghost use Rattle.cfn_cli.specs.Request.Listing.{spoken_k_best};
 ghost use Rattle.cfn_app.specs.Endings.{NotWritten, Outputs, Wrote};
@@ -13,11 +13,11 @@ use crate::loading::{load_bytes, read_bytes};
 use crate::status::{Status, ending};
 use cfn_best::laws::law_good_lists;
 use cfn_cli::commands::KBestArguments;
-use cfn_clock::{Deadline, Halt};
 use cfn_desk::{Desk, Failed};
+use cfn_explore::{Deadline, Halt};
 use cfn_kbest::{Best, Limits, kbest};
-use cfn_listing::{BestCertificate, ListWord};
 use cfn_net::Network;
+use cfn_ranking::{BestCertificate, ListWord};
 use std::alloc::{AllocError, Global};
 use std::time::Clock;
 
@@ -113,7 +113,7 @@ fn put_list<D: Desk>(best: &Best, desk: &mut D) -> Status
     }
     let due = status(&best.certificate, best.word);
     ending(
-        cfn_bestwrite::write_list_report(&best.certificate, best.word, desk),
+        cfn_certwrite::write_list_report(&best.certificate, best.word, desk),
         due,
     )
 }
@@ -127,7 +127,7 @@ fn save_list<D: Desk>(certificate: &BestCertificate, desk: &mut D) -> Result<(),
     ensures not_written { OnErr result (NotWritten (spelling (list_certificate_of certificate.now))
         (D.outside desk.old) (D.outside desk.new)) }
 {
-    if cfn_bestwrite::write_best(certificate, desk).is_err() {
+    if cfn_certwrite::write_best(certificate, desk).is_err() {
         desk.discard_out();
         return Err(Failed);
     }

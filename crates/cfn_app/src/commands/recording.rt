@@ -5,9 +5,9 @@ ghost use Rattle.cfn_model.specs.Certificate.{threshold};
 ghost use Rattle.cfn_model.specs.Text.{IsSpelledBest, report, spelling};
 ghost use Rattle.cfn_model.specs.declared.limits.TheConstants.{GREATEST};
 ghost use Rattle.cfn_desk.specs.Outside.{IsIdle, IsWriting};
-ghost use Rattle.cfn_outcome.specs.Outcome.{fresh};
+ghost use Rattle.cfn_low.specs.Outcome.{fresh};
 ghost use Rattle.cfn_proof.specs.Certificates.{certificate_of, solution_of};
-ghost use Rattle.cfn_recordwrite.specs.Records as records;
+ghost use Rattle.cfn_certwrite.specs.Records as records;
 ghost use Rattle.cfn_search.specs.Beginning.{MayBegin, start_of};
 ghost use Rattle.cfn_cli.specs.Request.Recording.{spoken_recorded};
 ghost use Rattle.cfn_app.specs.Endings.{NotWritten, Wrote};
@@ -19,11 +19,11 @@ use crate::output::{save, say_report};
 use crate::searching::search;
 use crate::status::{Status, ending};
 use cfn_cli::commands::RecordedArguments;
-use cfn_clock::Deadline;
 use cfn_desk::{Desk, Failed};
-use cfn_history::History;
+use cfn_explore::Deadline;
 use cfn_net::Network;
 use cfn_proof::Certificate;
+use cfn_record::History;
 use cfn_solve::{Begin, Gate, Halt, Teamwork};
 use std::alloc::{AllocError, Global};
 use std::sync::Wait;
@@ -122,7 +122,7 @@ fn open_and_record<R: Threads + Wait + Sync, D: Desk, G: Gate + Sync, H: Halt + 
     ) {
         Ok(found) => match &found.history {
             Some(history) => {
-                cfn_recordwrite::law_spelled(history, &found.outcome.certificate);
+                cfn_certwrite::law_spelled(history, &found.outcome.certificate);
                 put_both(history, &found, workers, ask.recording.as_str(), desk)
             }
             None => unreachable!(),
@@ -201,7 +201,7 @@ fn save_record<D: Desk>(
     ensures not_written { OnErr result (NotWritten (records.spelling (records.recorded history.now certificate.now))
         (D.outside desk.old) (D.outside desk.new)) }
 {
-    if cfn_recordwrite::write(history, certificate, desk).is_err() {
+    if cfn_certwrite::write_record(history, certificate, desk).is_err() {
         desk.discard_out();
         return Err(Failed);
     }

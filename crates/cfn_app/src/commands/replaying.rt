@@ -2,7 +2,7 @@
 
 ghost use Rattle.std.specs.Prelude.{OnErr, OnOk};
 ghost use Rattle.cfn_desk.specs.Outside.{IsIdle, IsWriting};
-ghost use Rattle.cfn_recordwrite.specs.Texts.{replayed_text};
+ghost use Rattle.cfn_certwrite.specs.RecordTexts.{replayed_text};
 ghost use Rattle.cfn_cli.specs.Request.Replaying.{spoken_replay};
 ghost use Rattle.cfn_app.specs.declared.status.Status.TheVariants.{Done};
 ghost use Rattle.cfn_app.specs.Endings.{NotWritten, Outputs, Wrote};
@@ -56,7 +56,7 @@ fn run_again<D: Desk>(
     match replay(alloc, network, text) {
         Replay::Certificate(bytes) => write_again(&bytes, out, desk),
         Replay::Refused { kind, line } => ending(
-            cfn_recordwrite::write_record_refused(kind, line, desk),
+            cfn_certwrite::write_record_refused(kind, line, desk),
             Status::Disproved,
         ),
         Replay::Memory => ending(cfn_report::write_memory_fault(desk), Status::NoMemory),
@@ -82,7 +82,7 @@ fn put_again<D: Desk>(text: &[u8], desk: &mut D) -> Status
     if save_text(text, desk).is_err() {
         return ending(cfn_report::write_write_fault(desk), Status::Fault);
     }
-    ending(cfn_recordwrite::write_replayed(desk), Status::Done)
+    ending(cfn_certwrite::write_replayed(desk), Status::Done)
 }
 
 /// Writes a text into the file that was opened, by one call, and closes the file. It takes no memory. After an `Err` no file is being

@@ -4,7 +4,7 @@ ghost use Rattle.std.specs.Prelude.{◌≡◌, ◌≤◌, is_some};
 ghost use Rattle.cfn_model.specs.declared.limits.TheConstants.{GREATEST};
 ghost use Rattle.cfn_desk.specs.Outside.{IsIdle};
 ghost use Rattle.cfn_cli.specs.Request.Solving.{spoken_solve};
-ghost use Rattle.cfn_outcome.specs.Outcome.{fresh};
+ghost use Rattle.cfn_low.specs.Outcome.{fresh};
 ghost use Rattle.cfn_search.specs.Beginning.{MayBegin, start_of};
 ghost use Rattle.cfn_app.specs.Runs.Solving.{Searches, Solves};
 
@@ -13,8 +13,8 @@ use crate::output::put_out;
 use crate::searching::search;
 use crate::status::{Status, ending};
 use cfn_cli::commands::SolveArguments;
-use cfn_clock::Deadline;
 use cfn_desk::Desk;
+use cfn_explore::Deadline;
 use cfn_net::Network;
 use cfn_solve::{Begin, Gate, Halt};
 use std::alloc::{AllocError, Global};

@@ -1,7 +1,7 @@
 use Rattle.std.proofs.Common.{◌≡◌, ◌+◌, ◌-◌, ◌<◌}
 use Rattle.std.specs.Prelude.{slice_index, IsTrue}
 use Rattle.cfn_model.specs.Sums.{is_live}
-use Rattle.cfn_live.specs.Sets.{live_below}
+use Rattle.cfn_rows.specs.Sets.{live_below}
 use Rattle.cfn_store.specs.Standing.{history}
 use Rattle.cfn_branch.specs.Choosing.{choices}
 use Rattle.cfn_branch.specs.Fewest.{half_of}

@@ -2,7 +2,7 @@ use Rattle.std.proofs.Common.{◌≡◌, ap, ◌∙◌, subst}
 use Rattle.std.specs.Prelude.{slice_index, pos, IsTrue}
 use Rattle.cfn_model.specs.Network.{IsNetwork, variable_at}
 use Rattle.cfn_model.specs.Sums.{unary, is_live}
-use Rattle.cfn_live.specs.Sets.{AreLive}
+use Rattle.cfn_rows.specs.Sets.{AreLive}
 use Rattle.cfn_store.specs.Standing.{history}
 use Rattle.cfn_store.specs.Rooms.{sets_of}
 use Rattle.cfn_dac.specs.Moves.{IsTotalBetween}

@@ -3,7 +3,7 @@ use Rattle.std.proofs.lemmas.Bool.{cases_eq}
 use Rattle.std.specs.Prelude.{slice_index}
 use Rattle.cfn_model.specs.Network.{IsNetwork, variable_at}
 use Rattle.cfn_consistency.specs.Virtual.{HasCheapTuple}
-use Rattle.cfn_live.specs.Sets.{AreLive}
+use Rattle.cfn_rows.specs.Sets.{AreLive}
 use Rattle.cfn_scan.specs.Lines.{IsLine}
 use Rattle.cfn_store.specs.Rooms.{sets_of}
 use Rattle.cfn_store.specs.Standing.{history}

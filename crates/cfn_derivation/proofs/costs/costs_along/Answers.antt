@@ -1,7 +1,7 @@
 use Rattle.std.proofs.Common.{◌-◌, ◌<◌, subst, arith}
 use Rattle.std.specs.Prelude.{slice_index}
 use Rattle.cfn_model.specs.Network.{IsNetwork, arity}
-use Rattle.cfn_live.specs.Sets.{AreLive}
+use Rattle.cfn_rows.specs.Sets.{AreLive}
 use Rattle.cfn_store.specs.Rooms.{sets_of}
 use Rattle.cfn_store.specs.Standing.{history}
 use Rattle.cfn_derivation.proofs.Costing.{at_value, cheaper_is, cost_none, cost_more, cost_all}

@@ -2,7 +2,7 @@ use Rattle.std.proofs.Common.{◌≡◌, ℕ, ◌-◌, ◌<◌, sym, ap, ◌∙�
 use Rattle.std.proofs.lemmas.Bool.Decides.{nat_tests}
 use Rattle.std.specs.Prelude.{true, nat_lt, slice_index}
 use Rattle.cfn_model.specs.Network.{Network, scope_at}
-use Rattle.cfn_live.specs.Sets.{live_count}
+use Rattle.cfn_rows.specs.Sets.{live_count}
 use Rattle.cfn_store.specs.Rooms.{sets_of}
 use Rattle.cfn_store.specs.Standing.{history}
 use Rattle.cfn_edac.proofs.Meeting.{met}

@@ -1,6 +1,6 @@
 -- A variable with no live value closes a leaf.
 use Rattle.std.proofs.Common.{◌<◌, length, eqb-true, inr, sym, ap, ◌∙◌, arith}
-use Rattle.cfn_live.proofs.CallerLemmas.{live_below_none}
+use Rattle.cfn_rows.proofs.CallerLemmas.{live_below_none}
 use Rattle.cfn_store.specs.Standing.{history}
 use Rattle.cfn_enforcing_tests.proofs.trimming.closes.Goals as goal
 

@@ -1,8 +1,8 @@
 use Rattle.std.proofs.Common.{eqb, eq-eqb, sym, ap, ◌∙◌, subst}
 use Rattle.std.proofs.lemmas.Bool.{eqb-true}
 use Rattle.std.specs.Prelude.{◌≤◌, is_some}
-use Rattle.cfn_listing.specs.Certificates.{list_certificate_of}
-use Rattle.cfn_listing.specs.Trees.{open_leaves}
+use Rattle.cfn_ranking.specs.Certificates.{list_certificate_of}
+use Rattle.cfn_ranking.specs.Trees.{open_leaves}
 use Rattle.cfn_ranking.specs.Finished.{IsListOf}
 use Rattle.cfn_kbest.specs.Searching.{HasListCause, word_of}
 use Rattle.cfn_kbest.proofs.Words.{has_cause}

@@ -1,6 +1,6 @@
 use Rattle.std.proofs.Common.{◌≡◌, ℕ, ◌∙◌, true, false, Option, Some, None, refl, sym, ap}
 use Rattle.std.specs.Prelude.{is_some}
-use Rattle.cfn_task.specs.Values.{PieceValue}
+use Rattle.cfn_explore.specs.Values.{PieceValue}
 use Rattle.cfn_leaves.specs.declared.taking.Taken.{Taken}
 use Rattle.cfn_pool.specs.declared.steps.Handed.{Handed}
 use Rattle.cfn_pool.specs.declared.steps.Handed.TheVariants.{Done, Gone, Memory}

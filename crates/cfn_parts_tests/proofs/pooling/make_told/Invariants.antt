@@ -1,4 +1,4 @@
-use Rattle.cfn_outcome.specs.Outcome.{fresh}
+use Rattle.cfn_low.specs.Outcome.{fresh}
 use Rattle.cfn_parts_tests.proofs.pooling.make_told.Given as goal
 
 abbrev pub ghosts-begin : goal.ghosts-begin

@@ -1,8 +1,8 @@
 use Rattle.std.proofs.Common.{subst}
 use Rattle.cfn_model.specs.Certificate.{Solution}
 use Rattle.cfn_best.specs.List.{IsBefore}
-use Rattle.cfn_listing.specs.declared.list.Listed.{Listed}
-use Rattle.cfn_listing.specs.Certificates.{solution_of}
+use Rattle.cfn_ranking.specs.declared.list.Listed.{Listed}
+use Rattle.cfn_ranking.specs.Certificates.{solution_of}
 use Rattle.cfn_ranking.proofs.Places.{one_more}
 use Rattle.cfn_ranking.proofs.place.place_of.Goals as goal
 

@@ -2,7 +2,7 @@ use Rattle.std.proofs.Common.{ℕ, ◌<◌}
 use Rattle.std.specs.Prelude.{slice_index_or}
 use Rattle.cfn_model.specs.Certificate.{Solution}
 use Rattle.cfn_best.specs.List.{IsBefore}
-use Rattle.cfn_listing.specs.Certificates.{solutions_of}
+use Rattle.cfn_ranking.specs.Certificates.{solutions_of}
 use Rattle.cfn_ranking.proofs.place.place_of.Given as goal
 
 -- the ones so far come before it

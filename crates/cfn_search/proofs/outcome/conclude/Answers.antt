@@ -7,7 +7,7 @@ use Rattle.cfn_model.specs.Certificate.{Certificate, threshold_of}
 use Rattle.cfn_model.specs.declared.version.Version.TheVariants.{Second}
 use Rattle.cfn_proof.specs.Certificates.{solution_of}
 use Rattle.cfn_proof.specs.Nodes as nodes
-use Rattle.cfn_outcome.specs.Outcome.{IsSearched, timed_nodes}
+use Rattle.cfn_low.specs.Outcome.{IsSearched, timed_nodes}
 use Rattle.cfn_proof.proofs.CallerLemmas.{spelled_law, lines_law}
 use Rattle.cfn_machine.specs.Pool.{tree_of}
 use Rattle.cfn_pool.specs.Views.{pool}

@@ -1,4 +1,4 @@
-use Rattle.cfn_outcome.specs.Outcome.{fresh}
+use Rattle.cfn_low.specs.Outcome.{fresh}
 use Rattle.cfn_search_tests.proofs.dives.dive_with.Given as goal
 
 abbrev pub ghosts-dive : goal.ghosts-dive

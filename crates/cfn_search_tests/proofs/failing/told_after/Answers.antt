@@ -1,7 +1,7 @@
 use denote.Ref.{NamedLft}
 use denote.Param.Send.{IsSend, IsSync, sendable}
 use denote.Param.SendFields.{declared_send}
-use Rattle.cfn_clock.proofs.CallerLemmas.{never_sync}
+use Rattle.cfn_explore.proofs.CallerLemmas.{never_sync}
 use Rattle.cfn_dive.proofs.CallerLemmas.{diver_send, divers_sync}
 use Rattle.cfn_search_tests.specs.contracts.failing.Failing as Failing
 use Rattle.cfn_search_tests.specs.contracts.failing.FailingDivers as FailingDivers

@@ -1,5 +1,5 @@
 use Rattle.std.proofs.Common.{false}
-use Rattle.cfn_outcome.specs.Outcome.{fresh}
+use Rattle.cfn_low.specs.Outcome.{fresh}
 use Rattle.cfn_search_tests.proofs.lanes.in_two.Given as goal
 
 abbrev pub ghosts-asked-M-Incumbent : goal.ghosts-asked-M-Incumbent

@@ -1,4 +1,4 @@
-use Rattle.cfn_outcome.specs.Outcome.{fresh}
+use Rattle.cfn_low.specs.Outcome.{fresh}
 use Rattle.cfn_search_tests.proofs.threads.sights.Given as goal
 
 abbrev pub ghosts-lower_and_look : goal.ghosts-lower_and_look

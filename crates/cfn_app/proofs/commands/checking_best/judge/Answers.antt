@@ -1,7 +1,7 @@
 use Rattle.std.proofs.Common.{refl, sym, subst}
 use Rattle.cfn_best.proofs.CallerLemmas.{others_cost_more}
 use Rattle.cfn_bestcheck.specs.Checking.{IsChecked}
-use Rattle.cfn_bestwrite.specs.Texts.{list_verified_text, list_refused_text}
+use Rattle.cfn_certwrite.specs.ListTexts.{list_verified_text, list_refused_text}
 use Rattle.cfn_app.specs.declared.status.Status.TheVariants.{Done, Disproved}
 use Rattle.cfn_app.specs.Endings.{Ends}
 use Rattle.cfn_app.specs.Runs.CheckingBest.{verified, disproved}

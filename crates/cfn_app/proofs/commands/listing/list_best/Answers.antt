@@ -1,7 +1,7 @@
 use Rattle.std.proofs.Common.{subst}
 use Rattle.cfn_cli.specs.Request.Listing.{spoken_k_best}
-use Rattle.cfn_listing.specs.Certificates.{list_certificate_of}
-use Rattle.cfn_listing.specs.Trees.{open_leaves}
+use Rattle.cfn_ranking.specs.Certificates.{list_certificate_of}
+use Rattle.cfn_ranking.specs.Trees.{open_leaves}
 use Rattle.cfn_kbest.specs.Searching.{HasListCause}
 use Rattle.cfn_app.proofs.Lists.{promised}
 use Rattle.cfn_app.proofs.commands.listing.list_best.Goals as goal

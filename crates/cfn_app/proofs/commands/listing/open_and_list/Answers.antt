@@ -1,6 +1,6 @@
 use Rattle.std.proofs.Common.{sym, ◌∙◌}
 use Rattle.cfn_cli.specs.Request.Listing.{spoken_k_best}
-use Rattle.cfn_listing.specs.Certificates.{list_certificate_of}
+use Rattle.cfn_ranking.specs.Certificates.{list_certificate_of}
 use Rattle.cfn_app.proofs.Lists.{listed_behind}
 use Rattle.cfn_app.proofs.commands.listing.open_and_list.Goals as goal
 

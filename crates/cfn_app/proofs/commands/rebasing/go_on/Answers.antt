@@ -1,7 +1,7 @@
 use Rattle.std.proofs.Common.{refl, subst}
 use Rattle.cfn_fault.specs.declared.kind.FaultKind.TheVariants as kinds
 use Rattle.cfn_report.specs.Texts.{refused_text}
-use Rattle.cfn_resume.specs.Resuming.{IsResumed}
+use Rattle.cfn_rebase.specs.Resuming.{IsResumed}
 use Rattle.cfn_search.specs.Beginning.{start_of}
 use Rattle.cfn_app.specs.declared.status.Status.TheVariants.{Disproved}
 use Rattle.cfn_cli.specs.Request.Rebasing.{spoken_rebase}

@@ -1,5 +1,5 @@
 use denote.Param.Send.{sendable}
-use Rattle.cfn_clock.proofs.CallerLemmas.{deadline_sync}
+use Rattle.cfn_explore.proofs.CallerLemmas.{deadline_sync}
 use Rattle.cfn_app.specs.Runs.Rebasing.{goes_on, unpaired}
 use Rattle.cfn_app.proofs.commands.rebasing.rebase_file.Goals as goal
 

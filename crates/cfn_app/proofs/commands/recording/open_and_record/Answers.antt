@@ -1,8 +1,8 @@
 use Rattle.std.proofs.Common.{sym, subst, ◌∙◌}
 use Rattle.cfn_proof.specs.Certificates.{certificate_of, solution_of}
-use Rattle.cfn_recordwrite.specs.Records as records
+use Rattle.cfn_certwrite.specs.Records as records
 use Rattle.cfn_cli.specs.Request.Recording.{spoken_recorded}
-use Rattle.cfn_outcome.specs.Outcome.{IsSearched, fresh, timed_nodes}
+use Rattle.cfn_low.specs.Outcome.{IsSearched, fresh, timed_nodes}
 use Rattle.cfn_app.specs.Runs.Solving.{limits_of, word_of}
 use Rattle.cfn_app.proofs.Causes.{promised}
 use Rattle.cfn_app.proofs.Recordings.{is_record, searched_behind}

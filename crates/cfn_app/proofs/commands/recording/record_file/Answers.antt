@@ -1,5 +1,5 @@
 use denote.Param.Send.{sendable}
-use Rattle.cfn_clock.proofs.CallerLemmas.{deadline_sync}
+use Rattle.cfn_explore.proofs.CallerLemmas.{deadline_sync}
 use Rattle.cfn_cli.specs.Request.Recording.{spoken_recorded}
 use Rattle.cfn_app.proofs.Recordings.{records_read, records_unread}
 use Rattle.cfn_app.proofs.commands.recording.record_file.Goals as goal

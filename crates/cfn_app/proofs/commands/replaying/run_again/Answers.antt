@@ -1,5 +1,5 @@
 use Rattle.std.proofs.Common.{refl, subst}
-use Rattle.cfn_recordwrite.specs.Texts.{record_refused_text}
+use Rattle.cfn_certwrite.specs.RecordTexts.{record_refused_text}
 use Rattle.cfn_replay.specs.Answers.{IsAnswer}
 use Rattle.cfn_app.specs.declared.status.Status.TheVariants.{Disproved}
 use Rattle.cfn_app.specs.Runs.Replaying.{WritesAgain, disproved, replayed}

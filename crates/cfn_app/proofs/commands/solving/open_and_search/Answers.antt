@@ -1,7 +1,7 @@
 use Rattle.std.proofs.Common.{sym, subst, ◌∙◌}
 use Rattle.cfn_proof.specs.Certificates.{certificate_of, solution_of}
 use Rattle.cfn_cli.specs.Request.Solving.{spoken_solve}
-use Rattle.cfn_outcome.specs.Outcome.{IsSearched, timed_nodes}
+use Rattle.cfn_low.specs.Outcome.{IsSearched, timed_nodes}
 use Rattle.cfn_search.specs.Beginning.{start_of}
 use Rattle.cfn_app.specs.Runs.Solving.{limits_of, word_of}
 use Rattle.cfn_app.proofs.Causes.{promised}

@@ -1,7 +1,7 @@
 use Rattle.cfn_cli.specs.Request.Solving.{spoken_solve}
 use Rattle.cfn_app.proofs.Ends.{solves_read, solves_unread}
 use denote.Param.Send.{sendable}
-use Rattle.cfn_clock.proofs.CallerLemmas.{deadline_sync}
+use Rattle.cfn_explore.proofs.CallerLemmas.{deadline_sync}
 use Rattle.cfn_app.proofs.commands.solving.solve_file.Goals as goal
 
 pub begin_and_search-requires-sync-H : goal.begin_and_search-requires-sync-H

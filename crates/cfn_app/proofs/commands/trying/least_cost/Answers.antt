@@ -1,12 +1,12 @@
 use Rattle.cfn_model.specs.declared.limits.TheConstants.{GREATEST}
 use Rattle.std.proofs.Common.{subst}
 use Rattle.cfn_proof.specs.Certificates.{certificate_of}
-use Rattle.cfn_outcome.specs.Outcome.{IsSearched, fresh, nodes_alone}
-use Rattle.cfn_outcome.specs.declared.outcome.Stop.TheVariants.{Done}
+use Rattle.cfn_low.specs.Outcome.{IsSearched, fresh, nodes_alone}
+use Rattle.cfn_low.specs.declared.outcome.Stop.TheVariants.{Done}
 use Rattle.cfn_app.proofs.Causes.{promised}
 use Rattle.cfn_app.proofs.LeastCost.{least_when_done}
 use denote.Param.Send.{sendable}
-use Rattle.cfn_clock.proofs.CallerLemmas.{never_sync}
+use Rattle.cfn_explore.proofs.CallerLemmas.{never_sync}
 use Rattle.cfn_app.proofs.commands.trying.least_cost.Goals as goal
 
 pub search-requires-sync-H : goal.search-requires-sync-H

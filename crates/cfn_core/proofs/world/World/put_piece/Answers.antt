@@ -4,7 +4,7 @@ use Rattle.cfn_model.specs.Network.{Network}
 use Rattle.cfn_machine.specs.Pool.{Task, View, IsPiece}
 use Rattle.cfn_machine.specs.Steps.{PoolGives, IsOut}
 use Rattle.cfn_leaves.specs.Value.{Holding as Leaves, pool_of}
-use Rattle.cfn_task.specs.Values.{PieceValue, piece_of}
+use Rattle.cfn_explore.specs.Values.{PieceValue, piece_of}
 use Rattle.cfn_core.specs.Actions.{Acts, CanGive, Give, Gone, Done, without}
 use Rattle.cfn_core.specs.Machine.{Machine, world_of}
 use Rattle.cfn_core.proofs.Insides.{value, changed}

@@ -84,7 +84,7 @@ returns-in-Dead-clause-weighed g c =
     let same = c.close_dead.ensures.threshold in
     on_ok c.close_dead.result (IsWeighed old.store.network old.store.base least most old.weights c.close_dead.new.self.weights)
     (weighed_dead old.store.network s old.store.base k least most old.weights c.enforce.new.self.weights c.close_dead.new.self.weights c.enforce.ensures.of.network (sym c.in_ok-enforce.ensures.begins.base)
-    c.in_ok-enforce.ensures.expanding.runs (subst (Finds s.network (history s) k) c.in-Dead.is c.in_ok-enforce.ensures.finds) c.enforce.ensures.weights c.close_dead.ensures.blames (omega (arith, same)) c.look-growth.ensures.below)
+    c.in_ok-enforce.ensures.expanding.runs c.in_ok-enforce.ensures.groups (subst (Finds s.network (history s) k) c.in-Dead.is c.in_ok-enforce.ensures.finds) c.enforce.ensures.weights c.close_dead.ensures.blames (omega (arith, same)) c.look-growth.ensures.below)
 
 pub returns-in-Some-clause-weighed : goal.returns-in-Some-clause-weighed
 returns-in-Some-clause-weighed g c =
@@ -96,7 +96,7 @@ returns-in-Some-clause-weighed g c =
     let least = c.divide.new.growth.threshold in
     let same = c.divide.ensures.threshold in
     on_ok c.divide.result (IsWeighed old.store.network old.store.base least most old.weights c.divide.new.self.weights)
-    (weighed_alive old.store.network s old.store.base k least most c.match-branch-2.settled old.weights c.divide.new.self.weights c.enforce.ensures.of.network (sym c.in_ok-enforce.ensures.begins.base) c.in_ok-enforce.ensures.expanding.runs
+    (weighed_alive old.store.network s old.store.base k least most c.match-branch-2.settled old.weights c.divide.new.self.weights c.enforce.ensures.of.network (sym c.in_ok-enforce.ensures.begins.base) c.in_ok-enforce.ensures.expanding.runs c.in_ok-enforce.ensures.groups
     (elim c.match-branch-2.branch [
       | in-Settled w ↦ from_settled s k found c.match-branch-2.settled w.settled-is w.in-Settled.is c.in_ok-enforce.ensures.finds
       | in-Spent w ↦ from_spent c.args.network.now s k found c.match-branch-2.settled w.settled-is w.in-Spent.is (c.requires.network ∙ sym c.enforce.ensures.of.network) c.in_ok-enforce.ensures.spent
@@ -119,7 +119,7 @@ returns-clause-weighed g c =
     let falls = c.conclude.ensures.falls.seen in
     let read = ap (λ (h : Holding). h.seen) c.look-growth.ensures.seen in
     on_ok c.conclude.result (IsWeighed old.store.network old.store.base least most old.weights c.conclude.new.self.weights)
-    (weighed_alive old.store.network s old.store.base k least most c.match-branch-2.settled old.weights c.conclude.new.self.weights c.enforce.ensures.of.network (sym c.in_ok-enforce.ensures.begins.base) c.in_ok-enforce.ensures.expanding.runs
+    (weighed_alive old.store.network s old.store.base k least most c.match-branch-2.settled old.weights c.conclude.new.self.weights c.enforce.ensures.of.network (sym c.in_ok-enforce.ensures.begins.base) c.in_ok-enforce.ensures.expanding.runs c.in_ok-enforce.ensures.groups
     (elim c.match-branch-2.branch [
       | in-Settled w ↦ from_settled s k found c.match-branch-2.settled w.settled-is w.in-Settled.is c.in_ok-enforce.ensures.finds
       | in-Spent w ↦ from_spent c.args.network.now s k found c.match-branch-2.settled w.settled-is w.in-Spent.is (c.requires.network ∙ sym c.enforce.ensures.of.network) c.in_ok-enforce.ensures.spent

@@ -2,7 +2,7 @@ use Rattle.std.proofs.Common.{◌≡◌, ◌∙◌, ◌+◌, ◌≤◌, ap, sym,
 use Rattle.std.specs.List.{filter}
 use Rattle.cfn_machine.specs.Pool.{swept}
 use Rattle.cfn_machine.specs.Steps.{PoolSweeps}
-use Rattle.cfn_open.specs.Listing.{is_below}
+use Rattle.cfn_queue.specs.Listing.{is_below}
 use Rattle.cfn_leaves.specs.Standing.{entry_at, marked}
 use Rattle.cfn_leaves.specs.Value.{Holding, pool_of, pool_tree}
 use Rattle.cfn_leaves.proofs.ClosedFree.{ahead, stay, begun, is_next, next_listed, closes}

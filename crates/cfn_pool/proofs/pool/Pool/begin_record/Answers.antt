@@ -1,7 +1,7 @@
 use Rattle.std.proofs.Common.{sym, ap, ◌∙◌, arith}
 use Rattle.cfn_model.specs.Network.{Network}
 use Rattle.cfn_machine.specs.Pool.{opening_pool}
-use Rattle.cfn_history.specs.Histories.{HistoryValue}
+use Rattle.cfn_record.specs.Histories.{HistoryValue}
 use Rattle.cfn_pool.specs.Views.{Held, pool}
 use Rattle.cfn_pool.proofs.Kept.{held}
 use Rattle.cfn_pool.proofs.Recorded.{first_told}

@@ -13,7 +13,7 @@ use Rattle.cfn_pool.proofs.Fitting.{copy_spelled, out_some, out_spelled}
 use Rattle.cfn_pool.specs.Views.{Held, pool, view_of}
 use Rattle.cfn_pool.proofs.Kept.{held, kept_by_step, price_is}
 use Rattle.cfn_net.specs.Scoring.{Scoring, IsPriced}
-use Rattle.cfn_task.specs.Values.{PieceValue, piece_of}
+use Rattle.cfn_explore.specs.Values.{PieceValue, piece_of}
 use Rattle.cfn_machine.specs.Pool.{IsPiece}
 use Rattle.cfn_pool.specs.Answers.{IsGiven}
 use Rattle.cfn_pool.proofs.pool.Pool.give.Goals as goal

@@ -3,7 +3,7 @@ use Rattle.cfn_model.specs.declared.report.Row.{Row}
 use Rattle.cfn_model.specs.Network.{Network, IsNetwork}
 use Rattle.cfn_model.specs.Tree.{Tree, bound}
 use Rattle.cfn_machine.specs.Pool.{row_of, tree_of}
-use Rattle.cfn_gate.specs.Telling.{AreBounds}
+use Rattle.cfn_explore.specs.Telling.{AreBounds}
 use Rattle.cfn_pool.specs.Views.{pool}
 use Rattle.cfn_pool.proofs.Kept.{held}
 use Rattle.cfn_pool.proofs.Rows.{row_holds}

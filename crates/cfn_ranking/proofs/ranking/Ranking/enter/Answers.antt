@@ -5,7 +5,7 @@ use Rattle.cfn_model.specs.declared.step.Event.{Event}
 use Rattle.cfn_model.specs.Certificate.{Solution}
 use Rattle.cfn_proof.specs.Nodes.{Before}
 use Rattle.cfn_best.specs.List.{threshold_of}
-use Rattle.cfn_listing.specs.Certificates.{solutions_of}
+use Rattle.cfn_ranking.specs.Certificates.{solutions_of}
 use Rattle.cfn_ranking.specs.Ranked.{Ranked, IsRanked}
 use Rattle.cfn_ranking.specs.Changes.{IsPlaceOf, KeepsPaths, Leaves}
 use Rattle.cfn_ranking.proofs.Lists.{as_many}

@@ -1,7 +1,7 @@
 use Rattle.std.proofs.Common.{◌≡◌, length, refl, sym, ap, ◌∙◌, subst, arith}
 use Rattle.std.specs.Prelude.{min}
 use Rattle.cfn_ranking.specs.Ranked.{Ranked}
-use Rattle.cfn_listing.specs.Certificates.{solution_of, solutions_of}
+use Rattle.cfn_ranking.specs.Certificates.{solution_of, solutions_of}
 use Rattle.cfn_ranking.specs.Changes.{MakesRoom, entered}
 use Rattle.cfn_ranking.proofs.Lists.{map_insert}
 use Rattle.cfn_ranking.proofs.Places.{exchanges_of, stays_on}

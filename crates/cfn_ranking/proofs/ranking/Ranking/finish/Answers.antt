@@ -1,5 +1,5 @@
 use Rattle.std.proofs.Common.{◌≡◌, length, sym, ap, subst, arith}
-use Rattle.cfn_listing.specs.Trees.{NumbersAreThere}
+use Rattle.cfn_ranking.specs.Trees.{NumbersAreThere}
 use Rattle.cfn_ranking.specs.Ranked.{Ranked, IsRanked}
 use Rattle.cfn_ranking.specs.Finished.{AreNumbered, AreThere, IsSwept}
 use Rattle.cfn_ranking.proofs.Lists.{length_solutions}

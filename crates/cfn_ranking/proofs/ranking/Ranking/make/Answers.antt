@@ -1,5 +1,5 @@
 use Rattle.std.proofs.Common.{[], ◌∷◌, ◌++◌, None, ap, ◌∙◌, subst}
-use Rattle.cfn_listing.specs.Certificates.{solutions_of}
+use Rattle.cfn_ranking.specs.Certificates.{solutions_of}
 use Rattle.cfn_proof.specs.Nodes.{IsLinked}
 use Rattle.cfn_ranking.proofs.Roots.{root_is, root_ranked}
 use Rattle.cfn_ranking.proofs.ranking.Ranking.make.Goals as goal

@@ -1,6 +1,6 @@
 use Rattle.std.proofs.Common.{◌∙◌, ap, subst}
 use Rattle.cfn_pool.specs.Views.{pool}
-use Rattle.cfn_task.specs.Values.{TaskValue}
+use Rattle.cfn_explore.specs.Values.{TaskValue}
 use Rattle.cfn_search.specs.Boards.{BoardValue}
 use Rattle.cfn_search.specs.Searching.{IsReturned}
 use Rattle.cfn_search.proofs.Laying.{taken_back}

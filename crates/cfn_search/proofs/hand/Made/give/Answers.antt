@@ -1,6 +1,6 @@
 use Rattle.std.proofs.Common.{◌⊎◌, inl, inr, Bool, true, false, IsTrue, IsFalse, refl, sym, ap, ◌∙◌, subst, arith}
 use Rattle.cfn_machine.specs.Pool.{IsPiece, Task, AreNumbered}
-use Rattle.cfn_task.specs.Values.{PieceValue, piece_of}
+use Rattle.cfn_explore.specs.Values.{PieceValue, piece_of}
 use Rattle.cfn_pool.specs.Views.{Held, pool}
 use Rattle.cfn_search.specs.Searching.{IsSearch, GoesOn}
 use Rattle.cfn_search.proofs.Keeping.{goes_given, goes_back}

@@ -1,7 +1,7 @@
 use Rattle.std.proofs.Common.{◌≡◌, ◌++◌, [], ◌∷◌, length, ap, arith}
 use Rattle.std.proofs.lemmas.List.{length_push}
 use Rattle.cfn_rota.proofs.CallerLemmas.{within_length}
-use Rattle.cfn_task.specs.Values.{TaskValue}
+use Rattle.cfn_explore.specs.Values.{TaskValue}
 use Rattle.cfn_search.specs.Accounts.{WorkerValue}
 use Rattle.cfn_search.proofs.worker.Worker.give_left.Goals as goal
 

@@ -1,5 +1,5 @@
 use Rattle.std.proofs.Common.{◌≡◌, [], reverse, replicate, sym, ap, subst, ◌∙◌}
-use Rattle.cfn_live.specs.Sets.{Sets}
+use Rattle.cfn_rows.specs.Sets.{Sets}
 use Rattle.cfn_scan.specs.Exact.{IsExactAlong, LiftsFit}
 use Rattle.cfn_store.specs.Peaks.{ArePeaks, unknown}
 use Rattle.cfn_store.specs.State.{Keeps}

@@ -4,7 +4,7 @@ use Rattle.cfn_scan.specs.Extremes.{NonePicked, IsExtreme}
 use Rattle.cfn_scan.specs.declared.scan.Extreme.{Extreme}
 use Rattle.cfn_scan.specs.declared.scan.Sense.TheVariants.{Least}
 use Rattle.cfn_model.specs.Network.{IsNetwork, variable_at}
-use Rattle.cfn_live.specs.Sets.{AreLive}
+use Rattle.cfn_rows.specs.Sets.{AreLive}
 use Rattle.cfn_store.specs.Rooms.{sets_of}
 use Rattle.cfn_store.specs.Standing.{history}
 use Rattle.cfn_scan.specs.Nearest.{tuple_of}

@@ -1,0 +1,18 @@
+use Rattle.std.proofs.Common.{◌<◌, ◌++◌, length}
+use Rattle.std.specs.Prelude.{IfSome}
+use Rattle.cfn_model.specs.Text.{text, tree_lines}
+use Rattle.cfn_proof.specs.Nodes.{tree_of}
+use Rattle.cfn_certwrite.specs.Walk.{lines_in, order_left}
+use Rattle.cfn_line.specs.Appending.{Midway}
+use Rattle.cfn_line.specs.declared.channel.Channel.TheVariants.{File}
+use Rattle.cfn_certwrite.proofs.record_nodes.put_tree.Given as goal
+
+abbrev pub invariant-loop-next : goal.invariant-loop-next
+invariant-loop-next g l = let d = g.D.Desk in record {
+  there : IfSome l.next (λ id. id.number < length l.tree);
+  left : Midway File (d.outside l.initial.desk)
+      (text (tree_lines (tree_of l.tree))) (l.batch ++ text (lines_in l.tree (order_left l.tree l.next))) (d.outside l.desk);
+}
+
+abbrev pub decreases-loop-next : goal.decreases-loop-next
+decreases-loop-next g l = length (order_left l.tree l.next)

@@ -1,5 +1,0 @@
-//! Tests of command lines, and no code of its own.
-#![tactic(auto)]
-
-#[cfg(test)]
-mod words;

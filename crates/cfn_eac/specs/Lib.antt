@@ -1,5 +1,0 @@
-pub mod Neighbours
-pub mod Asking
-pub mod Gathering
-pub mod Owing
-pub mod Resting

@@ -1,5 +1,0 @@
-pub mod Tested
-pub mod Ranked
-pub mod Parts
-pub mod Walks
-pub mod CallerLemmas

@@ -1,5 +1,0 @@
-use Rattle.cfn_join.proofs.Tested.{is_test}
-use Rattle.cfn_join.proofs.laws.law_same.Goals as goal
-
-pub returns : goal.returns
-returns c = is_test

@@ -1,4 +1,0 @@
-pub mod Same
-pub mod Ranking
-pub mod Sources
-pub mod Finding

@@ -1,4 +1,0 @@
-pub mod TreeLemmas
-pub mod WholeTree
-pub mod Spelled
-pub mod CallerLemmas

@@ -1,2 +1,0 @@
--- What the crates above cite of the proofs here.
-pub use Rattle.cfn_live.proofs.Remaining.{live_below_most, live_below_none, live_below_some, live_below_two, fewer_below}

@@ -1,4 +1,0 @@
-pub mod Order
-pub mod Past
-pub mod Sets
-pub mod Tables

@@ -1,4 +1,0 @@
-pub mod Order
-pub mod Unique
-pub mod Keeping
-pub mod CallerLemmas

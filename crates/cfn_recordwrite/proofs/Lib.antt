@@ -1,4 +1,0 @@
-mod Gathering
-mod Lines
-mod Spellings
-mod Trees

@@ -1,4 +1,0 @@
-pub mod Small
-pub mod Narrowed
-pub mod Counted
-pub mod Beginning
