@@ -19,7 +19,6 @@ mod rank;
 mod same;
 mod walk;
 
-pub use crate::{Findings, certificate, join_findings};
 pub use cfn_fault::FaultKind;
 pub use findings::{Findings, certificate, join_findings};
 pub use joining::join;
