@@ -85,19 +85,46 @@ fn split_root_is_given(rt: HostRuntime) -> Result<(), Fail> {
     Ok(())
 }
 
-/// Whether the worker 0 looks by a list, lowers the word by nothing that it found, sweeps and is met in a new world.
+/// Whether the worker 0 of a world sees 10 by a list of one look.
+fn looks(alloc: Global, world: &mut World<'_>) -> Result<bool, AllocError>
+    ensures { world.new.network ≡ world.old.network }
+{
+    let mut replies = Vec::with_capacity(alloc, 1)?;
+    world.run(&[Action::Look { worker: 0 }], &mut replies)?;
+    Ok(matches!(replies.as_slice(), [Reply::Seen { threshold: 10 }]))
+}
+
+/// What a world answers to the worker 0 that lowers the word by nothing that it found.
+fn lower(alloc: Global, network: &Network, world: &mut World<'_>) -> Result<Answer, AllocError>
+    requires { world.old.network ≡ network.now }
+    ensures { world.new.network ≡ world.old.network }
+{
+    let found = Scored::empty(alloc, network)?;
+    answer_to(world, Action::Lower { worker: 0, found })
+}
+
+/// What a world answers to a sweep, and to the worker 0 that is met.
+fn end(world: &mut World<'_>) -> Result<[Answer; 2], AllocError> {
+    let swept = answer_to(world, Action::Sweep)?;
+    let met = answer_to(world, Action::Meet { worker: 0 })?;
+    Ok([swept, met])
+}
+
+/// Whether the worker 0 looks by a list, lowers the word by nothing that it found, sweeps and is met in a world.
+fn goes_on_in(alloc: Global, network: &Network, world: &mut World<'_>) -> Result<bool, AllocError>
+    requires { world.old.network ≡ network.now }
+{
+    let looked = looks(alloc, world)?;
+    let lowered = lower(alloc, network, world)?;
+    let ended = end(world)?;
+    Ok(looked && lowered == Answer::Seen(10) && ended == [Answer::Done, Answer::Done])
+}
+
+/// The same in a new world.
 fn goes_on(alloc: Global) -> Result<bool, AllocError> {
     let network = pair(alloc)?;
     let mut world = World::start(alloc, &network, 1, 2)?;
-    let mut replies = Vec::with_capacity(alloc, 1)?;
-    world.run(&[Action::Look { worker: 0 }], &mut replies)?;
-    let looked = matches!(replies.as_slice(), [Reply::Seen { threshold: 10 }]);
-    let found = Scored::empty(alloc, &network)?;
-    let lowered = answer_to(&mut world, Action::Lower { worker: 0, found })?;
-    let swept = answer_to(&mut world, Action::Sweep)?;
-    let met = answer_to(&mut world, Action::Meet { worker: 0 })?;
-    drop(world);
-    Ok(looked && lowered == Answer::Seen(10) && swept == Answer::Done && met == Answer::Done)
+    goes_on_in(alloc, &network, &mut world)
 }
 
 #[test]
