@@ -33,7 +33,28 @@ command_added old sub new shape below adds built sub_built = record {
   local = adds.globals ∙ ap₂ (λ x y. x || y) built.local sub_built.local;
 }
 
-pub under_added : {E : Type 0} (old new : Command) (below : Result Command E) (shape sub : App) → IsOkAnd below (λ s. AddsSubcommand old s new)
-    → Builds shape old → IfOk below (Builds sub) → Builds (with_subcommand shape sub.top) new
-under_added old new (Ok s) shape sub adds built is = command_added old s new shape sub adds built is
-under_added old new (Err e) shape sub adds built is = absurd adds
+pub argument_first : {F : Type 0} (old : Command) (new : Result Command F) (a : Arg) (shape : App) (rule : Rule) → IfOk new (λ n. AddsArg old a n)
+    → Builds shape old → rule_of a ≡ rule → a.global ≡ false → IfOk new (Builds (with_rule shape rule))
+argument_first old (Ok n) a shape rule adds built is_rule local = argument_added old n a shape rule adds built is_rule local
+argument_first old (Err e) a shape rule adds built is_rule local = tt
+
+pub argument_with : {E F : Type 0} (old : Result Command E) (new : Result Command F) (a : Arg) (shape : App) (rule : Rule)
+    → IfOk new (λ n. IsOkAnd old (λ o. AddsArg o a n)) → IfOk old (Builds shape) → rule_of a ≡ rule → a.global ≡ false
+    → IfOk new (Builds (with_rule shape rule))
+argument_with (Ok o) new a shape rule adds built is_rule local = argument_first o new a shape rule adds built is_rule local
+argument_with (Err e) (Ok n) a shape rule adds built is_rule local = absurd adds
+argument_with (Err e) (Err f) a shape rule adds built is_rule local = tt
+
+pub under_first : {E F : Type 0} (old : Command) (new : Result Command F) (below : Result Command E) (shape sub : App)
+    → IfOk new (λ n. IsOkAnd below (λ s. AddsSubcommand old s n)) → Builds shape old → IfOk below (Builds sub)
+    → IfOk new (Builds (with_subcommand shape sub.top))
+under_first old (Ok n) (Ok s) shape sub adds built is = command_added old s n shape sub adds built is
+under_first old (Ok n) (Err e) shape sub adds built is = absurd adds
+under_first old (Err f) below shape sub adds built is = tt
+
+pub under_added : {D E F : Type 0} (old : Result Command D) (new : Result Command F) (below : Result Command E) (shape sub : App)
+    → IfOk new (λ n. IsOkAnd old (λ o. IsOkAnd below (λ s. AddsSubcommand o s n))) → IfOk old (Builds shape) → IfOk below (Builds sub)
+    → IfOk new (Builds (with_subcommand shape sub.top))
+under_added (Ok o) new below shape sub adds built is = under_first o new below shape sub adds built is
+under_added (Err e) (Ok n) below shape sub adds built is = absurd adds
+under_added (Err e) (Err f) below shape sub adds built is = tt

@@ -6,6 +6,7 @@ use Rattle.clap.specs.declared.builder.Command.{Command as Line}
 use Rattle.clap.specs.Words.{App, Kinds, Row, Text, app_of, fault_of, first_of, is_simple, is_simple_and_free, new_app, subcommand_of, with_subcommand}
 use Rattle.clap.specs.Simple.{on_top}
 use Rattle.cfn_cli.specs.declared.commands.Command.{Command}
+use Rattle.cfn_cli.specs.declared.commands.CommandName.{CommandName}
 use Rattle.cfn_cli.specs.declared.commands.Command.TheVariants.{Solve, Recorded, Check, Cost, Normal, Trial, Migrate, Rebase, Merge, Replay, KBest, CheckBest}
 use Rattle.cfn_cli.specs.Request.Solving.{SolveRequest, IsSolveWithin, solve_app, solve_of, spoken_solve}
 use Rattle.cfn_cli.specs.Request.Recording.{RecordedRequest, recorded_apart, spoken_recorded}
@@ -98,20 +99,38 @@ solve_under (Some name) ask = option_map recorded (recorded_apart (record { reco
 abbrev pub solving_of : List Row → Option Request
 solving_of rows = option_and_then (solve_under (first_of (codes "record") rows)) (solve_of rows)
 
+-- The command of a name.
+abbrev pub name_of : Text → Option CommandName
+name_of text =
+    if bytes_eq text (codes "solve") then Some CommandName.Solve
+    else (if bytes_eq text (codes "check") then Some CommandName.Check
+    else (if bytes_eq text (codes "cost") then Some CommandName.Cost
+    else (if bytes_eq text (codes "normal") then Some CommandName.Normal
+    else (if bytes_eq text (codes "trial") then Some CommandName.Trial
+    else (if bytes_eq text (codes "migrate") then Some CommandName.Migrate
+    else (if bytes_eq text (codes "rebase") then Some CommandName.Rebase
+    else (if bytes_eq text (codes "merge") then Some CommandName.Merge
+    else (if bytes_eq text (codes "replay") then Some CommandName.Replay
+    else (if bytes_eq text (codes "kbest") then Some CommandName.KBest
+    else (if bytes_eq text (codes "checkbest") then Some CommandName.CheckBest else None))))))))))
+
+-- The request of a command, with these rows.
+abbrev pub request_as : CommandName → List Row → Option Request
+request_as CommandName.Solve rows = solving_of rows
+request_as CommandName.Check rows = option_map check (check_of rows)
+request_as CommandName.Cost rows = option_map cost (cost_of rows)
+request_as CommandName.Normal rows = option_map normal (normal_of rows)
+request_as CommandName.Trial rows = option_map trial (trial_of rows)
+request_as CommandName.Migrate rows = option_map migrate (migrate_of rows)
+request_as CommandName.Rebase rows = option_map rebase (rebase_of rows)
+request_as CommandName.Merge rows = option_map merge (merge_of rows)
+request_as CommandName.Replay rows = option_map replay (replay_of rows)
+request_as CommandName.KBest rows = option_map k_best (k_best_of rows)
+request_as CommandName.CheckBest rows = option_map check_best (check_best_of rows)
+
 -- The request of the command of a name, with these rows.
 abbrev pub request_named : Text → List Row → Option Request
-request_named name rows =
-    if bytes_eq name (codes "solve") then solving_of rows
-    else (if bytes_eq name (codes "check") then option_map check (check_of rows)
-    else (if bytes_eq name (codes "cost") then option_map cost (cost_of rows)
-    else (if bytes_eq name (codes "normal") then option_map normal (normal_of rows)
-    else (if bytes_eq name (codes "trial") then option_map trial (trial_of rows)
-    else (if bytes_eq name (codes "migrate") then option_map migrate (migrate_of rows)
-    else (if bytes_eq name (codes "rebase") then option_map rebase (rebase_of rows)
-    else (if bytes_eq name (codes "merge") then option_map merge (merge_of rows)
-    else (if bytes_eq name (codes "replay") then option_map replay (replay_of rows)
-    else (if bytes_eq name (codes "kbest") then option_map k_best (k_best_of rows)
-    else (if bytes_eq name (codes "checkbest") then option_map check_best (check_best_of rows) else None))))))))))
+request_named text rows = option_and_then (λ name. request_as name rows) (name_of text)
 
 abbrev pub request_from : Option (Text × List Row) → Option Request
 request_from = option_and_then (λ met. request_named met.0 met.1)

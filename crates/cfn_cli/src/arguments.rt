@@ -1,11 +1,21 @@
 //! The arguments that commands share, as clap has them. What one command alone takes stands in that command's file.
 
-ghost use Rattle.std.specs.Prelude.{◌≡◌, false};
-ghost use Rattle.clap.specs.Words.{rule_of};
+ghost use Rattle.std.specs.Prelude.{◌≡◌, false, IfOk, IsOkAnd};
+ghost use Rattle.clap.specs.Words.{AddsArg, rule_of};
 ghost use Rattle.cfn_cli.specs.Arguments.{budget_rule, certificate_rule, file_rule, out_rule, progress_rule, seconds_rule, wcnf_rule, workers_rule};
 
-use clap::{Arg, ArgAction, value_parser};
-use std::alloc::Global;
+use clap::{Arg, ArgAction, Command, value_parser};
+use std::alloc::{AllocError, Global};
+
+/// A command with one more argument, where it was built.
+pub(crate) fn with<'a>(
+    line: Result<Command<'a>, AllocError>,
+    arg: Arg<'a>,
+) -> Result<Command<'a>, AllocError>
+    ensures { IfOk result (λ new. IsOkAnd line.entry (λ old. AddsArg old arg.entry new)) }
+{
+    line?.arg(arg)
+}
 
 /// FILE
 #[tactic(auto, unfolding(crate::specs::Arguments::file_rule))]

@@ -1,6 +1,6 @@
 //! Tests of which steps are kept.
 
-ghost use Rattle.std.specs.Prelude.{true, ◌≡◌, ◌≤◌, [], length};
+ghost use Rattle.std.specs.Prelude.{true, ◌≡◌, ◌≤◌, [], length, ◌∷◌};
 ghost use Rattle.cfn_model.specs.Steps.{Run};
 ghost use Rattle.cfn_model.specs.Tree.{CanClose};
 ghost use Rattle.cfn_store.specs.Standing.{history};
@@ -19,6 +19,16 @@ use std::test::Fail;
 /// first two costs 6.
 fn network(alloc: Global) -> Result<Network, AllocError> {
     let mut builder = Builder::make(alloc, b"trim", &[2, 2, 2], 40)?;
+    let network = network_of(&mut builder);
+    drop(builder);
+    network
+}
+
+/// The network of these functions, where the builder has none yet.
+fn network_of(builder: &mut Builder) -> Result<Network, AllocError>
+    requires sizes { builder.old.sizes ≡ 2 ∷ 2 ∷ 2 ∷ [] }
+    requires functions { builder.old.functions ≡ [] }
+{
     builder.function(&[0], 0, &[([0].as_slice(), 12), ([1].as_slice(), 11)])?;
     builder.function(&[2], 0, &[([0].as_slice(), 3), ([1].as_slice(), 4)])?;
     builder.function(&[0, 1], 6, &[])?;

@@ -1,5 +1,7 @@
 //! Small networks, and certificates of theirs.
 
+ghost use Rattle.std.specs.Prelude.{◌≡◌, [], ◌∷◌};
+
 use cfn_net::{Builder, Network};
 use std::alloc::{AllocError, Global};
 
@@ -13,6 +15,16 @@ pub(crate) fn tiny(alloc: Global, cost: u64) -> Result<Network, AllocError> {
 /// Three variables with two values, of which each two cost this where they agree.
 pub(crate) fn tri(alloc: Global, cost: u64) -> Result<Network, AllocError> {
     let mut builder = Builder::make(alloc, b"tri", &[2, 2, 2], 10)?;
+    let network = tri_of(&mut builder, cost);
+    drop(builder);
+    network
+}
+
+/// The network of these functions, where the builder has none yet.
+fn tri_of(builder: &mut Builder, cost: u64) -> Result<Network, AllocError>
+    requires sizes { builder.old.sizes ≡ 2 ∷ 2 ∷ 2 ∷ [] }
+    requires functions { builder.old.functions ≡ [] }
+{
     let agree = [([0, 0].as_slice(), cost), ([1, 1].as_slice(), cost)];
     builder.function(&[0, 1], 0, &agree)?;
     builder.function(&[0, 2], 0, &agree)?;

@@ -1,6 +1,6 @@
 //! Tests of networks.
 
-ghost use Rattle.std.specs.Prelude.{◌≡◌, ◌<◌, length};
+ghost use Rattle.std.specs.Prelude.{◌≡◌, ◌<◌, length, [], ◌∷◌};
 
 use cfn_net::{Builder, Fit, Network, Scored, Tables};
 use cfn_store::Store;
@@ -103,6 +103,16 @@ fn lists_few_entries(rt: HostRuntime) -> Result<(), Fail> {
 /// Functions that share a table, the last of which is written at one cell.
 fn sharing(alloc: Global) -> Result<Network, AllocError> {
     let mut builder = Builder::make(alloc, b"shared", &[2, 2, 2], 10)?;
+    let network = sharing_of(&mut builder);
+    drop(builder);
+    network
+}
+
+/// The network of these functions, where the builder has none yet.
+fn sharing_of(builder: &mut Builder) -> Result<Network, AllocError>
+    requires sizes { builder.old.sizes ≡ 2 ∷ 2 ∷ 2 ∷ [] }
+    requires functions { builder.old.functions ≡ [] }
+{
     builder.function(&[0, 1], 1, &[(&[0, 1], 5)])?;
     builder.shared(&[1, 2], 0)?;
     builder.shared(&[2, 0], 1)?;

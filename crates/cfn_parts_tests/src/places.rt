@@ -1,6 +1,6 @@
 //! Tests of the places of variables.
 
-ghost use Rattle.std.specs.Prelude.{◌<◌, length};
+ghost use Rattle.std.specs.Prelude.{◌<◌, length, ◌≡◌, [], ◌∷◌};
 
 use cfn_incidence::Incidence;
 use cfn_net::{Builder, Network};
@@ -10,6 +10,16 @@ use std::test::*;
 /// Three variables with two values, and functions over the first and the last, the last alone, and the second and first.
 fn three(alloc: Global) -> Result<Network, AllocError> {
     let mut builder = Builder::make(alloc, b"three", &[2, 2, 2], 10)?;
+    let network = three_of(&mut builder);
+    drop(builder);
+    network
+}
+
+/// The network of these functions, where the builder has none yet.
+fn three_of(builder: &mut Builder) -> Result<Network, AllocError>
+    requires sizes { builder.old.sizes ≡ 2 ∷ 2 ∷ 2 ∷ [] }
+    requires functions { builder.old.functions ≡ [] }
+{
     builder.function(&[0, 2], 1, &[])?;
     builder.function(&[2], 1, &[])?;
     builder.function(&[1, 0], 1, &[])?;

@@ -1,6 +1,6 @@
 //! What the root of a small network is split by.
 
-ghost use Rattle.std.specs.Prelude.{◌≡◌, length};
+ghost use Rattle.std.specs.Prelude.{◌≡◌, length, [], ◌∷◌};
 
 use cfn_branch::{Weights, choose, split_fewest};
 use cfn_incidence::Incidence;
@@ -13,6 +13,16 @@ use std::test::Fail;
 /// Three variables with two values in a row, a function over each two that are next to each other and one over the last.
 fn row(alloc: Global) -> Result<Network, AllocError> {
     let mut builder = Builder::make(alloc, b"row", &[2, 2, 2], 10)?;
+    let network = row_of(&mut builder);
+    drop(builder);
+    network
+}
+
+/// The network of these functions, where the builder has none yet.
+fn row_of(builder: &mut Builder) -> Result<Network, AllocError>
+    requires sizes { builder.old.sizes ≡ 2 ∷ 2 ∷ 2 ∷ [] }
+    requires functions { builder.old.functions ≡ [] }
+{
     builder.function(&[0, 1], 1, &[])?;
     builder.function(&[1, 2], 1, &[])?;
     builder.function(&[2], 1, &[])?;

@@ -159,11 +159,19 @@ impl RecordedRun {
         let files = [("in", file)];
         let mut desk = MemoryDesk::make_two(rt.alloc(), &files, 20_000, 20_000, 2_000, failing)?;
         let status = run(rt, rt.alloc(), words, &mut desk, gate, &Still).code();
+        RecordedRun::left(rt.alloc(), status, &desk)
+    }
+
+    /// The run that ended with this status and left this desk.
+    fn left(alloc: Global, status: u8, desk: &MemoryDesk) -> Result<RecordedRun, AllocError> {
+        let said = Vec::from_slice(alloc, desk.said_bytes())?;
+        let certificate = Vec::from_slice(alloc, desk.file("out").unwrap_or(b""))?;
+        let record = Vec::from_slice(alloc, desk.file("rec").unwrap_or(b""))?;
         Ok(RecordedRun {
             status,
-            said: Vec::from_slice(rt.alloc(), desk.said_bytes())?,
-            certificate: Vec::from_slice(rt.alloc(), desk.file("out").unwrap_or(b""))?,
-            record: Vec::from_slice(rt.alloc(), desk.file("rec").unwrap_or(b""))?,
+            said,
+            certificate,
+            record,
         })
     }
 

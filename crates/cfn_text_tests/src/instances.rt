@@ -1,5 +1,7 @@
 //! Tests of networks that are said as a wcsp file, also where they were read from one.
 
+ghost use Rattle.std.specs.Prelude.{◌≡◌, [], ◌∷◌};
+
 use cfn_desk::{Failed, MemoryDesk};
 use cfn_net::{Builder, Fit, Network};
 use cfn_wcsp::read;
@@ -10,6 +12,16 @@ use std::test::Fail;
 /// Two variables of 2 and 3 values, a constant, one function over both, and one over the second.
 fn small(rt: &HostRuntime) -> Result<Network, AllocError> {
     let mut builder = Builder::make(rt.alloc(), b"small", &[2, 3], 10)?;
+    let network = small_of(&mut builder);
+    drop(builder);
+    network
+}
+
+/// The network of these functions, where the builder has none yet.
+fn small_of(builder: &mut Builder) -> Result<Network, AllocError>
+    requires sizes { builder.old.sizes ≡ 2 ∷ 3 ∷ [] }
+    requires functions { builder.old.functions ≡ [] }
+{
     builder.function(&[], 4, &[(&[], 7)])?;
     builder.function(&[1, 0], 2, &[(&[2, 1], 30), (&[0, 1], 1), (&[1, 0], 2)])?;
     builder.function(&[1], 0, &[])?;

@@ -5,7 +5,7 @@ ghost use Rattle.clap.specs.Words.{found_of, rows_of};
 ghost use Rattle.cfn_cli.specs.Building.{Builds};
 ghost use Rattle.cfn_cli.specs.Request.CheckingBest.{check_best_app, check_best_of, spoken_check_best};
 
-use crate::arguments::{certificate, file, wcnf};
+use crate::arguments::{certificate, file, wcnf, with};
 use crate::fault::CliFault;
 use crate::format::Format;
 use crate::found::{format, text};
@@ -26,10 +26,10 @@ pub struct CheckBestArguments {
 pub(crate) fn line<'a>(alloc: Global) -> Result<Command<'a>, AllocError>
     ensures { IfOk result (Builds check_best_app) }
 {
-    Command::new(alloc, "checkbest")
-        .arg(file(alloc))?
-        .arg(certificate(alloc))?
-        .arg(wcnf(alloc))
+    let line = Ok(Command::new(alloc, "checkbest"));
+    let line = with(line, file(alloc));
+    let line = with(line, certificate(alloc));
+    with(line, wcnf(alloc))
 }
 
 /// What is asked of `checkbest`.

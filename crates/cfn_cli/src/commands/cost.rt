@@ -6,7 +6,7 @@ ghost use Rattle.clap.specs.Words.{found_of, rows_of, rule_of};
 ghost use Rattle.cfn_cli.specs.Building.{Builds};
 ghost use Rattle.cfn_cli.specs.Request.Costing.{IsCostWithin, cost_app, cost_of, spoken_cost, values_of, values_rule};
 
-use crate::arguments::{file, wcnf};
+use crate::arguments::{file, wcnf, with};
 use crate::fault::CliFault;
 use crate::format::Format;
 use crate::found::{format, number_in, text};
@@ -30,10 +30,10 @@ pub struct CostArguments {
 pub(crate) fn line<'a>(alloc: Global) -> Result<Command<'a>, AllocError>
     ensures { IfOk result (Builds cost_app) }
 {
-    Command::new(alloc, "cost")
-        .arg(file(alloc))?
-        .arg(values(alloc))?
-        .arg(wcnf(alloc))
+    let line = Ok(Command::new(alloc, "cost"));
+    let line = with(line, file(alloc));
+    let line = with(line, values(alloc));
+    with(line, wcnf(alloc))
 }
 
 #[tactic(auto, unfolding(crate::specs::Request::Costing::values_rule))]

@@ -6,7 +6,7 @@ ghost use Rattle.cfn_cli.specs.Building.{Builds};
 ghost use Rattle.cfn_cli.specs.Request.Listing.{IsKBestWithin, count_rule, k_best_app, k_best_in, k_best_of, spoken_k_best};
 
 use super::solve::{MOST_BUDGET, MOST_SECONDS};
-use crate::arguments::{budget, certificate, file, seconds, wcnf};
+use crate::arguments::{budget, certificate, file, seconds, wcnf, with};
 use crate::fault::CliFault;
 use crate::format::Format;
 use crate::found::{format, number, optional, text};
@@ -37,13 +37,13 @@ pub struct KBestArguments {
 pub(crate) fn line<'a>(alloc: Global) -> Result<Command<'a>, AllocError>
     ensures { IfOk result (Builds k_best_app) }
 {
-    Command::new(alloc, "kbest")
-        .arg(file(alloc))?
-        .arg(count(alloc))?
-        .arg(certificate(alloc))?
-        .arg(budget(alloc))?
-        .arg(seconds(alloc))?
-        .arg(wcnf(alloc))
+    let line = Ok(Command::new(alloc, "kbest"));
+    let line = with(line, file(alloc));
+    let line = with(line, count(alloc));
+    let line = with(line, certificate(alloc));
+    let line = with(line, budget(alloc));
+    let line = with(line, seconds(alloc));
+    with(line, wcnf(alloc))
 }
 
 /// K

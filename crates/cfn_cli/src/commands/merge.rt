@@ -5,7 +5,7 @@ ghost use Rattle.clap.specs.Words.{found_of, rows_of, rule_of};
 ghost use Rattle.cfn_cli.specs.Building.{Builds};
 ghost use Rattle.cfn_cli.specs.Request.Merging.{IsMergeWithin, certificates_rule, merge_app, merge_in, merge_of, names_of, spoken_merge};
 
-use crate::arguments::{file, out, wcnf};
+use crate::arguments::{file, out, wcnf, with};
 use crate::fault::CliFault;
 use crate::format::Format;
 use crate::found::{format, text};
@@ -28,11 +28,11 @@ pub struct MergeArguments {
 pub(crate) fn line<'a>(alloc: Global) -> Result<Command<'a>, AllocError>
     ensures { IfOk result (Builds merge_app) }
 {
-    Command::new(alloc, "merge")
-        .arg(file(alloc))?
-        .arg(out(alloc))?
-        .arg(certificates(alloc))?
-        .arg(wcnf(alloc))
+    let line = Ok(Command::new(alloc, "merge"));
+    let line = with(line, file(alloc));
+    let line = with(line, out(alloc));
+    let line = with(line, certificates(alloc));
+    with(line, wcnf(alloc))
 }
 
 #[tactic(auto, unfolding(crate::specs::Request::Merging::certificates_rule))]

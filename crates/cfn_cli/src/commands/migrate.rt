@@ -5,7 +5,7 @@ ghost use Rattle.clap.specs.Words.{found_of, rows_of};
 ghost use Rattle.cfn_cli.specs.Building.{Builds};
 ghost use Rattle.cfn_cli.specs.Request.Migrating.{migrate_app, migrate_in, migrate_of, spoken_migrate};
 
-use crate::arguments::{certificate, file, out};
+use crate::arguments::{certificate, file, out, with};
 use crate::fault::CliFault;
 use crate::found::text;
 use clap::{ArgMatches, Command};
@@ -25,10 +25,10 @@ pub struct MigrateArguments {
 pub(crate) fn line<'a>(alloc: Global) -> Result<Command<'a>, AllocError>
     ensures { IfOk result (Builds migrate_app) }
 {
-    Command::new(alloc, "migrate")
-        .arg(file(alloc))?
-        .arg(certificate(alloc))?
-        .arg(out(alloc))
+    let line = Ok(Command::new(alloc, "migrate"));
+    let line = with(line, file(alloc));
+    let line = with(line, certificate(alloc));
+    with(line, out(alloc))
 }
 
 /// What is asked of `migrate`, which writes to another name than its file's.

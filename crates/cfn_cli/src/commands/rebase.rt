@@ -6,7 +6,7 @@ ghost use Rattle.cfn_cli.specs.Building.{Builds};
 ghost use Rattle.cfn_cli.specs.Request.Rebasing.{IsRebaseWithin, old_rule, part_rule, parts_rule, rebase_app, rebase_of, spoken_rebase};
 
 use super::solve;
-use crate::arguments::{budget, certificate, file, progress, seconds, wcnf, workers};
+use crate::arguments::{budget, certificate, file, progress, seconds, wcnf, with, workers};
 use crate::commands::SolveArguments;
 use crate::fault::CliFault;
 use crate::found::{number, text};
@@ -32,17 +32,17 @@ pub struct RebaseArguments {
 pub(crate) fn line<'a>(alloc: Global) -> Result<Command<'a>, AllocError>
     ensures { IfOk result (Builds rebase_app) }
 {
-    Command::new(alloc, "rebase")
-        .arg(file(alloc))?
-        .arg(old(alloc))?
-        .arg(certificate(alloc))?
-        .arg(workers(alloc))?
-        .arg(budget(alloc))?
-        .arg(seconds(alloc))?
-        .arg(wcnf(alloc))?
-        .arg(progress(alloc))?
-        .arg(part(alloc))?
-        .arg(parts(alloc))
+    let line = Ok(Command::new(alloc, "rebase"));
+    let line = with(line, file(alloc));
+    let line = with(line, old(alloc));
+    let line = with(line, certificate(alloc));
+    let line = with(line, workers(alloc));
+    let line = with(line, budget(alloc));
+    let line = with(line, seconds(alloc));
+    let line = with(line, wcnf(alloc));
+    let line = with(line, progress(alloc));
+    let line = with(line, part(alloc));
+    with(line, parts(alloc))
 }
 
 #[tactic(auto, unfolding(crate::specs::Request::Rebasing::old_rule))]

@@ -5,7 +5,7 @@ ghost use Rattle.clap.specs.Words.{found_of, rows_of, rule_of};
 ghost use Rattle.cfn_cli.specs.Building.{Builds};
 ghost use Rattle.cfn_cli.specs.Request.Replaying.{recording_rule, replay_app, replay_in, replay_of, spoken_replay};
 
-use crate::arguments::{certificate, file, wcnf};
+use crate::arguments::{certificate, file, wcnf, with};
 use crate::fault::CliFault;
 use crate::format::Format;
 use crate::found::{format, text};
@@ -28,11 +28,11 @@ pub struct ReplayArguments {
 pub(crate) fn line<'a>(alloc: Global) -> Result<Command<'a>, AllocError>
     ensures { IfOk result (Builds replay_app) }
 {
-    Command::new(alloc, "replay")
-        .arg(file(alloc))?
-        .arg(recording(alloc))?
-        .arg(certificate(alloc))?
-        .arg(wcnf(alloc))
+    let line = Ok(Command::new(alloc, "replay"));
+    let line = with(line, file(alloc));
+    let line = with(line, recording(alloc));
+    let line = with(line, certificate(alloc));
+    with(line, wcnf(alloc))
 }
 
 /// REC

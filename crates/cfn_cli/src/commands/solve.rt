@@ -6,7 +6,7 @@ ghost use Rattle.cfn_cli.specs.Building.{Builds};
 ghost use Rattle.cfn_cli.specs.Request.Solving.{IsSolveWithin, solve_app, solve_in, solve_of, spoken_solve};
 
 use super::recorded::record_option;
-use crate::arguments::{budget, certificate, file, progress, seconds, wcnf, workers};
+use crate::arguments::{budget, certificate, file, progress, seconds, wcnf, with, workers};
 use crate::fault::CliFault;
 use crate::format::Format;
 use crate::found::{MOST_WORKERS, flag, format, number, optional, text};
@@ -42,15 +42,15 @@ pub struct SolveArguments {
 pub(crate) fn line<'a>(alloc: Global) -> Result<Command<'a>, AllocError>
     ensures { IfOk result (Builds solve_app) }
 {
-    Command::new(alloc, "solve")
-        .arg(file(alloc))?
-        .arg(certificate(alloc))?
-        .arg(workers(alloc))?
-        .arg(budget(alloc))?
-        .arg(seconds(alloc))?
-        .arg(wcnf(alloc))?
-        .arg(progress(alloc))?
-        .arg(record_option(alloc))
+    let line = Ok(Command::new(alloc, "solve"));
+    let line = with(line, file(alloc));
+    let line = with(line, certificate(alloc));
+    let line = with(line, workers(alloc));
+    let line = with(line, budget(alloc));
+    let line = with(line, seconds(alloc));
+    let line = with(line, wcnf(alloc));
+    let line = with(line, progress(alloc));
+    with(line, record_option(alloc))
 }
 
 /// What is asked of `solve`, whose certificate has another name than its file.

@@ -5,7 +5,7 @@ ghost use Rattle.clap.specs.Words.{found_of, rows_of, rule_of};
 ghost use Rattle.cfn_cli.specs.Building.{Builds};
 ghost use Rattle.cfn_cli.specs.Request.Trying.{IsTrialWithin, seed_rule, size_rule, spoken_trial, trial_app, trial_of};
 
-use crate::arguments::workers;
+use crate::arguments::{with, workers};
 use crate::fault::CliFault;
 use crate::found::{MOST_WORKERS, number};
 use clap::{Arg, ArgMatches, Command, value_parser};
@@ -31,10 +31,10 @@ pub struct TrialArguments {
 pub(crate) fn line<'a>(alloc: Global) -> Result<Command<'a>, AllocError>
     ensures { IfOk result (Builds trial_app) }
 {
-    Command::new(alloc, "trial")
-        .arg(seed(alloc))?
-        .arg(size(alloc))?
-        .arg(workers(alloc))
+    let line = Ok(Command::new(alloc, "trial"));
+    let line = with(line, seed(alloc));
+    let line = with(line, size(alloc));
+    with(line, workers(alloc))
 }
 
 #[tactic(auto, unfolding(crate::specs::Request::Trying::seed_rule))]

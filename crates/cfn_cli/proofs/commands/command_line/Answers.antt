@@ -16,7 +16,7 @@ use Rattle.cfn_cli.specs.Request.Rebasing.{old_rule, part_rule, parts_rule, reba
 use Rattle.cfn_cli.specs.Request.Replaying.{recording_rule, replay_app}
 use Rattle.cfn_cli.specs.Request.Solving.{record_rule, solve_app}
 use Rattle.cfn_cli.specs.Request.Trying.{seed_rule, size_rule, trial_app}
-use Rattle.cfn_cli.proofs.Building.{begun, command_required, under_added}
+use Rattle.cfn_cli.proofs.Building.{begun, command_required, under_added, under_first}
 use Rattle.cfn_cli.proofs.commands.command_line.Goals as goal
 
 line_is_simple : is_simple command_line ≡ true
@@ -38,15 +38,15 @@ pub returns : goal.returns
 unfolding command_line
 returns c =
     let start = begun _ _ c.new.ensures.app c.new.ensures.local in
-    let required = command_required _ _ _ c.subcommand_required-line.ensures start in
-    let with_solve = under_added _ _ _ _ _ c.in_ok-line.ensures required c.line.ensures in
-    let with_check = under_added _ _ _ _ _ c.in_ok-line-2.ensures with_solve c.line-2.ensures in
-    let with_cost = under_added _ _ _ _ _ c.in_ok-line-3.ensures with_check c.line-3.ensures in
-    let with_normal = under_added _ _ _ _ _ c.in_ok-line-4.ensures with_cost c.line-4.ensures in
-    let with_trial = under_added _ _ _ _ _ c.in_ok-line-5.ensures with_normal c.line-5.ensures in
-    let with_migrate = under_added _ _ _ _ _ c.in_ok-line-6.ensures with_trial c.line-6.ensures in
-    let with_rebase = under_added _ _ _ _ _ c.in_ok-line-7.ensures with_migrate c.line-7.ensures in
-    let with_merge = under_added _ _ _ _ _ c.in_ok-line-8.ensures with_rebase c.line-8.ensures in
-    let with_replay = under_added _ _ _ _ _ c.in_ok-line-9.ensures with_merge c.line-9.ensures in
-    let with_k_best = under_added _ _ _ _ _ c.in_ok-line-10.ensures with_replay c.line-10.ensures in
-    IfOk-weaker c.under-11.result _ _ (λ new adds. is_line new (under_added _ new _ _ _ adds with_k_best c.line-11.ensures)) c.under-11.ensures
+    let required = command_required _ _ _ c.subcommand_required.ensures start in
+    let with_solve = under_first _ _ _ _ _ c.under-line.ensures required c.line.ensures in
+    let with_check = under_added _ _ _ _ _ c.under-line-2.ensures with_solve c.line-2.ensures in
+    let with_cost = under_added _ _ _ _ _ c.under-line-3.ensures with_check c.line-3.ensures in
+    let with_normal = under_added _ _ _ _ _ c.under-line-4.ensures with_cost c.line-4.ensures in
+    let with_trial = under_added _ _ _ _ _ c.under-line-5.ensures with_normal c.line-5.ensures in
+    let with_migrate = under_added _ _ _ _ _ c.under-line-6.ensures with_trial c.line-6.ensures in
+    let with_rebase = under_added _ _ _ _ _ c.under-line-7.ensures with_migrate c.line-7.ensures in
+    let with_merge = under_added _ _ _ _ _ c.under-line-8.ensures with_rebase c.line-8.ensures in
+    let with_replay = under_added _ _ _ _ _ c.under-line-9.ensures with_merge c.line-9.ensures in
+    let with_k_best = under_added _ _ _ _ _ c.under-line-10.ensures with_replay c.line-10.ensures in
+    IfOk-weaker c.under.result _ _ is_line (under_added _ _ _ _ _ c.under.ensures with_k_best c.line-11.ensures)
