@@ -35,28 +35,54 @@ fn parse_behind<'a>(word: &[u8], fields: Fields<'a>) -> Option<Parsed<'a>>
 }
 
 /// What a line that is one item says, behind its first word.
-#[tactic(auto, unfolding(cfn_fault::specs::Decoding::item_line, cfn_fault::specs::Decoding::node_line))]
+#[tactic(auto, unfolding(cfn_fault::specs::Decoding::item_line))]
 fn item(word: &[u8], fields: Fields<'_>) -> Option<Item>
     ensures gives { Gives line_of_item result (item_line word.now fields.entry) }
     ensures whole { IfSome result IsWhole }
 {
-    match word {
-        b"wcspcert" => version(fields),
-        b"network" => network(fields),
-        b"lower" => lower(fields),
-        b"best" => best(fields),
-        b"tree" => alone(&fields, Item::Tree),
-        b"end" => alone(&fields, Item::End),
-        b"p" => project(fields),
-        b"e" => extend(fields),
-        b"u" => lift(fields),
-        b"v" => cut_value(fields),
-        b"t" => cut_tuple(fields),
-        b"open" => alone(&fields, Item::Open),
-        b"closed" => alone(&fields, Item::Closed),
-        b"split" => split(fields),
-        b"part" => part(fields),
-        _ => None,
+    if is(word, b"wcspcert") {
+        version(fields)
+    } else if is(word, b"network") {
+        network(fields)
+    } else if is(word, b"lower") {
+        lower(fields)
+    } else if is(word, b"best") {
+        best(fields)
+    } else if is(word, b"tree") {
+        alone(&fields, Item::Tree)
+    } else if is(word, b"end") {
+        alone(&fields, Item::End)
+    } else {
+        item_of_node(word, fields)
+    }
+}
+
+/// What a line of a node says, behind its first word.
+#[tactic(auto, unfolding(cfn_fault::specs::Decoding::node_line))]
+fn item_of_node(word: &[u8], fields: Fields<'_>) -> Option<Item>
+    ensures gives { Gives line_of_item result (node_line word.now fields.entry) }
+    ensures whole { IfSome result IsWhole }
+{
+    if is(word, b"p") {
+        project(fields)
+    } else if is(word, b"e") {
+        extend(fields)
+    } else if is(word, b"u") {
+        lift(fields)
+    } else if is(word, b"v") {
+        cut_value(fields)
+    } else if is(word, b"t") {
+        cut_tuple(fields)
+    } else if is(word, b"open") {
+        alone(&fields, Item::Open)
+    } else if is(word, b"closed") {
+        alone(&fields, Item::Closed)
+    } else if is(word, b"split") {
+        split(fields)
+    } else if is(word, b"part") {
+        part(fields)
+    } else {
+        None
     }
 }
 

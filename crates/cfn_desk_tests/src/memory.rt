@@ -65,15 +65,16 @@ fn tells(desk: &MemoryDesk, name: &str, bytes: &[u8]) -> bool {
 fn keeps(rt: &HostRuntime, given: &[u8], written: &[u8], said: &[u8]) -> Result<bool, AllocError> {
     let mut desk = memory_desk(rt, &[])?;
     let mut into = Vec::new(rt.alloc());
-    Ok(
-        six_calls(&mut desk, &mut into) == ALL_DONE
-            && into.as_slice() == given
-            && tells(&desk, "in", given)
-            && tells(&desk, "out", written)
-            && desk.file("other").is_none()
-            && desk.said_bytes() == said
-            && desk.out_bytes().is_empty(),
-    )
+    let keeps = six_calls(&mut desk, &mut into) == ALL_DONE
+        && into.as_slice() == given
+        && tells(&desk, "in", given)
+        && tells(&desk, "out", written)
+        && desk.file("other").is_none()
+        && desk.said_bytes() == said
+        && desk.out_bytes().is_empty();
+    drop(into);
+    drop(desk);
+    Ok(keeps)
 }
 
 #[test]
@@ -191,12 +192,12 @@ fn leaves_files(
     kept: [&[u8]; 3],
 ) -> Result<bool, AllocError> {
     let mut desk = two_file_desk(rt, failing)?;
-    Ok(
-        write_three(&mut desk, second) == answers
-            && tells(&desk, "one", kept[0])
-            && tells(&desk, second, kept[1])
-            && tells(&desk, "three", kept[2]),
-    )
+    let leaves = write_three(&mut desk, second) == answers
+        && tells(&desk, "one", kept[0])
+        && tells(&desk, second, kept[1])
+        && tells(&desk, "three", kept[2]);
+    drop(desk);
+    Ok(leaves)
 }
 
 const BOTH_KEPT: Writings = Writings {

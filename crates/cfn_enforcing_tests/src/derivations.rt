@@ -44,8 +44,24 @@ fn derived_in(
     requires bans { bans.now.network ≡ network.now }
 {
     let mut store = Store::build(alloc, network)?;
+    let derived = derived_with_room(deriver, &mut store, incidence, bans);
+    drop(store);
+    derived
+}
+
+/// The same in a store that has no room yet.
+fn derived_with_room(
+    deriver: &mut Deriver<'_>,
+    store: &mut Store<'_>,
+    incidence: &Incidence,
+    bans: &Bans<'_>,
+) -> Result<Option<Derived>, AllocError>
+    requires network { store.old.network ≡ deriver.old.network }
+    requires incidence { incidence.now ≡ deriver.old.network }
+    requires bans { bans.now.network ≡ deriver.old.network }
+{
     store.reserve(deriver.room())?;
-    Ok(derived(deriver, &mut store, incidence, bans))
+    Ok(derived(deriver, store, incidence, bans))
 }
 
 /// The same by a deriver that is made for it, and how many values were deleted.

@@ -3,7 +3,7 @@
 ghost use Rattle.std.specs.Prelude.{true, ◌≡◌, ◌≤◌, [], length, ◌∷◌};
 ghost use Rattle.cfn_model.specs.Steps.{Run};
 ghost use Rattle.cfn_model.specs.Tree.{CanClose};
-ghost use Rattle.cfn_store.specs.Standing.{history};
+ghost use Rattle.cfn_store.specs.Standing.{at_root, history};
 
 use crate::making::make_all;
 use cfn_model::Step;
@@ -134,8 +134,24 @@ fn keeps_by<'n>(
     requires runs { Run network.now [] steps.now 10 }
 {
     let mut store = Store::build(alloc, network)?;
+    let keeps = keeps_at(alloc, trimmer, &mut store, steps, needed);
+    drop(store);
+    keeps
+}
+
+/// The same in a store at its root.
+fn keeps_at<'n>(
+    alloc: Global,
+    trimmer: &mut Trimmer<'n>,
+    store: &mut Store<'n>,
+    steps: &[Step],
+    needed: &[Step],
+) -> Result<bool, AllocError>
+    requires store { store.old ≡ at_root trimmer.old }
+    requires runs { Run trimmer.old [] steps.now 10 }
+{
     store.reserve(steps.len())?;
-    keeps_in(alloc, trimmer, &mut store, steps, needed)
+    keeps_in(alloc, trimmer, store, steps, needed)
 }
 
 /// Whether these steps run and close a leaf at 10, and of them these are left once its block is trimmed.

@@ -40,7 +40,10 @@ fn answers<'x, R: AllocGlobal + Threads + Wait + Sync>(
     let files = [("in", file), ("cert", old), ("good", GOOD)];
     let mut desk = MemoryDesk::make(rt.alloc(), &files, 200_000, 500, &[])?;
     let ended = run(rt, rt.alloc(), words, &mut desk, &OpenGate, &Still).code();
-    Ok(ended == status && desk.said_bytes() == said && desk.file("out").unwrap_or(b"") == text)
+    let left = desk.file("out").unwrap_or(b"");
+    let answers = ended == status && desk.said_bytes() == said && left == text;
+    drop(desk);
+    Ok(answers)
 }
 
 /// A certificate of `TINY` of nested splits by one value, each in the first side of the one before, with so many open leaves.

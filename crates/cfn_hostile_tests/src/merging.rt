@@ -45,14 +45,24 @@ fn is_refused<R: AllocGlobal + Threads + Wait + Sync>(
     bad: &[u8],
     fault: &str,
 ) -> Result<bool, AllocError> {
-    let first = format!(in rt.alloc(); "refused {fault} in 1\n")?;
-    let second = format!(in rt.alloc(); "refused {fault} in 2\n")?;
-    let third = format!(in rt.alloc(); "refused {fault} in 3\n")?;
     Ok(
-        refuses(rt, (bad, GOOD, GOOD), &first)?
-            && refuses(rt, (GOOD, bad, b""), &second)?
-            && refuses(rt, (GOOD, GOOD, bad), &third)?,
+        is_refused_at(rt, (bad, GOOD, GOOD), fault, 1)?
+            && is_refused_at(rt, (GOOD, bad, b""), fault, 2)?
+            && is_refused_at(rt, (GOOD, GOOD, bad), fault, 3)?,
     )
+}
+
+/// Whether the certificate of this number is refused so.
+fn is_refused_at<R: AllocGlobal + Threads + Wait + Sync>(
+    rt: &R,
+    certificates: (&[u8], &[u8], &[u8]),
+    fault: &str,
+    number: u32,
+) -> Result<bool, AllocError> {
+    let said = format!(in rt.alloc(); "refused {fault} in {number}\n")?;
+    let refused = refuses(rt, certificates, &said);
+    drop(said);
+    refused
 }
 
 /// Whether a good certificate of a file merged with itself twice leaves this text.

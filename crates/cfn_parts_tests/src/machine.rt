@@ -65,9 +65,35 @@ fn give(world: &mut World<'_>, piece: Piece, recalled: bool) -> Result<[Answer; 
 /// The same of the split root of a new world with a budget, if the root is handed out.
 fn given(alloc: Global, budget: u32, recalled: bool) -> Result<Option<[Answer; 3]>, AllocError> {
     let network = pair(alloc)?;
-    let mut world = World::start(alloc, &network, 1, budget as u64)?;
-    match split_root(alloc, &network)? {
-        Some(piece) => Ok(Some(give(&mut world, piece, recalled)?)),
+    let given = given_of(alloc, &network, budget, recalled);
+    drop(network);
+    given
+}
+
+/// The same of a network.
+fn given_of(
+    alloc: Global,
+    network: &Network,
+    budget: u32,
+    recalled: bool,
+) -> Result<Option<[Answer; 3]>, AllocError> {
+    let mut world = World::start(alloc, network, 1, budget as u64)?;
+    let given = given_in(alloc, network, &mut world, recalled);
+    drop(world);
+    given
+}
+
+/// The same in a world.
+fn given_in(
+    alloc: Global,
+    network: &Network,
+    world: &mut World<'_>,
+    recalled: bool,
+) -> Result<Option<[Answer; 3]>, AllocError>
+    requires { world.old.network ≡ network.now }
+{
+    match split_root(alloc, network)? {
+        Some(piece) => Ok(Some(give(world, piece, recalled)?)),
         None => Ok(None),
     }
 }

@@ -156,10 +156,9 @@ fn greatest(alloc: Global, network: &Network, tables: &Tables) -> Result<u64, Al
         return Ok(0);
     }
     let store = Store::over(alloc, network, tables)?;
-    match store.greatest_residual(0, 0, 1) {
-        Some(extreme) => Ok(extreme.cost),
-        None => Ok(0),
-    }
+    let greatest = store.greatest_residual(0, 0, 1);
+    drop(store);
+    Ok(greatest.map_or(0, |extreme| extreme.cost))
 }
 
 /// The greatest cost of that square, by each of two stores over the same tables.

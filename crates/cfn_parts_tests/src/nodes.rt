@@ -1,6 +1,7 @@
 //! Tests of node consistency.
 
 ghost use Rattle.std.specs.Prelude.{◌≡◌};
+ghost use Rattle.cfn_store.specs.Standing.{at_root};
 
 use cfn_gain::{NodeConsistency, Settling};
 use cfn_net::{Builder, Network};
@@ -26,11 +27,27 @@ fn settled_in<'n>(
     requires { nodes.old ≡ network.now }
 {
     let mut store = Store::build(alloc, network)?;
+    let settled = settled_at(network, nodes, &mut store, threshold, steps);
+    drop(store);
+    settled
+}
+
+/// The same of a store at its root.
+fn settled_at<'n>(
+    network: &'n Network,
+    nodes: &mut NodeConsistency<'n>,
+    store: &mut Store<'n>,
+    threshold: u64,
+    steps: usize,
+) -> Result<Option<Settling>, AllocError>
+    requires nodes { nodes.old ≡ network.now }
+    requires store { store.old ≡ at_root network.now }
+{
     store.reserve(steps)?;
     if network.ub() < threshold {
         return Ok(None);
     }
-    Ok(Some(nodes.settle(&mut store, threshold, steps)))
+    Ok(Some(nodes.settle(store, threshold, steps)))
 }
 
 /// The same of that network.

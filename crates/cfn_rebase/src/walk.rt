@@ -57,6 +57,13 @@ impl<'n> Walk<'n> {
         })
     }
 
+    /// The tree that was made.
+    pub(crate) fn into_tree(self) -> Tree
+        ensures { result ≡ self.entry.tree }
+    {
+        self.tree
+    }
+
     /// Goes to the newest side that waits, and keeps what is kept of the node there; whether one waited. An `Err` is want of
     /// memory, after which the tree says nothing.
     pub(crate) fn next(&mut self, alloc: Global, old: &Tree) -> Result<bool, AllocError>

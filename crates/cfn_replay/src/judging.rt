@@ -1,6 +1,7 @@
 //! The certificate that a record comes to. Whether it is good is the checker's to say, from its text.
 
 ghost use Rattle.std.specs.Prelude.{◌≡◌, Option, IfOk, IfSome, IsTrue, is_some, option_map};
+ghost use Rattle.cfn_model.specs.Certificate as certificates;
 ghost use Rattle.cfn_model.specs.Certificate.{IsBest, Solution, threshold_of};
 ghost use Rattle.cfn_model.specs.Text.{IsSpelled, spelling};
 ghost use Rattle.cfn_desk.specs.MemoryDesk.{bytes_of};
@@ -92,7 +93,16 @@ fn good_text(
 {
     let room = room(alloc, certificate)?;
     let desk = text(alloc, certificate, room)?;
-    let bytes = desk.out_bytes();
+    let good = good_bytes(alloc, network, desk.out_bytes());
+    drop(desk);
+    good
+}
+
+/// A copy of the text of a certificate of a network, where it is good. An `Err` is want of memory.
+fn good_bytes(alloc: Global, network: &Network, bytes: &[u8]) -> Result<Option<Vec<u8>>, AllocError>
+    ensures { IfOk result (λ text. (its : certificates.Certificate) → IsSpelled its → bytes.now ≡ spelling its
+        → IsGoodText network.now its (option_map (λ t. t.items) text)) }
+{
     let answer = check(alloc, network, bytes)?;
     if !is_verified(answer) {
         return Ok(None);

@@ -1,5 +1,7 @@
 //! Searches by explorers that want memory at one of their calls.
 
+ghost use Rattle.std.specs.Prelude.{◌≡◌};
+
 use crate::networks::tri;
 use cfn_dive::{Diver, Divers};
 use cfn_explore::{Explore, Explored, Explorers, Halt, Never, Problem, Task};
@@ -72,12 +74,37 @@ fn told_after<R: AllocGlobal + Threads + Wait + Sync>(
     dives: u64,
 ) -> Result<(Stop, u64, Option<u64>), AllocError> {
     let network = tri(rt.alloc())?;
-    let tables = Tables::expand(rt.alloc(), &network)?;
+    let told = told_of(rt, &network, dives);
+    drop(network);
+    told
+}
+
+/// The same of a network.
+fn told_of<R: AllocGlobal + Threads + Wait + Sync>(
+    rt: &R,
+    network: &Network,
+    dives: u64,
+) -> Result<(Stop, u64, Option<u64>), AllocError> {
+    let tables = Tables::expand(rt.alloc(), network)?;
+    let told = told_over(rt, network, &tables, dives);
+    drop(tables);
+    told
+}
+
+/// The same over its tables.
+fn told_over<R: AllocGlobal + Threads + Wait + Sync>(
+    rt: &R,
+    network: &Network,
+    tables: &Tables,
+    dives: u64,
+) -> Result<(Stop, u64, Option<u64>), AllocError>
+    requires { tables.now ≡ network.now }
+{
     let divers = FailingDivers {
-        divers: Divers::over(&network, &tables),
+        divers: Divers::over(network, tables),
         dives,
     };
-    let problem = Problem::of(&network, &divers);
+    let problem = Problem::of(network, &divers);
     let outcome = solve_together(rt, rt.alloc(), &problem, 2, 1_000, &OpenGate, &Never)?.outcome;
     let best = outcome.certificate.best.as_ref().map(|best| best.price());
     Ok((outcome.stop, outcome.certificate.lower, best))

@@ -264,6 +264,29 @@ fn asked<M: Incumbent + Crew, R: AllocGlobal + Wait>(
         divers: Divers::over(network, &tables),
         refused,
     };
+    let asked = asked_by::<M, R>(rt, network, &explorers, unnamed, works);
+    drop(explorers);
+    drop(tables);
+    asked
+}
+
+/// The same of a worker with such an explorer.
+fn asked_by<M: Incumbent + Crew, R: AllocGlobal + Wait>(
+    rt: &R,
+    network: &Network,
+    explorers: &Making<'_>,
+    unnamed: Unnamed,
+    works: bool,
+) -> Result<(bool, bool, bool), AllocError>
+    requires table { M.table ≡ unnamed.table }
+    requires network { M.network ≡ unnamed.network }
+    requires start { M.start ≡ fresh unnamed.network }
+    requires own { network.now ≡ unnamed.network }
+    requires explorers { explorers.now.divers ≡ unnamed.network }
+    requires budget { M.budget ≡ 1000 }
+    requires crew { M.workers ≡ 1 }
+    requires recorded { M.recorded ≡ false }
+{
     let empty = Scored::empty(rt.alloc(), network)?;
     let mut own = own_ends(rt.alloc())?;
     let (low, mut holder) = unnamed.named::<M>();
@@ -273,7 +296,7 @@ fn asked<M: Incumbent + Crew, R: AllocGlobal + Wait>(
     let before = is_free(network, &mut held);
     let worker = worker_of(part, own);
     let after = if works {
-        free_after_work(rt, network, &explorers, &low, held, worker)
+        free_after_work(rt, network, explorers, &low, held, worker)
     } else {
         free_without_work(rt.alloc(), network, held, worker)
     };

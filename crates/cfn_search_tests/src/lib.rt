@@ -24,9 +24,11 @@ mod naming;
 mod networks;
 #[cfg(test)]
 mod recorded;
+#[cfg(test)]
 mod sightings;
 #[cfg(test)]
 mod stealing;
 #[cfg(test)]
 mod teams;
+#[cfg(test)]
 mod threads;

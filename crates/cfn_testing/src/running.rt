@@ -52,7 +52,9 @@ impl Run {
     ) -> Result<Run, AllocError> {
         let mut desk = MemoryDesk::make(rt.alloc(), files, 2000, 1000, failing)?;
         let status = run(rt, rt.alloc(), words, &mut desk, &OpenGate, &Still).code();
-        Run::left(rt.alloc(), status, &desk, kept)
+        let run = Run::left(rt.alloc(), status, &desk, kept);
+        drop(desk);
+        run
     }
 
     /// The run of these words over a desk whose file `in` has these bytes, in which workers pass a gate.
@@ -64,7 +66,9 @@ impl Run {
     ) -> Result<Run, AllocError> {
         let mut desk = MemoryDesk::make(rt.alloc(), &[("in", file)], 2000, 1000, &[])?;
         let status = run(rt, rt.alloc(), words, &mut desk, gate, &Still).code();
-        Run::left(rt.alloc(), status, &desk, "out")
+        let run = Run::left(rt.alloc(), status, &desk, "out");
+        drop(desk);
+        run
     }
 
     /// The run of these words over a desk whose file `in` has these bytes, by a clock.
@@ -76,7 +80,9 @@ impl Run {
     ) -> Result<Run, AllocError> {
         let mut desk = MemoryDesk::make(rt.alloc(), &[("in", file)], 200_000, 20_000, &[])?;
         let status = run(rt, rt.alloc(), words, &mut desk, &OpenGate, clock).code();
-        Run::left(rt.alloc(), status, &desk, "out")
+        let run = Run::left(rt.alloc(), status, &desk, "out");
+        drop(desk);
+        run
     }
 
     /// The run that ended with this status and left this desk.
@@ -159,7 +165,9 @@ impl RecordedRun {
         let files = [("in", file)];
         let mut desk = MemoryDesk::make_two(rt.alloc(), &files, 20_000, 20_000, 2_000, failing)?;
         let status = run(rt, rt.alloc(), words, &mut desk, gate, &Still).code();
-        RecordedRun::left(rt.alloc(), status, &desk)
+        let run = RecordedRun::left(rt.alloc(), status, &desk);
+        drop(desk);
+        run
     }
 
     /// The run that ended with this status and left this desk.
@@ -254,7 +262,9 @@ pub fn certificate_of<R: AllocGlobal + Threads + Wait + Sync>(
     let mut desk = MemoryDesk::make(rt.alloc(), &[("in", file)], 20_000, 2_000, &[])?;
     let words = ["wcspsolve", "solve", "in", "out", "--budget", budget];
     let _status = run(rt, rt.alloc(), &words, &mut desk, &OpenGate, &Still);
-    Vec::from_slice(rt.alloc(), desk.file("out").unwrap_or(b""))
+    let certificate = Vec::from_slice(rt.alloc(), desk.file("out").unwrap_or(b""));
+    drop(desk);
+    certificate
 }
 
 /// Whether `check` ends with this status and says this, where these are the bytes of the two files.
@@ -269,7 +279,9 @@ pub fn check_answers<R: AllocGlobal + Threads + Wait + Sync>(
     let mut desk = MemoryDesk::make(rt.alloc(), &files, 0, 500, &[])?;
     let words = ["wcspsolve", "check", "in", "cert"];
     let ended = run(rt, rt.alloc(), &words, &mut desk, &OpenGate, &Still).code();
-    Ok(ended == status && desk.said_bytes() == said)
+    let answers = ended == status && desk.said_bytes() == said;
+    drop(desk);
+    Ok(answers)
 }
 
 /// Whether a line of a text begins with these bytes.

@@ -8,7 +8,7 @@ ghost use Rattle.wcspsolve.specs.Ending.{Ended, Ran};
 use cfn_app::{Status, run};
 use cfn_desk::HostDesk;
 use cfn_report::Progress;
-use std::alloc::{AllocError, AllocGlobal};
+use std::alloc::{AllocError, AllocGlobal, Global};
 use std::env;
 use std::env::{Args, Env};
 use std::fs::Files;
@@ -67,10 +67,24 @@ fn end_of<R: Env + AllocGlobal + Files + Print + Eprint + Clock + Threads + Wait
 {
     let progress = Progress::new(rt, terminal);
     let mut desk = HostDesk::make(rt)?;
+    let ended = run_over(rt, &mut desk, &progress);
+    drop(desk);
+    ended
+}
+
+/// The same over a desk that nobody called yet.
+fn run_over<R: Env + AllocGlobal + Files + Print + Eprint + Clock + Threads + Wait + Sync>(
+    rt: &R,
+    desk: &mut HostDesk<R>,
+    progress: &Progress<'_, R>,
+) -> Result<Status, AllocError>
+    requires { desk.old.calls ≡ [] }
+    ensures { IfOk result (λ status. Ran status) }
+{
     match env::args(rt) {
-        Ok(words) => run_words(rt, words, &mut desk, &progress),
+        Ok(words) => run_words(rt, words, desk, progress),
         Err(e) if e.kind() == ErrorKind::OutOfMemory => Err(AllocError),
-        Err(_) => Ok(run(rt, rt.alloc(), &[], &mut desk, &progress, rt)),
+        Err(_) => Ok(run(rt, rt.alloc(), &[], desk, progress, rt)),
     }
 }
 
@@ -84,13 +98,40 @@ fn run_words<R: AllocGlobal + Files + Print + Eprint + Clock + Threads + Wait + 
     requires { desk.old.calls ≡ [] }
     ensures { IfOk result (λ status. Ran status) }
 {
-    let mut kept = Vec::new(rt.alloc());
+    let kept = kept(rt.alloc(), words)?;
+    let ended = run_kept(rt, &kept, desk, progress);
+    drop(kept);
+    ended
+}
+
+/// The words, to lend them from.
+fn kept(alloc: Global, words: Args) -> Result<Vec<String>, AllocError> {
+    let mut kept = Vec::new(alloc);
     for word in words {
         kept.push(word)?;
     }
-    let mut borrowed = Vec::new(rt.alloc());
-    for word in &kept {
-        borrowed.push(word.as_str())?;
+    Ok(kept)
+}
+
+/// Runs the program on words that are kept.
+fn run_kept<R: AllocGlobal + Files + Print + Eprint + Clock + Threads + Wait + Sync>(
+    rt: &R,
+    kept: &[String],
+    desk: &mut HostDesk<R>,
+    progress: &Progress<'_, R>,
+) -> Result<Status, AllocError>
+    requires { desk.old.calls ≡ [] }
+    ensures { IfOk result (λ status. Ran status) }
+{
+    let words = lent(rt.alloc(), kept)?;
+    Ok(run(rt, rt.alloc(), &words, desk, progress, rt))
+}
+
+/// The words as they are lent.
+fn lent<'a>(alloc: Global, kept: &'a [String]) -> Result<Vec<&'a str>, AllocError> {
+    let mut lent = Vec::new(alloc);
+    for word in kept {
+        lent.push(word.as_str())?;
     }
-    Ok(run(rt, rt.alloc(), &borrowed, desk, progress, rt))
+    Ok(lent)
 }

@@ -1,11 +1,11 @@
 use Rattle.std.proofs.Common.{◌≡◌, ◌+◌, reverse}
 use Rattle.std.specs.Prelude.{false, [], if◌then◌else◌}
 use Rattle.cfn_rebase.specs.Walking.{Walks, weights}
-use Rattle.cfn_rebase.proofs.keeping.keep.Given as goal
+use Rattle.cfn_rebase.proofs.keeping.keep_all.Given as goal
 
 abbrev pub invariant-loop-more : goal.invariant-loop-more
 invariant-loop-more l = record {
-  walks : Walks l.network l.threshold l.old l.walk;
+  walks : Walks l.fn.walk.ground.network l.fn.walk.threshold l.old l.walk;
   none : l.more ≡ false → l.walk.waiting.items ≡ [];
 }
 
