@@ -30,5 +30,4 @@ mod sightings;
 mod stealing;
 #[cfg(test)]
 mod teams;
-#[cfg(test)]
 mod threads;
