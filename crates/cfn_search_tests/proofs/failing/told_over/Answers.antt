@@ -5,7 +5,7 @@ use Rattle.cfn_explore.proofs.CallerLemmas.{never_sync}
 use Rattle.cfn_dive.proofs.CallerLemmas.{diver_send, divers_sync}
 use Rattle.cfn_search_tests.specs.contracts.failing.Failing as Failing
 use Rattle.cfn_search_tests.specs.contracts.failing.FailingDivers as FailingDivers
-use Rattle.cfn_search_tests.proofs.failing.told_after.Goals as goal
+use Rattle.cfn_search_tests.proofs.failing.told_over.Goals as goal
 
 failing_send : (a : NamedLft) → IsSend (Failing.the_row a)
 failing_send a = declared_send (Failing.the_type a) (search (sendable, diver_send), (search sendable, tt))
