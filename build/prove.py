@@ -1,5 +1,5 @@
 #!/usr/bin/env python3
-"""Builds the program from a copy of the crates that it stands on, each of which is proved first.
+"""Builds the program from a copy of the crates that it stands on, each of which is proved first (`./wcspsolve prove`).
 
 `rt ci` proves them, those first that the longest chain of others waits for, and as many side by side as there are processors (`rt
 lib` would lock all crates below the one that it proves, so that hardly two ever went side by side). It keeps what it proved on this
@@ -15,27 +15,17 @@ import sys
 import tempfile
 import time
 
-TOP = os.path.dirname(os.path.dirname(os.path.realpath(__file__)))
-PROGRAM = "wcspsolve"
-
-
-def say(text):
-    print(f"{PROGRAM}: {text}", file=sys.stderr, flush=True)
+from kit import NO_PROGRAM, PROGRAM, PROVE_SPACE, TOP, find_kit, lines_of_crates, need_space, put_program, say, status_of
 
 
 def needed_crates():
     """The crates that the program stands on, and its own: each with its line of crates.txt and those directly below it."""
-    lines, below = {}, {}
-    with open(f"{TOP}/crates.txt", encoding="utf-8") as file:
-        for line in file:
-            name, colon, rest = line.partition("#")[0].partition(":")
-            if colon:
-                lines[name.split()[0]], below[name.split()[0]] = line, rest.split()
+    lines, names = lines_of_crates()
     needed, ahead = {}, [PROGRAM]
     while ahead:
         name = ahead.pop()
         if name not in needed:
-            needed[name] = [it for it in below[name] if it in below]
+            needed[name] = [it for it in names[name] if it in names]
             ahead += needed[name]
     return {name: (lines[name], needed[name]) for name in lines if name in needed}
 
@@ -102,8 +92,10 @@ def follow(lines, log, clock):
 
 
 def build():
-    crates = needed_crates()
-    say(f"building it first: each function of {len(crates)} crates is proved, which takes long the first time on a machine")
+    find_kit()
+    need_space(PROVE_SPACE)
+    crates, began = needed_crates(), time.time()
+    say(f"each function of {len(crates)} crates is proved, which takes long the first time on a machine")
     with tempfile.TemporaryDirectory(prefix=f"{PROGRAM}-") as folder:
         copy_to(folder, crates)
         with open(f"{folder}/log", "w+", encoding="utf-8") as log:
@@ -115,16 +107,11 @@ def build():
                 log.seek(0)
                 say("it is not proved:")
                 print("".join(log.readlines()[-40:]), end="", file=sys.stderr)
-                return 70
-        out = f"{TOP}/crates/{PROGRAM}/out"
-        os.makedirs(out, exist_ok=True)
-        shutil.copy2(made, f"{out}/{PROGRAM}.new")
-        os.replace(f"{out}/{PROGRAM}.new", f"{out}/{PROGRAM}")
+                return NO_PROGRAM
+        put_program(made, f"{TOP}/crates/{PROGRAM}/out/{PROGRAM}", began)
+    say("proved on this machine: each later run uses this program")
     return 0
 
 
 if __name__ == "__main__":
-    try:
-        sys.exit(build())
-    except KeyboardInterrupt:
-        sys.exit(130)
+    sys.exit(status_of(build))
