@@ -11,7 +11,7 @@ use Rattle.cfn_consistency.specs.Consistency.{HasSupport}
 use Rattle.cfn_consistency.specs.Virtual.{Bans, HasCheapTuple, IsClosedFamily}
 use Rattle.cfn_store.specs.Standing.{Standing, history}
 use Rattle.cfn_derivation.specs.Derived.{value_count, AllAlive}
-use Rattle.cfn_derivation.specs.Working.{Work, HasRoom, NoneWaitsOn, IsLow, IsDone, Goes, Extends}
+use Rattle.cfn_derivation.specs.Working.{Work, HasRoom, NoneWaitsBehind, IsLow, IsDone, Goes, Extends}
 use Rattle.cfn_derivation.specs.Watched.{TouchedAre, CostlyAre}
 use Rattle.cfn_derivation.proofs.Counting.{at_most_all}
 use Rattle.cfn_derivation.proofs.Going.{goes_none, derived_then, done_goes, low_goes}
@@ -27,7 +27,7 @@ cheap_support P history q f i a some has = record {
 }
 
 pub untouched_done : (P : Network) (history : List Event) (q : ℕ) (bans : Bans) (touched waiting : List ℕ) (f : ℕ) → 0 < q → TouchedAre P history touched → is_in f touched ≡ false → IsDone P history q bans waiting f
-untouched_done P history q bans touched waiting f some are apart none part i a place live unbanned = cheap_support P history q f i a some (are f apart part i a place live)
+untouched_done P history q bans touched waiting f some are apart part i a none place live unbanned = cheap_support P history q f i a some (are f apart part i a place live)
 
 pub looked_done : (q : ℕ) (bans : Bans) (before now : Standing) (old new : Work) (touched : List ℕ) (f : ℕ) → 0 < q → Goes q bans before now old new → TouchedAre before.network (history before) touched → is_in f touched ≡ false → IsDone now.network (history now) q bans new.waiting.items f
 looked_done q bans before now old new touched f some goes are apart = done_goes q bans before now old new f goes (untouched_done before.network (history before) q bans touched old.waiting.items f some are apart)
@@ -83,14 +83,14 @@ extends_taken q bans first now one work taken is list capacity size = record {
 }
 
 -- the end
-pub none_waiting : (P : Network) (f : ℕ) → NoneWaitsOn P [] f
-none_waiting P f x h on = absurd cc
+pub none_waiting : (P : Network) (f i : ℕ) → NoneWaitsBehind P [] f i
+none_waiting P f i x h on = absurd cc
 
 pub closes : (P : Network) (history : List Event) (q : ℕ) (bans : Bans) → AllAlive P history → ((x : ℕ) → IsLow P history q bans x) → ((f : ℕ) → IsDone P history q bans [] f) → IsClosedFamily P history q bans
 closes P history q bans alive low done = record {
   some = alive;
   own = low;
-  by = λ f i a part place live unbanned. done f (none_waiting P f) part i a place live unbanned;
+  by = λ f i a part place live unbanned. done f part i a (none_waiting P f i) place live unbanned;
 }
 
 pub extends_low : (q : ℕ) (bans : Bans) (before now : Standing) (old new : Work) → Extends q bans before now old new → ((x : ℕ) → IsLow before.network (history before) q bans x) → (x : ℕ) → IsLow now.network (history now) q bans x

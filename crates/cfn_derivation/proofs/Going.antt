@@ -6,7 +6,8 @@ use Rattle.cfn_model.specs.declared.step.Step.{Step}
 use Rattle.cfn_model.specs.declared.step.Step.TheVariants.{CutValue}
 use Rattle.cfn_model.specs.declared.step.Event.{Event}
 use Rattle.cfn_model.specs.declared.step.Event.TheVariants.{Did}
-use Rattle.cfn_model.specs.Network.{Network, arity, variable_at}
+use Rattle.cfn_model.specs.Network.{Network, variable_at}
+use Rattle.cfn_model.specs.Sums.{is_live}
 use Rattle.cfn_model.specs.Steps.{after}
 use Rattle.std.proofs.lemmas.Bool.{cases_eq, or_right}
 use Rattle.cfn_model.proofs.CallerLemmas.{eqb_other}
@@ -14,14 +15,13 @@ use Rattle.cfn_queue.specs.Waiting.{Waiting, is_in, with_item}
 use Rattle.cfn_queue.proofs.CallerLemmas.{in_behind}
 use Rattle.cfn_consistency.specs.declared.deletion.Deletion.{Deletion}
 use Rattle.cfn_consistency.specs.Openness.{TakesPart}
-use Rattle.cfn_consistency.specs.Agreement.{AgreeOnFunction}
 use Rattle.cfn_consistency.specs.Virtual.{Bans, without, IsDeletion, IsDerivation}
 use Rattle.cfn_consistency.proofs.CallerLemmas.{Within, without_within, part_within, without_more, derivations_join}
 use Rattle.cfn_store.specs.Standing.{Standing, history, with_step}
 use Rattle.cfn_derivation.specs.Derived.{live_values, cuts_of, IsDerived}
-use Rattle.cfn_derivation.specs.Working.{Work, with_deletion, HasRoom, NoneWaitsOn, IsLow, IsDone, Goes}
+use Rattle.cfn_derivation.specs.Working.{Work, with_deletion, HasRoom, NoneWaitsBehind, IsLow, IsQuietAt, IsDone, Goes}
 use Rattle.cfn_derivation.proofs.Counting.{one_less}
-use Rattle.cfn_derivation.proofs.Agreeing.{itself_agrees, agree_then, cut_agrees, quiet_stays}
+use Rattle.cfn_derivation.proofs.Agreeing.{cut_part, cut_quiet}
 
 none_behind : {A : Type 0} (items : List A) → items ≡ items ++ []
 none_behind [] = refl
@@ -39,7 +39,8 @@ goes_none q bans s work room = record {
   room = room;
   capacity = refl;
   waits = λ x h. h;
-  agrees = λ f none. itself_agrees s.network (history s) f;
+  part = λ f i none part. part;
+  quiet = λ f i a none quiet. quiet;
   fewer = omega arith;
 }
 
@@ -130,7 +131,8 @@ goes_one q bans s work d room is =
       };
       capacity = refl;
       waits = λ x h. with_stays work.waiting d.variable x h;
-      agrees = λ f none. subst (λ h. AgreeOnFunction P h (history s) f) (sym along) (cut_agrees P (history s) d.variable d.value f (none d.variable (with_has work.waiting d.variable)));
+      part = λ f i none part. cut_part P (history s) d.variable d.value f i (none d.variable (with_has work.waiting d.variable)) (subst (λ h. TakesPart P h f) along part);
+      quiet = λ f i a none quiet. subst (λ h. IsQuietAt P h q bans f i a) (sym along) (cut_quiet P (history s) d.variable d.value q bans f i a (none d.variable (with_has work.waiting d.variable)) quiet);
       fewer = (let a = with_longer work.waiting d.variable in omega (arith, a, counted));
     }
 
@@ -153,7 +155,7 @@ derived_then first middle last q bans one other a b = record {
 pub goes_then : (q : ℕ) (bans : Bans) (first middle last : Standing) (one two three : Work) → Goes q bans first middle one two → Goes q bans middle last two three → Goes q bans first last one three
 goes_then q bans first middle last one two three a b =
     let same = a.derived.network in
-    let none_waits : (f : ℕ) → NoneWaitsOn first.network three.waiting.items f → NoneWaitsOn first.network two.waiting.items f = λ f none x h on. none x (b.waits x h) on in
+    let none_waits : (f i : ℕ) → NoneWaitsBehind first.network three.waiting.items f i → NoneWaitsBehind first.network two.waiting.items f i = λ f i none x h on. none x (b.waits x h) on in
     record {
       deletions = a.deletions ++ b.deletions;
       list = b.list ∙ ap (λ l. l ++ b.deletions) a.list ∙ append_assoc one.deletions a.deletions b.deletions;
@@ -161,9 +163,11 @@ goes_then q bans first middle last one two three a b =
       room = b.room;
       capacity = b.capacity ∙ a.capacity;
       waits = λ x h. b.waits x (a.waits x h);
-      agrees = λ f none. agree_then first.network (history last) (history middle) (history first) f
-          (subst (λ P. AgreeOnFunction P (history last) (history middle) f) same (b.agrees f (subst (λ P. NoneWaitsOn P three.waiting.items f) (sym same) none)))
-          (a.agrees f (none_waits f none));
+      part = λ f i none part. a.part f i (none_waits f i none)
+          (subst (λ P. NoneWaitsBehind P three.waiting.items f i → TakesPart P (history last) f → TakesPart P (history middle) f) same (b.part f i) none part);
+      quiet = λ f i c none quiet.
+          subst (λ P. NoneWaitsBehind P three.waiting.items f i → IsQuietAt P (history middle) q bans f i c → IsQuietAt P (history last) q bans f i c) same (b.quiet f i c) none
+          (a.quiet f i c (none_waits f i none) quiet);
       fewer = (let g = a.fewer in let h = subst (λ P. length three.waiting.items + live_values P (history last) ≤ length two.waiting.items + live_values P (history middle)) same b.fewer in omega (arith, g, h));
     }
 
@@ -180,10 +184,30 @@ low_goes before after q bans deletions x is low = subst (λ P. IsLow P (history 
     (λ a value live unbanned. (let w = within_of before after q bans deletions is in
     subst (λ u. u <ℤ pos q) (sym (w.unary x a)) (low a value (w.live x a live) unbanned)))
 
-pub done_goes : (q : ℕ) (bans : Bans) (before after : Standing) (old new : Work) (f : ℕ) → Goes q bans before after old new → IsDone before.network (history before) q bans old.waiting.items f → IsDone after.network (history after) q bans new.waiting.items f
-done_goes q bans before after old new f goes done = subst (λ P. IsDone P (history after) q bans new.waiting.items f) (sym goes.derived.network)
-    (λ none. quiet_stays before.network (history after) (history before) q bans f (goes.agrees f none) (done (λ x h on. none x (goes.waits x h) on)))
+-- what is done stays so, where those that waited wait still, and those that wait now are among them
+pub done_among : (q : ℕ) (bans : Bans) (before after : Standing) (old new : Work) (was now : List ℕ) (f : ℕ) → Goes q bans before after old new → ((x : ℕ) → is_in x was ≡ true → is_in x now ≡ true) → ((x : ℕ) → is_in x new.waiting.items ≡ true → is_in x now ≡ true) → IsDone before.network (history before) q bans was f → IsDone after.network (history after) q bans now f
+done_among q bans before next old new was now f goes stays all done = subst (λ P. IsDone P (history next) q bans now f) (sym goes.derived.network)
+    (λ part i a none.
+    let none_new : NoneWaitsBehind before.network new.waiting.items f i = λ x h on. none x (all x h) on in
+    goes.quiet f i a none_new (done (goes.part f i none_new part) i a (λ x h on. none x (stays x h) on)))
 
--- what a function has deleted waits on it
-pub waits_on : (P : Network) (t : Standing) (new : Work) (f i x : ℕ) → t.network ≡ P → x ≡ variable_at P f i → i < arity P f → is_in x new.waiting.items ≡ true → NoneWaitsOn t.network new.waiting.items f → ⊥
-waits_on P t new f i x same is there waits none = subst (λ N. NoneWaitsOn N new.waiting.items f) same none x waits (i, there, sym is)
+pub done_goes : (q : ℕ) (bans : Bans) (before after : Standing) (old new : Work) (f : ℕ) → Goes q bans before after old new → IsDone before.network (history before) q bans old.waiting.items f → IsDone after.network (history after) q bans new.waiting.items f
+done_goes q bans before after old new f goes = done_among q bans before after old new old.waiting.items new.waiting.items f goes goes.waits (λ x h. h)
+
+-- also where one waits besides
+or_more : (b c d : Bool) → (c ≡ true → d ≡ true) → (b || c) ≡ true → (b || d) ≡ true
+or_more true c d more h = refl
+or_more false c d more h = more h
+
+pub done_besides : (q : ℕ) (bans : Bans) (before after : Standing) (old new : Work) (x f : ℕ) → Goes q bans before after old new → IsDone before.network (history before) q bans (x ∷ old.waiting.items) f → IsDone after.network (history after) q bans (x ∷ new.waiting.items) f
+done_besides q bans before after old new x f goes = done_among q bans before after old new (x ∷ old.waiting.items) (x ∷ new.waiting.items) f goes
+    (λ y. or_more (y == x) (is_in y old.waiting.items) (is_in y new.waiting.items) (goes.waits y))
+    (λ y h. or_right (y == x) (is_in y new.waiting.items) h)
+
+-- what was deleted is quiet
+pub dead_quiet : (P : Network) (t : Standing) (q : ℕ) (bans : Bans) (f i a x : ℕ) → t.network ≡ P → x ≡ variable_at P f i → is_live (history t) x a ≡ false → IsQuietAt t.network (history t) q bans f i a
+dead_quiet P t q bans f i a x same is dead place live unbanned =
+    absurd (true_false (sym live ∙ ap (λ N. is_live (history t) (variable_at N f i) a) same ∙ ap (λ y. is_live (history t) y a) (sym is) ∙ dead))
+  where
+    true_false : true ≡ false → ⊥
+    true_false e = absurd cc

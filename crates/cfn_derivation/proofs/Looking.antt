@@ -1,33 +1,32 @@
 -- Functions are looked at, place by place and value by value.
-use Rattle.std.proofs.Common.{◌≡◌, ℕ, suc, zero, ◌+◌, ◌<◌, ◌≤◌, Bool, true, false, ◌||◌, List, [], ◌∷◌, length, refl, sym, ap, ◌∙◌, subst, inl, inr, arith}
+use Rattle.std.proofs.Common.{◌≡◌, ℕ, suc, ◌+◌, ◌-◌, ◌<◌, ◌≤◌, Bool, true, false, ◌||◌, List, [], ◌∷◌, length, refl, sym, ap, ◌∙◌, subst, inl, inr, arith}
 use Rattle.std.proofs.lemmas.Bool.{cases_eq, eqb-true}
-use Rattle.std.specs.Prelude.{Option, None, Some, is_some, MatchOption, slice_index, slice_index_or, ◌==◌}
+use Rattle.std.specs.Prelude.{Option, None, Some, is_some, MatchOption, slice_index, ◌==◌}
 use Rattle.cfn_model.specs.declared.step.Event.{Event}
-use Rattle.cfn_model.specs.Network.{Function, Network, no_function, arity, dims_at}
+use Rattle.cfn_model.specs.Network.{Network, arity, variable_at, dims_at}
 use Rattle.cfn_model.proofs.CallerLemmas.{eqb_other}
 use Rattle.cfn_queue.specs.Waiting.{is_in}
 use Rattle.cfn_consistency.specs.Openness.{TakesPart}
 use Rattle.cfn_consistency.specs.Virtual.{Bans}
-use Rattle.cfn_due.specs.Going.{IsOn}
 use Rattle.cfn_incidence.specs.declared.incidence.Place.{Place}
-use Rattle.cfn_incidence.specs.Places.{ArePlaces, place_at}
+use Rattle.cfn_incidence.specs.Places.{StandsAt, ArePlaces, place_at}
 use Rattle.cfn_incidence.proofs.CallerLemmas.{place_found}
 use Rattle.cfn_store.specs.Standing.{Standing, history}
 use Rattle.cfn_derivation.specs.Derived.{AllAlive}
-use Rattle.cfn_derivation.specs.Working.{Work, HasRoom, NoneWaitsOn, IsQuietAt, IsDone, Goes}
-use Rattle.cfn_derivation.proofs.Agreeing.{quiet_at_stays}
-use Rattle.cfn_derivation.proofs.Going.{goes_none, goes_then, part_goes, done_goes}
+use Rattle.cfn_due.proofs.CallerLemmas.{two_take_part}
+use Rattle.cfn_derivation.specs.Working.{Work, HasRoom, IsBehind, NoneWaitsBehind, IsQuietAt, IsDone, Goes}
+use Rattle.cfn_derivation.proofs.Going.{goes_none, goes_then, part_goes, done_goes, done_besides}
 
--- the value a at place i, unless a variable of f waits
+-- the value a at place i, unless a variable waits that may change it
 abbrev pub MayBeQuiet : Standing → Work → ℕ → Bans → ℕ → ℕ → ℕ → Type 0
-MayBeQuiet s work q bans f i a = NoneWaitsOn s.network work.waiting.items f → IsQuietAt s.network (history s) q bans f i a
+MayBeQuiet s work q bans f i a = NoneWaitsBehind s.network work.waiting.items f i → IsQuietAt s.network (history s) q bans f i a
 
 quiet_goes : (q : ℕ) (bans : Bans) (now next : Standing) (old new : Work) (f i a : ℕ) → Goes q bans now next old new → MayBeQuiet now old q bans f i a → MayBeQuiet next new q bans f i a
 quiet_goes q bans now next old new f i a goes was none =
     let same = goes.derived.network in
-    let none_now = subst (λ P. NoneWaitsOn P new.waiting.items f) same none in
+    let none_now = subst (λ P. NoneWaitsBehind P new.waiting.items f i) same none in
     subst (λ P. IsQuietAt P (history next) q bans f i a) (sym same)
-    (quiet_at_stays now.network (history next) (history now) q bans f i a (goes.agrees f none_now) (was (λ x h on. none_now x (goes.waits x h) on)))
+    (goes.quiet f i a none_now (was (λ x h on. none_now x (goes.waits x h) on)))
 
 pub record IsLooking (q : ℕ) (bans : Bans) (before now : Standing) (old new : Work) (f i n : ℕ) : Type 0 where
   pub goes : Goes q bans before now old new
@@ -75,7 +74,7 @@ along_next q bans before now next old middle new f n is goes alive here = record
 }
 
 pub along_end : (q : ℕ) (bans : Bans) (before now : Standing) (old new : Work) (f n : ℕ) → arity before.network f ≤ n → IsLookingAlong q bans before now old new f n → IsDone now.network (history now) q bans new.waiting.items f
-along_end q bans before now old new f n all is none part i a place =
+along_end q bans before now old new f n all is part i a none place =
     is.quiet i (let h = place.place in let e = ap (λ P. arity P f) is.goes.derived.network in omega (arith, h, e, all)) a none place
 
 -- functions one after another: all are done but those that come
@@ -113,13 +112,47 @@ none_in (y ∷ items) f none = ap (λ b. b || is_in f items) (eqb_other f y (λ 
 
 -- where x waits no longer, what is not on it is done as before
 pub around_start : (P : Network) (history : List Event) (q : ℕ) (bans : Bans) (x : ℕ) (waiting : List ℕ) (places : List Place) → ArePlaces P x places → ((f : ℕ) → IsDone P history q bans (x ∷ waiting) f) → (f : ℕ) → NotAhead (λ j. (place_at places j).function) 0 (length places) f → IsDone P history q bans waiting f
-around_start P history q bans x waiting places are done f apart none = done f (λ y h on. by y h on (y == x) refl)
+around_start P history q bans x waiting places are done f apart part i a none = done f part i a (λ y h on. by y h on (y == x) refl)
   where
-    by : (y : ℕ) → is_in y (x ∷ waiting) ≡ true → IsOn P y f → (b : Bool) → (y == x) ≡ b → ⊥
+    by : (y : ℕ) → is_in y (x ∷ waiting) ≡ true → IsBehind P y f i → (b : Bool) → (y == x) ≡ b → ⊥
     by y h on true e =
-        let on_x = subst (λ z. IsOn P z f) (eqb-true y x e) on in
+        let on_x = subst (λ z. IsBehind P z f i) (eqb-true y x e) on in
         let found = place_found P x f on_x.0 places are on_x.1 on_x.2 in
         apart found.0 (omega arith) found.1 (ap (λ (p : Place). p.function) found.2)
+    by y h on false e = none y (sym (ap (λ b. b || is_in y waiting) e) ∙ h) on
+
+-- the functions at the places of x, which waits no longer: all are done but for x
+pub record AreLookingAround (q : ℕ) (bans : Bans) (before now : Standing) (old new : Work) (x : ℕ) (places : List Place) (n : ℕ) : Type 0 where
+  pub looking : AreLooking q bans before now old new (λ j. (place_at places j).function) (length places) n
+  pub besides : (f : ℕ) → IsDone now.network (history now) q bans (x ∷ new.waiting.items) f
+
+pub around_next : (q : ℕ) (bans : Bans) (before now next : Standing) (old middle new : Work) (x : ℕ) (places : List Place) (n : ℕ) → AreLookingAround q bans before now old middle x places n → Goes q bans now next middle new → AllAlive next.network (history next) → IsDone next.network (history next) q bans new.waiting.items (place_at places n).function → AreLookingAround q bans before next old new x places (n + 1)
+around_next q bans before now next old middle new x places n is goes alive here = record {
+  looking = looks_next q bans before now next old middle new (λ j. (place_at places j).function) (length places) n is.looking goes alive here;
+  besides = λ f. done_besides q bans now next middle new x f goes (is.besides f);
+}
+
+-- a function has two variables where another one goes with the place of x
+pub two_of : (P : Network) (x : ℕ) (p : Place) → StandsAt P x p → (p.other ≡ x → ⊥) → arity P p.function ≡ 2
+two_of P x p stands other = elim (cases_eq (arity P p.function) 2) [
+  | inl e ↦ e
+  | inr d ↦ absurd (other (stands.alone d))
+]
+
+-- where the other variable of two does not wait, the place of x has nothing to delete
+pub own_quiet : (P : Network) (history : List Event) (q : ℕ) (bans : Bans) (x : ℕ) (waiting : List ℕ) (p : Place) (a : ℕ) → StandsAt P x p → (p.other ≡ x → ⊥) → IsDone P history q bans (x ∷ waiting) p.function → NoneWaitsBehind P waiting p.function p.place → IsQuietAt P history q bans p.function p.place a
+own_quiet P history q bans x waiting p a stands other done none = done (two_take_part P history p.function two) p.place a (λ y h on. by y h on (y == x) refl)
+  where
+    two : arity P p.function ≡ 2
+    two = two_of P x p stands other
+
+    by : (y : ℕ) → is_in y (x ∷ waiting) ≡ true → IsBehind P y p.function p.place → (b : Bool) → (y == x) ≡ b → ⊥
+    by y h on true e =
+        let apart = on.3 two in
+        let l = on.1 in
+        let k = stands.place in
+        let at : on.0 ≡ 1 - p.place = omega (arith, apart, l, k, two) in
+        other (stands.other two ∙ ap (variable_at P p.function) (sym at) ∙ on.2 ∙ eqb-true y x e)
     by y h on false e = none y (sym (ap (λ b. b || is_in y waiting) e) ∙ h) on
 
 -- no variable was emptied

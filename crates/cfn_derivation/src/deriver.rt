@@ -5,7 +5,8 @@
 //! variable is emptied or none waits. A function that is arc consistent deletes nothing before a variable of it loses a value,
 //! so a derivation costs no pass over all functions.
 //!
-//! Invariant: a function that was looked at, and of which no variable waits, has nothing to delete.
+//! Invariant: a place of a function that was looked at has nothing to delete, unless a variable of the function waits; where this has
+//! two variables, the other one.
 
 ghost use Rattle.std.specs.Prelude.{◌≡◌, ℕ, ◌+◌, ◌<◌, ◌≤◌, true, false, List, [], ◌∷◌, ◌++◌, length, take, None, IfOk, IsTrue, IsFalse, MatchOption};
 ghost use Rattle.cfn_queue.specs.Waiting.{is_in, AreBelow};

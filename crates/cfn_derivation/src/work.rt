@@ -76,6 +76,14 @@ impl Work {
         self.waiting.take()
     }
 
+    /// Whether a variable waits.
+    pub(crate) fn waits(&self, x: u32) -> bool
+        requires { x < self.now.waiting.size }
+        ensures { result ≡ is_in x self.now.waiting.items }
+    {
+        self.waiting.has(x)
+    }
+
     /// Deletes a live value.
     fn delete(&mut self, store: &mut Store<'_>, deletion: Deletion)
         requires room { HasRoom store.old self.old }

@@ -40,3 +40,6 @@ returns-clause-ends c =
     (extends_low q bans c.look_all-emptied.new.store c.settle.new.store c.look_all-emptied.new.work c.settle.new.work c.settle.ensures.extends
     (λ x. low_goes c.own_all-emptied.new.store c.look_all-emptied.new.store q bans looks.deletions x looks.derived (low x)))
     (c.settle.ensures.done none))
+
+pub settle-requires-clause-done : goal.settle-requires-clause-done
+settle-requires-clause-done c = c.look_all-emptied.ensures.done (is_none c.look_all-emptied.result (sym c.is_some-2.ensures ∙ c.if-is_some-2.false))

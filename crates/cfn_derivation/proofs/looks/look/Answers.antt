@@ -3,7 +3,7 @@ use Rattle.cfn_model.specs.Network.{IsNetwork, scope_at}
 use Rattle.cfn_gain.proofs.CallerLemmas.{few_places}
 use Rattle.cfn_derivation.specs.Banned.{bans_of}
 use Rattle.cfn_derivation.proofs.Going.{goes_none, goes_then}
-use Rattle.cfn_derivation.proofs.Looking.{along_start, along_next}
+use Rattle.cfn_derivation.proofs.Looking.{along_start, along_next, along_end}
 use Rattle.cfn_derivation.proofs.looks.look.Goals as goal
 
 pub returns-then-not-takes_part-clause-goes : goal.returns-then-not-takes_part-clause-goes
@@ -26,3 +26,8 @@ pub loop-place-preserved : goal.loop-place-preserved
 loop-place-preserved c =
     along_next c.args.q (bans_of c.args.bans.now) c.args.store.now c.loop-place.store c.look_at.new.store c.args.work.now c.loop-place.work c.look_at.new.work c.args.f c.loop-place.place c.loop-place.invariant
     c.look_at.ensures.goes (c.look_at.ensures.alive c.if-look_at.false) (λ a none. c.look_at.ensures.quiet c.if-look_at.false none a)
+
+pub returns-clause-done : goal.returns-clause-done
+returns-clause-done c = λ none.
+    let same = ap length (c.scope.ensures ∙ ap (λ P. scope_at P c.args.f) c.network-network.ensures) in
+    along_end c.args.q (bans_of c.args.bans.now) c.args.store.now c.loop-place.store c.args.work.now c.loop-place.work c.args.f c.loop-place.place (omega (arith, same, c.loop-place-test.false)) c.loop-place.invariant
