@@ -1,5 +1,5 @@
 -- Lists of the cheapest assignments, and what makes one good.
-use Rattle.std.specs.Prelude.{◌≡◌, ℕ, ◌<◌, ◌≤◌, List, [], ◌∷◌, length, if◌then◌else◌, ◌==◌}
+use Rattle.std.specs.Prelude.{◌≡◌, ℕ, ◌<◌, ◌≤◌, Bool, List, [], ◌∷◌, length, if◌then◌else◌, ◌==◌}
 use Rattle.std.specs.List.{AllByRecursion}
 use Rattle.std.specs.Ordering.{nat_cmp}
 use Rattle.std.specs.declared.cmp.Ordering.{Ordering}
@@ -28,6 +28,10 @@ last_cost none (s ∷ list) = last_cost s.cost list
 -- The threshold: the last cost of a list that has as many as were asked for, and else the upper bound.
 abbrev pub threshold_of : ℕ → ℕ → List Solution → ℕ
 threshold_of upper count list = if length list == count then last_cost upper list else upper
+
+-- Whether a list is complete: its lower bound is its threshold.
+abbrev pub is_complete : Network → ListCertificate → Bool
+is_complete P c = c.lower == threshold_of P.upper c.count c.list
 
 -- One assignment comes before another: it costs less, or as much, and then the first value in which they differ is less.
 abbrev pub order : Solution → Solution → Ordering

@@ -10,10 +10,18 @@ use std::alloc::{AllocError, AllocFailed};
 /// What a list of assignments comes to.
 #[derive(Clone, Copy, Debug, PartialEq, Eq)]
 pub enum BestCheck {
-    /// It is good: it has `count` assignments, and every other assignment costs at least `lower`.
-    Verified { lower: u64, count: u64 },
+    /// It is good: it has `count` assignments, and every other assignment costs at least `lower`. It is complete where that is
+    /// the threshold: the last cost of a list that has as many as were asked for, and else the upper bound.
+    Verified {
+        lower: u64,
+        count: u64,
+        complete: bool,
+    },
     /// It is not: the line that fails, counted from 1, and how it fails.
-    Refused { kind: ListFault, line: u64 },
+    Refused {
+        kind: ListFault,
+        line: u64,
+    },
 }
 
 /// Why judging stops.

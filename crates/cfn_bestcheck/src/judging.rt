@@ -23,7 +23,8 @@ use std::alloc::{AllocError, Global};
 
 /// Judges a list of a network's cheapest assignments: it is verified exactly where the bytes spell a good list, and
 /// refused exactly where a line is the first that fails, or none is and the lower bound is above what the tree shows.
-/// Where it is verified, every assignment that is not listed costs at least the lower bound.
+/// Where it is verified, every assignment that is not listed costs at least the lower bound, and it says exactly whether the list is
+/// complete.
 ///
 /// It takes memory for the tables, for the events of one path of the tree and the splits on it, and for the values of the
 /// listed assignments. An `Err` is want of memory.
@@ -79,6 +80,7 @@ fn tree(
     Ok(BestCheck::Verified {
         lower: opening.lower,
         count: list.len() as u64,
+        complete: opening.lower == threshold,
     })
 }
 

@@ -34,6 +34,11 @@ list_report c word = text (list_report_lines c word)
 abbrev pub list_verified_text : ℕ → ℕ → List ℕ
 list_verified_text lower count = line (codes "verified" ∷ codes "lower" ∷ decimal lower ∷ codes "count" ∷ decimal count ∷ [])
 
+-- What is said of one that is good and not complete, where that is asked: a line more.
+abbrev pub list_open_text : ℕ → ℕ → List ℕ
+list_open_text lower count =
+    text ((codes "verified" ∷ codes "lower" ∷ decimal lower ∷ codes "count" ∷ decimal count ∷ []) ∷ (codes "open" ∷ []) ∷ [])
+
 -- What is said of any other: how its first line that fails does so.
 abbrev pub list_refused_text : ListFault → ℕ → List ℕ
 list_refused_text (Certificate kind) l = refused_text kind l

@@ -30,7 +30,7 @@ mod whole;
 
 pub use certificate::{put_best, put_network, write};
 pub use list::write_best;
-pub use list_message::{write_list_refused, write_list_verified};
+pub use list_message::{write_list_open, write_list_refused, write_list_verified};
 pub use list_report::write_list_report;
 pub use nodes::{put_end, put_steps};
 pub use record_message::{write_record_refused, write_replayed};

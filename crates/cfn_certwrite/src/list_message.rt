@@ -5,7 +5,7 @@
 ghost use Rattle.cfn_line.specs.Appending.{Appends};
 ghost use Rattle.cfn_line.specs.declared.channel.Channel.TheVariants.{Screen};
 ghost use Rattle.cfn_best.specs.declared.kind.ListFault.TheVariants.{Listed};
-ghost use Rattle.cfn_certwrite.specs.ListTexts.{list_refused_text, list_verified_text};
+ghost use Rattle.cfn_certwrite.specs.ListTexts.{list_open_text, list_refused_text, list_verified_text};
 
 use cfn_best::ListFault;
 use cfn_desk::{Desk, Failed};
@@ -25,6 +25,16 @@ pub fn write_list_verified<D: Desk>(lower: u64, count: u64, desk: &mut D) -> Res
         Word::Number(count),
     ];
     write_line(Channel::Screen, &words, desk)
+}
+
+/// Says that a list is good, with its lower bound and the number of its assignments, and that it is not complete. An `Err` has
+/// said some front of it.
+pub fn write_list_open<D: Desk>(lower: u64, count: u64, desk: &mut D) -> Result<(), Failed>
+    ensures { Appends Screen (D.outside desk.old)
+        (list_open_text lower count) result (D.outside desk.new) }
+{
+    write_list_verified(lower, count, desk)?;
+    write_line(Channel::Screen, &[Word::Name("open")], desk)
 }
 
 /// Says that a list is refused: how its first line that fails does so, and the number of that line, from 1. An `Err` has

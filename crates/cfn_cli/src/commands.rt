@@ -58,7 +58,7 @@ pub enum Command {
     Replay(ReplayArguments),
     /// `kbest FILE K CERT [--budget B] [--seconds S] [--wcnf]`
     KBest(KBestArguments),
-    /// `checkbest FILE CERT [--wcnf]`
+    /// `checkbest FILE CERT [--wcnf] [--complete]`
     CheckBest(CheckBestArguments),
 }
 

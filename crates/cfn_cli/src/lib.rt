@@ -10,7 +10,7 @@
 //!     wcspsolve merge FILE OUT CERT.. [--wcnf]
 //!     wcspsolve replay FILE REC CERT [--wcnf]
 //!     wcspsolve kbest FILE K CERT [--budget B] [--seconds S] [--wcnf]
-//!     wcspsolve checkbest FILE CERT [--wcnf]
+//!     wcspsolve checkbest FILE CERT [--wcnf] [--complete]
 //!
 //! The crate `clap` says which word is which argument. `commands` is the list of the commands, each of which has a file of its
 //! own: what it is asked with, its part of the command line, and how that is read. `arguments` has the arguments that several

@@ -83,16 +83,19 @@ const ROWS: [Row; 8] = [
     ),
 ];
 
-/// Whether `checkbest` verifies a list of a file, and says this of it.
+/// Whether `checkbest` verifies a list of a file, and says this of it, also where it is asked whether the list is complete.
 fn is_verified<R: AllocGlobal + Threads + Wait + Sync>(
     rt: &R,
     file: &[u8],
     list: &[u8],
     verdict: &[u8],
 ) -> Result<bool, AllocError> {
-    let words = ["wcspsolve", "checkbest", "in", "list"];
-    let run = Run::over(rt, &words, &[("in", file), ("list", list)], &[], "list")?;
-    Ok(run.status == 0 && run.said() == verdict)
+    let words = ["wcspsolve", "checkbest", "in", "list", "--complete"];
+    let files = [("in", file), ("list", list)];
+    let run = Run::over(rt, &words[..4], &files, &[], "list")?;
+    let asked = Run::over(rt, &words, &files, &[], "list")?;
+    let is_due = run.status == 0 && run.said() == verdict;
+    Ok(is_due && asked.status == 0 && asked.said() == verdict)
 }
 
 /// Whether `kbest` ends so, and `checkbest` verifies what it wrote so.

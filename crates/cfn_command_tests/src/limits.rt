@@ -26,7 +26,8 @@ const LIMITED: [(&[&str], &[u8]); 4] = [
     ),
 ];
 
-/// Whether words end with the status of a limit and this line, and `checkbest` verifies what they wrote.
+/// Whether words end with the status of a limit and this line, and `checkbest` verifies what they wrote, and says that it is not
+/// complete where that is asked.
 fn is_limited<R: AllocGlobal + Threads + Wait + Sync>(
     rt: &R,
     words: &[&str],
@@ -34,14 +35,12 @@ fn is_limited<R: AllocGlobal + Threads + Wait + Sync>(
 ) -> Result<bool, AllocError> {
     let run = Run::of(rt, words, TRI, &[])?;
     let files = [("in", TRI), ("list", run.certificate())];
-    let judged = Run::over(
-        rt,
-        &["wcspsolve", "checkbest", "in", "list"],
-        &files,
-        &[],
-        "list",
-    )?;
-    Ok(run.status == 2 && run.says(line) && judged.status == 0)
+    let words = ["wcspsolve", "checkbest", "in", "list", "--complete"];
+    let judged = Run::over(rt, &words[..4], &files, &[], "list")?;
+    let asked = Run::over(rt, &words, &files, &[], "list")?;
+    let is_judged = judged.status == 0 && !judged.says(b"open");
+    let is_open = asked.status == 2 && asked.says(b"open");
+    Ok(run.status == 2 && run.says(line) && is_judged && is_open)
 }
 
 #[test]

@@ -59,10 +59,12 @@ fn lists(alloc: Global, words: &[&str]) -> Option<(u16, u64, Option<u64>)> {
     }
 }
 
-fn checks_best(alloc: Global, words: &[&str]) -> bool {
+fn checks_best(alloc: Global, words: &[&str], complete: bool) -> bool {
     match parse(alloc, words) {
         Ok(Command::CheckBest(asked)) => {
-            asked.file.as_str() == "a" && asked.certificate.as_str() == "b"
+            asked.file.as_str() == "a"
+                && asked.certificate.as_str() == "b"
+                && asked.complete == complete
         }
         _ => false,
     }
@@ -273,9 +275,11 @@ fn k_best_is_read(rt: HostRuntime) {
 #[test]
 fn check_best_is_read(rt: HostRuntime) {
     let alloc = rt.alloc();
-    assert!(rt; checks_best(alloc, &["w", "checkbest", "a", "b"]));
-    assert!(rt; !checks_best(alloc, &["w", "checkbest", "b", "a"]));
-    assert!(rt; !checks_best(alloc, &["w", "check", "a", "b"]));
+    let words = ["w", "checkbest", "a", "b", "--complete"];
+    assert!(rt; checks_best(alloc, &words[..4], false));
+    assert!(rt; checks_best(alloc, &words, true));
+    assert!(rt; !checks_best(alloc, &["w", "checkbest", "b", "a"], false));
+    assert!(rt; !checks_best(alloc, &["w", "check", "a", "b"], false));
     assert!(rt; !checks(alloc, &["w", "checkbest", "a", "b"]));
 }
 
@@ -394,6 +398,8 @@ fn other_words_are_usage(rt: HostRuntime) {
         &["w", "checkbest", "a", "b", "--budget", "1"],
         &["w", "checkbest", "a", "b", "--workers", "1"],
         &["w", "checkbest", "a", "b", "--wcnf=true"],
+        &["w", "checkbest", "a", "b", "--complete=true"],
+        &["w", "check", "a", "b", "--complete"],
         &["w", "check-best", "a", "b"],
         &["w", "solve"],
         &["w", "solve", "a"],

@@ -34,7 +34,11 @@ const ONE: &[u8] = b"wcspbest 1\nnetwork 1 1 10\ncount 1\nlower 1\nbest 1\nvalue
 const SUMS: [(&[u8], BestCheck); 2] = [
     (
         b"p 0 0 0 3\nv 0 0\ne 0 0 0 9223372036854775807\np 0 0 1 1\nu 0 1\nclosed\nend\n",
-        BestCheck::Verified { lower: 1, count: 1 },
+        BestCheck::Verified {
+            lower: 1,
+            count: 1,
+            complete: true,
+        },
     ),
     (
         b"p 0 0 0 3\nv 0 0\ne 0 0 0 9223372036854775807\nv 0 0\np 0 0 1 1\nu 0 1\nclosed\nend\n",
@@ -119,7 +123,11 @@ fn large_and_negative_sums(rt: HostRuntime) -> Result<(), Fail> {
         let text = joined(rt.alloc(), ONE, tree)?;
         assert!(rt; answer(rt.alloc(), TINY, &text)? == *due, "in row {row}");
     }
-    let due = BestCheck::Verified { lower: 5, count: 0 };
+    let due = BestCheck::Verified {
+        lower: 5,
+        count: 0,
+        complete: true,
+    };
     assert!(rt; answer(rt.alloc(), HARD, LARGE)? == due);
     Ok(())
 }
@@ -128,7 +136,11 @@ fn large_and_negative_sums(rt: HostRuntime) -> Result<(), Fail> {
 #[test]
 fn deep_trees_are_judged(rt: HostRuntime) -> Result<(), Fail> {
     let whole = nested(rt.alloc(), SPLITS + 1)?;
-    let due = BestCheck::Verified { lower: 0, count: 0 };
+    let due = BestCheck::Verified {
+        lower: 0,
+        count: 0,
+        complete: false,
+    };
     assert!(rt; answer(rt.alloc(), TINY, &whole)? == due);
     let short = nested(rt.alloc(), SPLITS)?;
     let due = BestCheck::Refused {

@@ -12,17 +12,29 @@ use std::test::Fail;
 const TEXTS: [(&[u8], BestCheck); 14] = [
     (
         b"wcspbest 1\nnetwork 1 1 10\ncount 2\nlower 3\nbest 2\nvalues 1 1\nvalues 3 0\ntree\nsplit 0 0\nlisted 1\nlisted 0\nend\n",
-        BestCheck::Verified { lower: 3, count: 2 },
+        BestCheck::Verified {
+            lower: 3,
+            count: 2,
+            complete: true,
+        },
     ),
     // an open leaf, and one assignment alone
     (
         b"wcspbest 1\nnetwork 1 1 10\ncount 1\nlower 0\nbest 1\nvalues 1 1\ntree\nsplit 0 0\nopen\nlisted 0\nend\n",
-        BestCheck::Verified { lower: 0, count: 1 },
+        BestCheck::Verified {
+            lower: 0,
+            count: 1,
+            complete: false,
+        },
     ),
     // the leaf of an assignment that left the list is closed
     (
         b"wcspbest 1\nnetwork 1 1 10\ncount 1\nlower 1\nbest 1\nvalues 1 1\ntree\nsplit 0 0\np 0 0 0 3\nu 0 3\nclosed\nlisted 0\nend\n",
-        BestCheck::Verified { lower: 1, count: 1 },
+        BestCheck::Verified {
+            lower: 1,
+            count: 1,
+            complete: true,
+        },
     ),
     // the two leaves are exchanged
     (

@@ -20,7 +20,7 @@ usage_text =
     ∷ (codes "wcspsolve" ∷ codes "merge" ∷ codes "FILE" ∷ codes "OUT" ∷ codes "CERT.." ∷ codes "[--wcnf]" ∷ [])
     ∷ (codes "wcspsolve" ∷ codes "replay" ∷ codes "FILE" ∷ codes "REC" ∷ codes "CERT" ∷ codes "[--wcnf]" ∷ [])
     ∷ (codes "wcspsolve" ∷ codes "kbest" ∷ codes "FILE" ∷ codes "K" ∷ codes "CERT" ∷ codes "[--budget" ∷ codes "B]" ∷ codes "[--seconds" ∷ codes "S]" ∷ codes "[--wcnf]" ∷ [])
-    ∷ (codes "wcspsolve" ∷ codes "checkbest" ∷ codes "FILE" ∷ codes "CERT" ∷ codes "[--wcnf]" ∷ [])
+    ∷ (codes "wcspsolve" ∷ codes "checkbest" ∷ codes "FILE" ∷ codes "CERT" ∷ codes "[--wcnf]" ∷ codes "[--complete]" ∷ [])
     ∷ [])
 
 -- What is said of a wcnf file whose header is not `p wcnf`: the word that differs.

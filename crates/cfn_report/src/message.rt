@@ -79,7 +79,7 @@ pub fn write_usage<D: Desk>(desk: &mut D) -> Result<(), Failed>
 {
     send(
         Channel::Screen,
-        b"error usage\nwcspsolve solve FILE CERT [--workers W] [--budget B] [--seconds S] [--wcnf] [--progress] [--record REC]\nwcspsolve check FILE CERT [--wcnf]\nwcspsolve cost FILE VALUES.. [--wcnf]\nwcspsolve normal FILE [--wcnf]\nwcspsolve trial SEED SIZE [--workers W]\nwcspsolve migrate FILE CERT OUT\nwcspsolve rebase FILE OLD CERT [--workers W] [--budget B] [--seconds S] [--wcnf] [--progress] [--part I] [--parts N]\nwcspsolve merge FILE OUT CERT.. [--wcnf]\nwcspsolve replay FILE REC CERT [--wcnf]\nwcspsolve kbest FILE K CERT [--budget B] [--seconds S] [--wcnf]\nwcspsolve checkbest FILE CERT [--wcnf]\n",
+        b"error usage\nwcspsolve solve FILE CERT [--workers W] [--budget B] [--seconds S] [--wcnf] [--progress] [--record REC]\nwcspsolve check FILE CERT [--wcnf]\nwcspsolve cost FILE VALUES.. [--wcnf]\nwcspsolve normal FILE [--wcnf]\nwcspsolve trial SEED SIZE [--workers W]\nwcspsolve migrate FILE CERT OUT\nwcspsolve rebase FILE OLD CERT [--workers W] [--budget B] [--seconds S] [--wcnf] [--progress] [--part I] [--parts N]\nwcspsolve merge FILE OUT CERT.. [--wcnf]\nwcspsolve replay FILE REC CERT [--wcnf]\nwcspsolve kbest FILE K CERT [--budget B] [--seconds S] [--wcnf]\nwcspsolve checkbest FILE CERT [--wcnf] [--complete]\n",
         desk,
     )
 }

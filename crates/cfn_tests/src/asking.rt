@@ -348,7 +348,7 @@ pub(crate) const LINED: [Lined; 13] = [
 
 /// What is said of words that are no command.
 const USAGE: &[u8] =
-    b"error usage\nwcspsolve solve FILE CERT [--workers W] [--budget B] [--seconds S] [--wcnf] [--progress] [--record REC]\nwcspsolve check FILE CERT [--wcnf]\nwcspsolve cost FILE VALUES.. [--wcnf]\nwcspsolve normal FILE [--wcnf]\nwcspsolve trial SEED SIZE [--workers W]\nwcspsolve migrate FILE CERT OUT\nwcspsolve rebase FILE OLD CERT [--workers W] [--budget B] [--seconds S] [--wcnf] [--progress] [--part I] [--parts N]\nwcspsolve merge FILE OUT CERT.. [--wcnf]\nwcspsolve replay FILE REC CERT [--wcnf]\nwcspsolve kbest FILE K CERT [--budget B] [--seconds S] [--wcnf]\nwcspsolve checkbest FILE CERT [--wcnf]\n";
+    b"error usage\nwcspsolve solve FILE CERT [--workers W] [--budget B] [--seconds S] [--wcnf] [--progress] [--record REC]\nwcspsolve check FILE CERT [--wcnf]\nwcspsolve cost FILE VALUES.. [--wcnf]\nwcspsolve normal FILE [--wcnf]\nwcspsolve trial SEED SIZE [--workers W]\nwcspsolve migrate FILE CERT OUT\nwcspsolve rebase FILE OLD CERT [--workers W] [--budget B] [--seconds S] [--wcnf] [--progress] [--part I] [--parts N]\nwcspsolve merge FILE OUT CERT.. [--wcnf]\nwcspsolve replay FILE REC CERT [--wcnf]\nwcspsolve kbest FILE K CERT [--budget B] [--seconds S] [--wcnf]\nwcspsolve checkbest FILE CERT [--wcnf] [--complete]\n";
 
 /// Words that are no command.
 const NO_COMMANDS: [&[&str]; 17] = [

@@ -5,7 +5,9 @@ ghost use Rattle.cfn_model.specs.declared.limits.TheConstants.{GREATEST};
 
 use crate::given::{split_tree, writing_desk};
 use cfn_best::ListFault;
-use cfn_certwrite::{write_best, write_list_refused, write_list_report, write_list_verified};
+use cfn_certwrite::{
+    write_best, write_list_open, write_list_refused, write_list_report, write_list_verified,
+};
 use cfn_desk::{Desk, Failed, MemoryDesk};
 use cfn_fault::FaultKind;
 use cfn_proof::{Block, Decision, Step, Tree};
@@ -165,13 +167,15 @@ fn says_a_report(rt: HostRuntime) -> Result<(), Fail> {
 /// Says each message; whether all were said.
 fn say_each(desk: &mut MemoryDesk) -> bool {
     write_list_verified(3, 2, desk).is_ok()
+        && write_list_open(1, 2, desk).is_ok()
         && write_list_refused(ListFault::Listed, 10, desk).is_ok()
         && write_list_refused(ListFault::Certificate(FaultKind::Best), 7, desk).is_ok()
 }
 
 #[test]
 fn says_messages(rt: HostRuntime) -> Result<(), Fail> {
-    let text: &[u8] = b"verified lower 3 count 2\nrefused listed at 10\nrefused best at 7\n";
+    let text: &[u8] =
+        b"verified lower 3 count 2\nverified lower 1 count 2\nopen\nrefused listed at 10\nrefused best at 7\n";
     let mut desk = MemoryDesk::make(rt.alloc(), &[], 0, 4096, &[])?;
     assert!(rt; say_each(&mut desk));
     assert!(rt; desk.said_bytes() == text);

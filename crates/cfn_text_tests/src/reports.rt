@@ -161,7 +161,7 @@ fn says_each_message(rt: HostRuntime) -> Result<(), Fail> {
         wcspsolve solve FILE CERT [--workers W] [--budget B] [--seconds S] [--wcnf] [--progress] [--record REC]\nwcspsolve check FILE CERT [--wcnf]\n\
         wcspsolve cost FILE VALUES.. [--wcnf]\nwcspsolve normal FILE [--wcnf]\nwcspsolve trial SEED SIZE [--workers W]\n\
         wcspsolve migrate FILE CERT OUT\nwcspsolve rebase FILE OLD CERT [--workers W] [--budget B] [--seconds S] [--wcnf] [--progress] [--part I] [--parts N]\n\
-        wcspsolve merge FILE OUT CERT.. [--wcnf]\nwcspsolve replay FILE REC CERT [--wcnf]\nwcspsolve kbest FILE K CERT [--budget B] [--seconds S] [--wcnf]\nwcspsolve checkbest FILE CERT [--wcnf]\ncost 9 allowed\ncost 10 forbidden\n\
+        wcspsolve merge FILE OUT CERT.. [--wcnf]\nwcspsolve replay FILE REC CERT [--wcnf]\nwcspsolve kbest FILE K CERT [--budget B] [--seconds S] [--wcnf]\nwcspsolve checkbest FILE CERT [--wcnf] [--complete]\ncost 9 allowed\ncost 10 forbidden\n\
         error values expected 3 got 4\nerror value at 2\nverified lower 1 best 1\nverified lower 5 best none\nmigrated\nvariables 20\nfunctions 57\nleast 71\nrefused lift at 9\n";
     assert!(rt; says_each(&rt, text)?);
     Ok(())

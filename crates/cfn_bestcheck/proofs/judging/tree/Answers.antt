@@ -1,4 +1,5 @@
 use Rattle.std.proofs.Common.{ℕ, List, length, subst, ◌∙◌}
+use Rattle.std.specs.Prelude.{◌==◌}
 use Rattle.cfn_model.specs.declared.step.Event.{Event}
 use Rattle.cfn_fault.specs.declared.kind.FaultKind.TheVariants as kinds
 use Rattle.cfn_best.specs.declared.kind.ListFault.TheVariants.{Certificate}
@@ -26,5 +27,5 @@ returns-clause-ok c =
     let claim = claim_of c.args.opening c.args.list.now in
     let at = subst (λ (ps : List (List Event)). At P c.nodes.new.lines (AtNodes claim c.nodes.new.walk.least ps)) c.in_ok-nodes.ensures.over tree.at in
     let over = c.in_ok-end.ensures.right claim c.nodes.new.walk.least at in
-    subst (λ (x : List ℕ). IsVerified P x c.args.opening.lower (length c.args.list.now)) (c.in_ok-end.ensures.text ∙ c.in_ok-nodes.ensures.text)
-    (all_verified P c.end.new.lines c.args.opening c.args.list.now c.nodes.new.walk.least over c.in_ok-end.ensures.over c.law_limits.ensures (rw c.least.ensures at c.if-least-opening.false))
+    subst (λ (x : List ℕ). IsVerified P x c.args.opening.lower (length c.args.list.now) (c.args.opening.lower == c.threshold-threshold.result)) (c.in_ok-end.ensures.text ∙ c.in_ok-nodes.ensures.text)
+    (all_verified P c.end.new.lines c.args.opening c.args.list.now c.nodes.new.walk.least over c.in_ok-end.ensures.over c.law_limits.ensures (rw c.least.ensures at c.if-least-opening.false) c.threshold-threshold.result c.threshold-threshold.ensures)

@@ -6,7 +6,7 @@ use Rattle.cfn_cli.specs.Arguments.{budget_rule, certificate_rule, file_rule, ou
 use Rattle.cfn_cli.specs.Building.{Builds}
 use Rattle.cfn_cli.specs.Request.{IsLine, command_line}
 use Rattle.cfn_cli.specs.Request.Checking.{check_app}
-use Rattle.cfn_cli.specs.Request.CheckingBest.{check_best_app}
+use Rattle.cfn_cli.specs.Request.CheckingBest.{check_best_app, complete_rule}
 use Rattle.cfn_cli.specs.Request.Costing.{cost_app, values_rule}
 use Rattle.cfn_cli.specs.Request.Listing.{count_rule, k_best_app}
 use Rattle.cfn_cli.specs.Request.Merging.{certificates_rule, merge_app}
@@ -20,11 +20,11 @@ use Rattle.cfn_cli.proofs.Building.{begun, command_required, under_added, under_
 use Rattle.cfn_cli.proofs.commands.command_line.Goals as goal
 
 line_is_simple : is_simple command_line ≡ true
-unfolding command_line solve_app check_app cost_app normal_app trial_app migrate_app rebase_app merge_app replay_app k_best_app check_best_app record_rule recording_rule count_rule file_rule certificate_rule certificates_rule out_rule old_rule part_rule parts_rule seed_rule size_rule workers_rule budget_rule seconds_rule values_rule wcnf_rule progress_rule
+unfolding command_line solve_app check_app cost_app normal_app trial_app migrate_app rebase_app merge_app replay_app k_best_app check_best_app complete_rule record_rule recording_rule count_rule file_rule certificate_rule certificates_rule out_rule old_rule part_rule parts_rule seed_rule size_rule workers_rule budget_rule seconds_rule values_rule wcnf_rule progress_rule
 line_is_simple = refl
 
 line_is_free : is_simple_and_free command_line ≡ true
-unfolding command_line solve_app check_app cost_app normal_app trial_app migrate_app rebase_app merge_app replay_app k_best_app check_best_app record_rule recording_rule count_rule file_rule certificate_rule certificates_rule out_rule old_rule part_rule parts_rule seed_rule size_rule workers_rule budget_rule seconds_rule values_rule wcnf_rule progress_rule
+unfolding command_line solve_app check_app cost_app normal_app trial_app migrate_app rebase_app merge_app replay_app k_best_app check_best_app complete_rule record_rule recording_rule count_rule file_rule certificate_rule certificates_rule out_rule old_rule part_rule parts_rule seed_rule size_rule workers_rule budget_rule seconds_rule values_rule wcnf_rule progress_rule
 line_is_free = refl
 
 is_line : (c : Command) → Builds command_line c → IsLine c

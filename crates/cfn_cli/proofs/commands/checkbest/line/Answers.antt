@@ -8,4 +8,5 @@ returns c =
     let start = begun _ _ c.new.ensures.app c.new.ensures.local in
     let with_file = argument_first _ _ _ _ _ c.with-line.ensures start c.file.ensures.rule c.file.ensures.local in
     let with_certificate = argument_with _ _ _ _ _ c.with-line-2.ensures with_file c.certificate.ensures.rule c.certificate.ensures.local in
-    argument_with _ _ _ _ _ c.with.ensures with_certificate c.wcnf.ensures.rule c.wcnf.ensures.local
+    let with_wcnf = argument_with _ _ _ _ _ c.with-line-3.ensures with_certificate c.wcnf.ensures.rule c.wcnf.ensures.local in
+    argument_with _ _ _ _ _ c.with.ensures with_wcnf c.complete.ensures.rule c.complete.ensures.local
