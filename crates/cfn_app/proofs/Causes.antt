@@ -1,5 +1,5 @@
 -- Each result of a search comes exactly with its cause.
-use Rattle.std.proofs.Common.{◌≡◌, true, false, ℕ, ◌<◌, inl, inr, ◌≤◌, List, [], ◌∷◌, length, refl, sym, ap, ◌∙◌, subst, arith}
+use Rattle.std.proofs.Common.{◌≡◌, true, false, ℕ, ◌<◌, inl, inr, List, [], ◌∷◌, refl, sym, ap, ◌∙◌, subst, arith}
 use Rattle.std.proofs.lemmas.Bool.{cases_eq}
 use Rattle.std.specs.Prelude.{Bool, Option, Some, None, IsSomeAnd, IsTrue, is_some}
 use Rattle.cfn_net.specs.Scoring.{Scoring}
@@ -14,6 +14,8 @@ use Rattle.cfn_model.specs.Steps.{after}
 use Rattle.cfn_model.specs.Tree.{Tree, Open, Closed, Split, OpenBelow, open_leaves, bound}
 use Rattle.cfn_model.specs.Certificate.{Solution, Certificate, Good, threshold, threshold_of}
 use Rattle.cfn_model.proofs.CallerLemmas.{lower_bounds, none_below, optimum}
+use Rattle.cfn_machine.specs.Parts.{HasOwn, AllOthers}
+use Rattle.cfn_machine.proofs.CallerLemmas.{has_paths}
 use Rattle.cfn_low.specs.declared.outcome.Stop.{Stop}
 use Rattle.cfn_low.specs.declared.outcome.Stop.TheVariants.{Done, Budget, Time, Part, Memory}
 use Rattle.cfn_low.specs.Outcome.{Limits, Start, IsSearched, HasCause}
@@ -52,26 +54,39 @@ not_both b off on = false_true (sym off ∙ on)
     false_true : false ≡ true → ⊥
     false_true e = cc
 
+-- an open leaf that was not left to others is open, and not all are others' then; where none was left, none is others'
+own_open : (aside : List (List Event)) (tree : Tree) → HasOwn aside tree → 0 < open_leaves tree
+own_open aside tree own = (has_paths tree).1 (own.0, own.1)
+
+own_not_others : (aside : List (List Event)) (tree : Tree) → HasOwn aside tree → AllOthers aside tree → ⊥
+own_not_others aside tree own others = own.2 (others own.0 own.1)
+
+pub none_others : (tree : Tree) → (0 < open_leaves tree) × AllOthers [] tree → ⊥
+none_others tree left =
+    let some = (has_paths tree).0 left.0 in
+    let there = left.1 some.0 some.1 in
+    let few = there.1 in omega (arith, few)
+
 -- the causes by the best, where all leaves are closed, and where one is open
-module _ (limits : Limits) (others nodes : ℕ) (c : Certificate) where
-  done : (best : Option Solution) → c.best ≡ best → open_leaves c.tree ≡ 0 → c.lower ≡ threshold_of c.upper best → HasCauses limits others nodes c (word_when_done best)
+module _ (limits : Limits) (aside : List (List Event)) (nodes : ℕ) (c : Certificate) where
+  done : (best : Option Solution) → c.best ≡ best → open_leaves c.tree ≡ 0 → c.lower ≡ threshold_of c.upper best → HasCauses limits aside nodes c (word_when_done best)
   done None is none lower = record {
     optimum = (λ e. absurd (omega (arith, ap place e)), λ has. absurd (let h : ⊥ = subst (λ b. IsSomeAnd b (λ best. c.lower ≡ best.cost)) is has in h));
     none = (λ e. (is, lower), λ has. refl);
-    budget_spent = (λ e. absurd (omega (arith, ap place e)), λ cause. absurd (omega (arith, cause.0)));
     left_to_others = (λ e. absurd (omega (arith, ap place e)), λ cause. absurd (omega (arith, cause.0)));
+    budget_spent = (λ e. absurd (omega (arith, ap place e)), λ cause. absurd (let some = own_open aside c.tree cause.0 in omega (arith, some)));
     time_past = λ e. absurd (omega (arith, ap place e));
     memory_refused = λ e. absurd (omega (arith, ap place e));
-    memory_alone = λ untimed more fewer. absurd (omega (arith, more));
+    memory_alone = λ untimed own fewer. absurd (let some = own_open aside c.tree own in omega (arith, some));
   }
   done (Some b) is none lower = record {
     optimum = (λ e. subst (λ o. IsSomeAnd o (λ best. c.lower ≡ best.cost)) (sym is) lower, λ has. refl);
     none = (λ e. absurd (omega (arith, ap place e)), λ has. absurd (some_none (sym is ∙ has.0)));
-    budget_spent = (λ e. absurd (omega (arith, ap place e)), λ cause. absurd (omega (arith, cause.0)));
     left_to_others = (λ e. absurd (omega (arith, ap place e)), λ cause. absurd (omega (arith, cause.0)));
+    budget_spent = (λ e. absurd (omega (arith, ap place e)), λ cause. absurd (let some = own_open aside c.tree cause.0 in omega (arith, some)));
     time_past = λ e. absurd (omega (arith, ap place e));
     memory_refused = λ e. absurd (omega (arith, ap place e));
-    memory_alone = λ untimed more fewer. absurd (omega (arith, more));
+    memory_alone = λ untimed own fewer. absurd (let some = own_open aside c.tree own in omega (arith, some));
   }
     where
       some_none : Some b ≡ None → ⊥
@@ -84,48 +99,48 @@ module _ (limits : Limits) (others nodes : ℕ) (c : Certificate) where
   no_none : c.lower < threshold c → HasNone c → ⊥
   no_none lower has = let k : threshold c ≡ c.upper = ap (threshold_of c.upper) has.0 in omega (arith, k, has.1)
 
-  spent : c.lower < threshold c → 0 < open_leaves c.tree → nodes ≡ limits.budget → HasCauses limits others nodes c words.Budget
-  spent lower some same = record {
+  left : c.lower < threshold c → 0 < open_leaves c.tree → AllOthers aside c.tree → HasCauses limits aside nodes c words.Part
+  left lower some others = record {
     optimum = (λ e. absurd (omega (arith, ap place e)), λ has. absurd (no_optimum c.best refl lower has));
     none = (λ e. absurd (omega (arith, ap place e)), λ has. absurd (no_none lower has));
-    budget_spent = (λ e. (some, same), λ cause. refl);
-    left_to_others = (λ e. absurd (omega (arith, ap place e)), λ cause. absurd (omega (arith, same, cause.2)));
+    left_to_others = (λ e. (some, others), λ cause. refl);
+    budget_spent = (λ e. absurd (omega (arith, ap place e)), λ cause. absurd (own_not_others aside c.tree cause.0 others));
     time_past = λ e. absurd (omega (arith, ap place e));
     memory_refused = λ e. absurd (omega (arith, ap place e));
-    memory_alone = λ untimed more fewer. absurd (omega (arith, same, fewer));
+    memory_alone = λ untimed own less. absurd (own_not_others aside c.tree own others);
   }
 
-  left : c.lower < threshold c → 0 < open_leaves c.tree → open_leaves c.tree ≤ others → nodes < limits.budget → HasCauses limits others nodes c words.Part
-  left lower some few fewer = record {
+  spent : c.lower < threshold c → HasOwn aside c.tree → nodes ≡ limits.budget → HasCauses limits aside nodes c words.Budget
+  spent lower own same = record {
     optimum = (λ e. absurd (omega (arith, ap place e)), λ has. absurd (no_optimum c.best refl lower has));
     none = (λ e. absurd (omega (arith, ap place e)), λ has. absurd (no_none lower has));
-    budget_spent = (λ e. absurd (omega (arith, ap place e)), λ cause. absurd (omega (arith, fewer, cause.1)));
-    left_to_others = (λ e. (some, few, fewer), λ cause. refl);
+    left_to_others = (λ e. absurd (omega (arith, ap place e)), λ cause. absurd (own_not_others aside c.tree own cause.1));
+    budget_spent = (λ e. (own, same), λ cause. refl);
     time_past = λ e. absurd (omega (arith, ap place e));
     memory_refused = λ e. absurd (omega (arith, ap place e));
-    memory_alone = λ untimed more less. absurd (omega (arith, few, more));
+    memory_alone = λ untimed also fewer. absurd (omega (arith, same, fewer));
   }
 
-  past : c.lower < threshold c → others < open_leaves c.tree → nodes < limits.budget → limits.timed ≡ true → HasCauses limits others nodes c words.Time
-  past lower more fewer timed = record {
+  past : c.lower < threshold c → HasOwn aside c.tree → nodes < limits.budget → limits.timed ≡ true → HasCauses limits aside nodes c words.Time
+  past lower own fewer timed = record {
     optimum = (λ e. absurd (omega (arith, ap place e)), λ has. absurd (no_optimum c.best refl lower has));
     none = (λ e. absurd (omega (arith, ap place e)), λ has. absurd (no_none lower has));
+    left_to_others = (λ e. absurd (omega (arith, ap place e)), λ cause. absurd (own_not_others aside c.tree own cause.1));
     budget_spent = (λ e. absurd (omega (arith, ap place e)), λ cause. absurd (omega (arith, fewer, cause.1)));
-    left_to_others = (λ e. absurd (omega (arith, ap place e)), λ cause. absurd (omega (arith, more, cause.1)));
-    time_past = λ e. (timed, more, fewer);
+    time_past = λ e. (timed, own, fewer);
     memory_refused = λ e. absurd (omega (arith, ap place e));
-    memory_alone = λ untimed other less. absurd (not_both limits.timed untimed timed);
+    memory_alone = λ untimed also less. absurd (not_both limits.timed untimed timed);
   }
 
-  out_of_memory : c.lower < threshold c → others < open_leaves c.tree → nodes < limits.budget → HasCauses limits others nodes c words.Memory
-  out_of_memory lower more fewer = record {
+  out_of_memory : c.lower < threshold c → HasOwn aside c.tree → nodes < limits.budget → HasCauses limits aside nodes c words.Memory
+  out_of_memory lower own fewer = record {
     optimum = (λ e. absurd (omega (arith, ap place e)), λ has. absurd (no_optimum c.best refl lower has));
     none = (λ e. absurd (omega (arith, ap place e)), λ has. absurd (no_none lower has));
+    left_to_others = (λ e. absurd (omega (arith, ap place e)), λ cause. absurd (own_not_others aside c.tree own cause.1));
     budget_spent = (λ e. absurd (omega (arith, ap place e)), λ cause. absurd (omega (arith, fewer, cause.1)));
-    left_to_others = (λ e. absurd (omega (arith, ap place e)), λ cause. absurd (omega (arith, more, cause.1)));
     time_past = λ e. absurd (omega (arith, ap place e));
-    memory_refused = λ e. (more, fewer);
-    memory_alone = λ untimed other less. refl;
+    memory_refused = λ e. (own, fewer);
+    memory_alone = λ untimed also less. refl;
   }
 
   module _ (P : Network) (start : Start) (rows : List Row) where
@@ -133,12 +148,16 @@ module _ (limits : Limits) (others nodes : ℕ) (c : Certificate) where
     open_below : (stop : Stop) → IsSearched P start limits nodes c rows stop → 0 < open_leaves c.tree → c.lower < threshold c
     open_below stop s some = let b = bound_open P [] c.tree (threshold c) s.below some in omega (arith, b, s.lower)
 
-    causes : (stop : Stop) → IsSearched P start limits nodes c rows stop → HasCause stop (open_leaves c.tree) nodes limits others → HasCauses limits others nodes c (word_of stop c.best)
+    -- so it is where one of its own is
+    own_below : (stop : Stop) → IsSearched P start limits nodes c rows stop → HasOwn aside c.tree → c.lower < threshold c
+    own_below stop s own = open_below stop s (own_open aside c.tree own)
+
+    causes : (stop : Stop) → IsSearched P start limits nodes c rows stop → HasCause stop aside c.tree nodes limits → HasCauses limits aside nodes c (word_of stop c.best)
     causes Done s cause = done c.best refl cause (s.lower ∙ bound_closed P [] c.tree (threshold c) cause)
-    causes Budget s cause = spent (open_below Budget s cause.0) cause.0 cause.1
-    causes Part s cause = left (open_below Part s cause.0) cause.0 cause.1 cause.2
-    causes Time s cause = past (open_below Time s (let h = cause.0 in omega (arith, h))) cause.0 cause.1 cause.2
-    causes Memory s cause = out_of_memory (open_below Memory s (let h = cause.0 in omega (arith, h))) cause.0 cause.1
+    causes Part s cause = left (open_below Part s cause.0) cause.0 cause.1
+    causes Budget s cause = spent (own_below Budget s cause.0) cause.0 cause.1
+    causes Time s cause = past (own_below Time s cause.0) cause.0 cause.1 cause.2
+    causes Memory s cause = out_of_memory (own_below Memory s cause.0) cause.0 cause.1
 
 -- an optimum is one, and without one every assignment costs the upper bound
 least_of : (P : Network) (c : Certificate) (best : Option Solution) → c.best ≡ best → IsNetwork P → Good P c → IsSomeAnd best (λ b. c.lower ≡ b.cost) → IsSomeAnd best (λ b. Least P b.cost)
@@ -147,7 +166,7 @@ least_of P c (Some b) is network good h = optimum P c b network good is h
 
 pub promised : (P : Network) (start : Start) (limits : Limits) (nodes : ℕ) (c : Certificate) (rows : List Row) (stop : Stop) → IsNetwork P → IsSearched P start limits nodes c rows stop → Promise P start limits nodes c rows (word_of stop c.best)
 promised P start limits nodes c rows stop network s =
-    let by_cause = causes limits (length start.aside) nodes c P start rows stop s s.cause in
+    let by_cause = causes limits start.aside nodes c P start rows stop s s.cause in
     record {
       good = s.good;
       spelled = s.spelled;

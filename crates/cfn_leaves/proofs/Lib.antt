@@ -22,3 +22,4 @@ pub mod Halves
 pub mod Climbs
 pub mod Outs
 pub mod Lending
+pub mod Actives

@@ -1,15 +1,15 @@
 -- What every search owes.
-use Rattle.std.specs.Prelude.{◌≡◌, true, false, ℕ, ◌+◌, ◌<◌, ◌≤◌, min, Bool, List, [], ◌∷◌, length, Contains, None, IfSome, IsSomeAnd}
+use Rattle.std.specs.Prelude.{◌≡◌, true, false, ℕ, ◌+◌, ◌<◌, ◌≤◌, min, Bool, List, [], ◌∷◌, Contains, None, IfSome, IsSomeAnd}
 use Rattle.std.specs.List.{AllByRecursion}
 use Rattle.cfn_model.specs.declared.report.Row.{Row}
 use Rattle.cfn_model.specs.declared.step.Event.{Event}
 use Rattle.cfn_model.specs.Network.{Network, Fits, cost}
 use Rattle.cfn_model.specs.Sums.{floor}
-use Rattle.cfn_model.specs.Tree.{count, splits, open_leaves, Strict, OpenBelow, bound}
+use Rattle.cfn_model.specs.Tree.{Tree, count, splits, open_leaves, Strict, OpenBelow, bound}
 use Rattle.cfn_model.specs.Paths.{Tame}
 use Rattle.cfn_model.specs.Certificate as model
 use Rattle.cfn_model.specs.Text.{IsSpelled}
-use Rattle.cfn_machine.specs.Parts.{EndsAt}
+use Rattle.cfn_machine.specs.Parts.{EndsAt, HasOwn, AllOthers}
 use Rattle.cfn_proof.specs.Certificates.{certificate_of}
 use Rattle.cfn_low.specs.declared.outcome.Stop.{Stop}
 use Rattle.cfn_low.specs.declared.outcome.Stop.TheVariants.{Done, Budget, Time, Part, Memory}
@@ -27,15 +27,15 @@ nodes_alone budget = record { budget = budget; timed = false }
 abbrev pub timed_nodes : ℕ → Bool → Limits
 timed_nodes budget timed = record { budget = budget; timed = timed }
 
--- Why a search stopped, where so many leaves were left to others: no leaf is open; one is, and the budget is spent; or one is, and
--- the budget is not spent: no more leaves are open than were left to others; or more are, and time is past, where there is a limit
--- of it, or memory was refused.
-abbrev pub HasCause : Stop → ℕ → ℕ → Limits → ℕ → Type 0
-HasCause Done leaves nodes limits others = leaves ≡ 0
-HasCause Budget leaves nodes limits others = (0 < leaves) × (nodes ≡ limits.budget)
-HasCause Part leaves nodes limits others = (0 < leaves) × (leaves ≤ others) × (nodes < limits.budget)
-HasCause Time leaves nodes limits others = (others < leaves) × (nodes < limits.budget) × (limits.timed ≡ true)
-HasCause Memory leaves nodes limits others = (others < leaves) × (nodes < limits.budget)
+-- Why a search stopped, where the leaves with these paths were left to others: no leaf is open; or leaves are, and all of them are
+-- others'; or one of its own is, and the budget is spent; or one of its own is, the budget is not spent, and time is past, where there
+-- is a limit of it, or memory was refused.
+abbrev pub HasCause : Stop → List (List Event) → Tree → ℕ → Limits → Type 0
+HasCause Done aside tree nodes limits = open_leaves tree ≡ 0
+HasCause Part aside tree nodes limits = (0 < open_leaves tree) × AllOthers aside tree
+HasCause Budget aside tree nodes limits = HasOwn aside tree × (nodes ≡ limits.budget)
+HasCause Time aside tree nodes limits = HasOwn aside tree × (nodes < limits.budget) × (limits.timed ≡ true)
+HasCause Memory aside tree nodes limits = HasOwn aside tree × (nodes < limits.budget)
 
 -- What a search begins with: how many splits and closed leaves its tree has, the first row of bounds, and the paths of the open
 -- leaves that it leaves to others.
@@ -88,7 +88,7 @@ pub record IsSearched (P : Network) (start : Start) (limits : Limits) (nodes : �
   pub allowed : nodes ≤ limits.budget
   pub others : (path : List Event) → Contains start.aside path → EndsAt c.tree [] path
   pub rows_hold : RowsHold P start c rows
-  pub cause : HasCause stop (open_leaves c.tree) nodes limits (length start.aside)
+  pub cause : HasCause stop start.aside c.tree nodes limits
 
 abbrev pub IsOutcome : Network → Start → Limits → Outcome → Type 0
 IsOutcome P start limits outcome = IsSearched P start limits outcome.nodes (certificate_of outcome.certificate) outcome.rows.items outcome.stop

@@ -8,13 +8,13 @@ use cfn_proof::Certificate;
 pub enum Stop {
     /// No leaf is open.
     Done,
-    /// A leaf is open, and as many nodes were expanded as the budget allows.
+    /// A leaf is open that was not left to others, and as many nodes were expanded as the budget allows.
     Budget,
-    /// A leaf is open, fewer nodes were expanded than the budget allows, and the limit of time is past.
+    /// A leaf is open that was not left to others, fewer nodes were expanded than the budget allows, and the limit of time is past.
     Time,
-    /// A leaf is open, fewer nodes were expanded than the budget allows, and the open leaves are left to others.
+    /// A leaf is open, and all that are open were left to others.
     Part,
-    /// A leaf is open, and fewer nodes were expanded than the budget allows: memory was refused.
+    /// A leaf is open that was not left to others, and fewer nodes were expanded than the budget allows: memory was refused.
     Memory,
 }
 

@@ -9,5 +9,5 @@ pub use Rattle.cfn_machine.proofs.Tracing.{hands_out, takes_out}
 pub use Rattle.cfn_machine.proofs.Outgoing.{stays_out, was_out}
 pub use Rattle.cfn_machine.proofs.Answering.{leaf_open, one_path, takes_or_none, never_both, one_lack, gives_or_not, gives_out, returns_or_not, returns_out, one_task, one_pool}
 pub use Rattle.cfn_machine.proofs.Words.{best_top}
-pub use Rattle.cfn_machine.proofs.Parting.{keeps_aside, opens_part, sets_aside, counts_others, dealt_is, dealt_whole, ends_others}
+pub use Rattle.cfn_machine.proofs.Parting.{keeps_aside, opens_part, sets_aside, was_aside, dealt_is, dealt_whole, ends_others, tells_own, has_paths}
 pub use Rattle.cfn_machine.proofs.Answering.{free_active, granted_active, none_active}

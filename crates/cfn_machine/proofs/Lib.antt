@@ -11,3 +11,4 @@ pub mod Parting
 pub mod CallerLemmas
 pub mod Rows
 pub mod Words
+pub mod PartRows

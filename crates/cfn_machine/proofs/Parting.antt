@@ -1,23 +1,27 @@
 -- Leaves that are set aside at the opening.
-use Rattle.std.proofs.Common.{◌≡◌, ℕ, zero, suc, ◌+◌, ◌≤◌, inl, inr, List, [], ◌∷◌, ◌++◌, length, length-append, refl, sym, ap, ap₂, ◌∙◌, subst, arith, true, false, Bool, if◌then◌else◌, nat_le}
+use Rattle.std.proofs.Common.{◌≡◌, ℕ, zero, suc, ◌+◌, ◌<◌, ◌≤◌, inl, inr, List, [], ◌∷◌, ◌++◌, length, length-append, refl, sym, ap, ap₂, ◌∙◌, subst, arith, true, false, Bool, if◌then◌else◌, nat_le, Contains, leb-true, leb-false}
 use Rattle.std.specs.List.{AllByRecursion}
-use Rattle.std.proofs.lemmas.List.Elements.{All-contains, All-from_recursion}
+use Rattle.std.specs.Prelude.{◌==◌}
+use Rattle.std.proofs.lemmas.Bool.{cases_eq, ne_eqb}
+use Rattle.std.proofs.lemmas.List.{append_assoc}
+use Rattle.std.proofs.lemmas.List.Elements.{All-contains, All-from_recursion, Contains-append_left, Contains-append_right}
 use Rattle.cfn_model.specs.declared.step.Event.{Event}
-use Rattle.cfn_model.specs.declared.step.Event.TheVariants.{Took, Refused}
+use Rattle.cfn_model.specs.declared.step.Event.TheVariants.{Did, Took, Refused}
 use Rattle.cfn_model.specs.Network.{Network}
 use Rattle.cfn_model.specs.Sums.{floor}
 use Rattle.cfn_model.specs.Steps.{after}
 use Rattle.cfn_model.specs.declared.step.Step.{Step}
 use Rattle.cfn_model.specs.Tree.{Tree, Open, Closed, Split, Valid, Strict, count, splits, open_leaves}
 use Rattle.cfn_model.specs.Paths.{Tame}
-use Rattle.cfn_machine.specs.Pool.{Mark, Free, Out, PoolTree, Leaf, Shut, Fork, tree_of, IsLeaf, granted, grant_of, numbered, recalled, swept, mark_for, dealt, Pool, leaves_with, AreNumbered, opening_with, price}
-use Rattle.cfn_machine.specs.Steps.{Takes, Gives, Returns, Recalls, Sweeps, Meets, Notes}
-use Rattle.cfn_machine.specs.Parts.{others_from, others_among, IsAside, EndsAt}
-use Rattle.cfn_machine.specs.Laws.{OpensPart, KeepsAside, SetsAside, CountsOthers, EndsOthers}
+use Rattle.cfn_machine.specs.Pool.{Mark, Free, Out, PoolTree, Leaf, Shut, Fork, tree_of, IsLeaf, granted, grant_of, numbered, recalled, swept, mark_for, dealt, active_mark, Task, Pool, leaves_with, AreNumbered, opening_with, price}
+use Rattle.cfn_machine.specs.Steps.{PoolStep, PoolSteps, Takes, Gives, Returns, Recalls, Sweeps, Meets, Notes}
+use Rattle.cfn_machine.specs.Parts.{others_from, IsAside, EndsAt, OpenAt, HasOwn, AllOthers, HasActiveBelow, NoneActiveBelow}
+use Rattle.cfn_machine.specs.Laws.{IsPool, IsTaken, OpensPart, KeepsAside, SetsAside, EndsOthers, WasAside, TellsOwnLeaves, HasPaths}
 use Rattle.cfn_machine.proofs.Keeping.{opens_with, rows_kept}
 use Rattle.cfn_machine.proofs.Answering.{one_path}
 use Rattle.cfn_machine.proofs.Numbering.{same_grant, replaced_leaf}
-use Rattle.cfn_machine.proofs.Outgoing.{stays_out}
+use Rattle.cfn_machine.proofs.Outgoing.{stays_out, was_out}
+use Rattle.cfn_machine.proofs.Tracing.{hands_out}
 
 pub dealt_is : (mine : ℕ → Bool) (tree : PoolTree) → tree_of (dealt mine tree) ≡ tree_of tree
 dealt_is mine (Leaf number mark block) = refl
@@ -130,48 +134,42 @@ aside_from mine (Split block d first second) next history =
     (all_weaker (AsideFrom one (Took d ∷ after block history)) whole (λ path at. (at.0, at.1, inl at.2)) left (aside_from mine first next (Took d ∷ after block history)))
     (all_weaker (AsideFrom two (Refused d ∷ after block history)) whole (λ path at. (at.0, at.1, inr at.2)) right (aside_from mine second (next + open_leaves first) (Refused d ∷ after block history)))
 
+-- and no more
+one_aside : (t : Bool) (next : ℕ) (block : List Step) (history : List Event) (n worker : ℕ) (path : List Event) → IsLeaf (Leaf next (mark_for t) block) history n (Out worker 0) path → Contains (if t then [] else after block history ∷ []) path
+one_aside true next block history n worker path at = absurd (let free : Free ≡ Out worker 0 = at.1 in cc)
+one_aside false next block history n worker path at = (0, omega arith, sym at.2)
+
+aside_only : (mine : ℕ → Bool) (tree : Tree) (next : ℕ) (history : List Event) (n worker : ℕ) (path : List Event) → IsLeaf (dealt mine (numbered next tree)) history n (Out worker 0) path → Contains (others_from mine next history tree) path
+aside_only mine (Open block) next history n worker path at = one_aside (mine next) next block history n worker path at
+aside_only mine (Closed block) next history n worker path at = absurd at
+aside_only mine (Split block d first second) next history n worker path (inl at) = Contains-append_left _ _ path (aside_only mine first next (Took d ∷ after block history) n worker path at)
+aside_only mine (Split block d first second) next history n worker path (inr at) = Contains-append_right _ _ path (aside_only mine second (next + open_leaves first) (Refused d ∷ after block history) n worker path at)
+
 pub sets_aside : SetsAside
-sets_aside mine tree path there =
+sets_aside mine tree path =
     let others = others_from mine 0 [] tree in
-    let aside = AsideFrom (dealt mine (numbered 0 tree)) [] in All-contains aside others path (All-from_recursion aside others (aside_from mine tree 0 [])) there
+    let aside = AsideFrom (dealt mine (numbered 0 tree)) [] in
+    (λ there. All-contains aside others path (All-from_recursion aside others (aside_from mine tree 0 [])) there, λ at. aside_only mine tree 0 [] at.0 at.1 path at.2)
 
--- how many they are
-pub others_split : (mine : ℕ → Bool) (next a b : ℕ) → others_among mine next (a + b) ≡ others_among mine next a + others_among mine (next + a) b
-others_split mine next zero b =
-    let front : others_among mine next (0 + b) ≡ others_among mine next b = ap (others_among mine next) (let e : 0 + b ≡ b = omega arith in e) in
-    let back : others_among mine (next + 0) b ≡ others_among mine next b = ap (λ n. others_among mine n b) (let e : next + 0 ≡ next = omega arith in e) in
-    omega (arith, front, back)
-others_split mine next (suc a) b =
-    let rest = others_split mine (next + 1) a b in
-    let at : others_among mine (next + 1 + a) b ≡ others_among mine (next + suc a) b = ap (λ n. others_among mine n b) (let e : next + 1 + a ≡ next + suc a = omega arith in e) in
-    let one : others_among mine next (suc a + b) ≡ others_among mine next (suc (a + b)) = ap (others_among mine next) (let e : suc a + b ≡ suc (a + b) = omega arith in e) in
-    omega (arith, one, rest, at)
+-- a task that is handed out may make a node at least
+not_handed : (P : Network) (pool new : Pool) (word : ℕ) (step : PoolStep) (task : Task) → IsPool P pool → PoolSteps P pool word step new → task.grant ≡ 0 → IsTaken step task → ⊥
+not_handed P pool new word (Takes worker want taken) task is step none same =
+    let some = (hands_out P pool new worker want taken is.sound step).0.some in
+    let e = ap (λ (t : Task). t.grant) same in omega (arith, some, none, e)
+not_handed P pool new word (Gives piece) task is step none same = same
+not_handed P pool new word (Returns back) task is step none same = same
+not_handed P pool new word Recalls task is step none same = same
+not_handed P pool new word Sweeps task is step none same = same
+not_handed P pool new word (Meets view) task is step none same = same
+not_handed P pool new word Notes task is step none same = same
 
-abbrev as_other : Bool → ℕ
-as_other own = if own then 0 else 1
-
-pub counted_on : (mine : ℕ → Bool) (leaf others now : ℕ) (t : Bool) → others ≡ others_among mine 0 leaf → t ≡ mine leaf → now ≡ others + (if t then 0 else 1) → now ≡ others_among mine 0 (leaf + 1)
-counted_on mine leaf others now t so_far is now_is =
-    let split = others_split mine 0 leaf 1 in
-    let at : others_among mine (0 + leaf) 1 ≡ others_among mine leaf 1 = ap (λ n. others_among mine n 1) (let e : 0 + leaf ≡ leaf = omega arith in e) in
-    let one = ap as_other is in
-    omega (arith, so_far, now_is, split, at, one)
-
-open_counts : (t : Bool) (path : List Event) → length (if t then [] else path ∷ []) ≡ (if t then 0 else 1) + 0
-open_counts true path = refl
-open_counts false path = refl
-
-count_from : (mine : ℕ → Bool) (tree : Tree) (next : ℕ) (history : List Event) → length (others_from mine next history tree) ≡ others_among mine next (open_leaves tree)
-count_from mine (Open block) next history = open_counts (mine next) (after block history)
-count_from mine (Closed block) next history = refl
-count_from mine (Split block d first second) next history =
-    let both = length-append (others_from mine next (Took d ∷ after block history) first) (others_from mine (next + open_leaves first) (Refused d ∷ after block history) second) in
-    let left = count_from mine first next (Took d ∷ after block history) in
-    let right = count_from mine second (next + open_leaves first) (Refused d ∷ after block history) in
-    omega (arith, both, left, right, others_split mine next (open_leaves first) (open_leaves second))
-
-pub counts_others : CountsOthers
-counts_others mine tree = count_from mine tree 0 []
+pub was_aside : WasAside
+was_aside P pool new word step is steps path at =
+    let task : Task = record { leaf = at.0; worker = at.1; grant = 0; floor = floor P path; path = path } in
+    elim (was_out P pool new word step task is.numbered steps at.2 refl) [
+      | inl before ↦ (at.0, at.1, before.0)
+      | inr taken ↦ absurd (not_handed P pool new word step task is steps refl taken)
+    ]
 
 -- they are still there once all leaves were called back and swept
 swept_ends : (t : Bool) (number : ℕ) (block : List Step) (history path : List Event) → path ≡ after block history → EndsAt (tree_of (if t then Shut block else Leaf number Free block)) history path
@@ -186,3 +184,115 @@ ends_from P k (Fork block d first second) history n worker path (inr at) = inr (
 
 pub ends_others : EndsOthers
 ends_others P k tree path aside = ends_from P k tree [] aside.0 aside.1 path aside.2
+
+-- leaves of different sides of a split have different paths
+after_behind : (block : List Step) (history : List Event) → (more : List Event) × (after block history ≡ more ++ history)
+after_behind [] history = ([], refl)
+after_behind (step ∷ block) history =
+    let a = after_behind block (Did step ∷ history) in
+    (a.0 ++ Did step ∷ [], a.1 ∙ sym (append_assoc a.0 (Did step ∷ []) history))
+
+side_behind : (block : List Step) (history : List Event) (side : Event) (path : List Event) → (more : List Event) × (path ≡ more ++ (side ∷ after block history)) → (more : List Event) × (path ≡ more ++ history)
+side_behind block history side path (more, is) =
+    let a = after_behind block history in
+    (more ++ side ∷ a.0, is ∙ ap (λ h. more ++ side ∷ h) a.1 ∙ sym (append_assoc more (side ∷ a.0) history))
+
+leaf_behind : (tree : PoolTree) (history : List Event) (n : ℕ) (mark : Mark) (path : List Event) → IsLeaf tree history n mark path → (more : List Event) × (path ≡ more ++ history)
+leaf_behind (Leaf number m block) history n mark path at = (let a = after_behind block history in (a.0, at.2 ∙ a.1))
+leaf_behind (Shut block) history n mark path at = absurd at
+leaf_behind (Fork block d first second) history n mark path (inl at) = side_behind block history (Took d) path (leaf_behind first (Took d ∷ after block history) n mark path at)
+leaf_behind (Fork block d first second) history n mark path (inr at) = side_behind block history (Refused d) path (leaf_behind second (Refused d ∷ after block history) n mark path at)
+
+other_sides : (x y history : List Event) (a b : Event) → x ++ a ∷ history ≡ y ++ b ∷ history → a ≡ b
+other_sides [] [] history a b same = head_same same
+  where
+    head_same : a ∷ history ≡ b ∷ history → a ≡ b
+    head_same e = cc
+other_sides [] (e ∷ y) history a b same = absurd (let long = ap length same in let l = length-append y (b ∷ history) in omega (arith, long, l))
+other_sides (e ∷ x) [] history a b same = absurd (let long = ap length same in let l = length-append x (a ∷ history) in omega (arith, long, l))
+other_sides (e ∷ x) (f ∷ y) history a b same = other_sides x y history a b (tail_same same)
+  where
+    tail_same : e ∷ (x ++ a ∷ history) ≡ f ∷ (y ++ b ∷ history) → x ++ a ∷ history ≡ y ++ b ∷ history
+    tail_same e = cc
+
+pub one_mark : (tree : PoolTree) (history : List Event) (n m : ℕ) (mark other : Mark) (path : List Event) → IsLeaf tree history n mark path → IsLeaf tree history m other path → mark ≡ other
+one_mark (Leaf number l block) history n m mark other path at here = sym at.1 ∙ here.1
+one_mark (Shut block) history n m mark other path at here = absurd at
+one_mark (Fork block d first second) history n m mark other path (inl at) (inl here) = one_mark first (Took d ∷ after block history) n m mark other path at here
+one_mark (Fork block d first second) history n m mark other path (inr at) (inr here) = one_mark second (Refused d ∷ after block history) n m mark other path at here
+one_mark (Fork block d first second) history n m mark other path (inl at) (inr here) =
+    let l = leaf_behind first (Took d ∷ after block history) n mark path at in
+    let r = leaf_behind second (Refused d ∷ after block history) m other path here in
+    absurd (let e = other_sides l.0 r.0 (after block history) (Took d) (Refused d) (sym l.1 ∙ r.1) in cc)
+one_mark (Fork block d first second) history n m mark other path (inr at) (inl here) =
+    let l = leaf_behind first (Took d ∷ after block history) m other path here in
+    let r = leaf_behind second (Refused d ∷ after block history) n mark path at in
+    absurd (let e = other_sides l.0 r.0 (after block history) (Took d) (Refused d) (sym l.1 ∙ r.1) in cc)
+
+-- what is open once all leaves were called back and swept
+open_swept : (P : Network) (k number : ℕ) (block : List Step) (history path : List Event) (t : Bool) → nat_le k (floor P (after block history)) ≡ t → path ≡ after block history → floor P path < k →
+    OpenAt (tree_of (if t then Shut block else Leaf number Free block)) history path
+open_swept P k number block history path true test is below = absurd (let h = leb-true _ _ test in let e = ap (floor P) is in omega (arith, h, e, below))
+open_swept P k number block history path false test is below = is
+
+stays_open : (P : Network) (k : ℕ) (tree : PoolTree) (history : List Event) (n : ℕ) (mark : Mark) (path : List Event) → IsLeaf tree history n mark path → floor P path < k → OpenAt (tree_of (swept P k (recalled tree) history)) history path
+stays_open P k (Leaf number m block) history n mark path at below = open_swept P k number block history path (nat_le k (floor P (after block history))) refl at.2 below
+stays_open P k (Shut block) history n mark path at below = absurd at
+stays_open P k (Fork block d first second) history n mark path (inl at) below = inl (stays_open P k first (Took d ∷ after block history) n mark path at below)
+stays_open P k (Fork block d first second) history n mark path (inr at) below = inr (stays_open P k second (Refused d ∷ after block history) n mark path at below)
+
+abbrev WasBelow : Network → ℕ → PoolTree → List Event → List Event → Type 0
+WasBelow P k tree history path = (n : ℕ) × (mark : Mark) × IsLeaf tree history n mark path × (floor P path < k)
+
+swept_below : (P : Network) (k number : ℕ) (mark : Mark) (block : List Step) (history path : List Event) (t : Bool) → nat_le k (floor P (after block history)) ≡ t →
+    OpenAt (tree_of (if t then Shut block else Leaf number Free block)) history path → WasBelow P k (Leaf number mark block) history path
+swept_below P k number mark block history path true test here = absurd here
+swept_below P k number mark block history path false test here = (number, mark, (refl, refl, here), (let h = leb-false _ _ test in let e = ap (floor P) here in omega (arith, h, e)))
+
+was_below : (P : Network) (k : ℕ) (tree : PoolTree) (history path : List Event) → OpenAt (tree_of (swept P k (recalled tree) history)) history path → WasBelow P k tree history path
+was_below P k (Leaf number mark block) history path here = swept_below P k number mark block history path (nat_le k (floor P (after block history))) refl here
+was_below P k (Shut block) history path here = absurd here
+was_below P k (Fork block d first second) history path (inl here) = (let w = was_below P k first (Took d ∷ after block history) path here in (w.0, w.1, inl w.2, w.3))
+was_below P k (Fork block d first second) history path (inr here) = (let w = was_below P k second (Refused d ∷ after block history) path here in (w.0, w.1, inr w.2, w.3))
+
+-- a leaf that is not active is set aside
+not_active : (tree : PoolTree) (n : ℕ) (mark : Mark) (path : List Event) → IsLeaf tree [] n mark path → (active_mark mark ≡ 1 → ⊥) → IsAside tree path
+not_active tree n Free path at idle = absurd (idle refl)
+not_active tree n (Out worker zero) path at idle = (n, worker, at)
+not_active tree n (Out worker (suc grant)) path at idle = absurd (idle (let e : (suc grant == 0) ≡ false = ne_eqb (suc grant) 0 (λ none. omega (arith, none)) in rw e refl))
+
+pub tells_own : TellsOwnLeaves
+tells_own P k tree aside are = (some, none)
+  where
+    some : HasActiveBelow P tree k → HasOwn aside (tree_of (swept P k (recalled tree) []))
+    some (n, mark, path, at, active, below) = (
+      path,
+      stays_open P k tree [] n mark path at below,
+      λ there.
+          let other = (are path).0 there in
+          let same : mark ≡ Out other.1 0 = one_mark tree [] n other.0 mark (Out other.1 0) path at other.2 in
+          let e : active_mark mark ≡ 0 = ap active_mark same in omega (arith, active, e),
+    )
+
+    none : NoneActiveBelow P tree k → AllOthers aside (tree_of (swept P k (recalled tree) []))
+    none all path here =
+        let w = was_below P k tree [] path here in
+        (are path).1 (not_active tree w.0 w.1 path w.2 (λ active. let h = all w.0 w.1 path w.2 active in let below = w.3 in omega (arith, h, below)))
+
+-- open leaves have paths
+some_path : (tree : Tree) (history : List Event) → 0 < open_leaves tree → (path : List Event) × OpenAt tree history path
+some_path (Open block) history some = (after block history, refl)
+some_path (Closed block) history some = absurd (omega (arith, some))
+some_path (Split block d first second) history some = elim (cases_eq (open_leaves first) 0) [
+  | inl none ↦ (let r = some_path second (Refused d ∷ after block history) (omega (arith, some, none)) in (r.0, inr r.1))
+  | inr more ↦ (let l = some_path first (Took d ∷ after block history) (omega (arith, more)) in (l.0, inl l.1))
+]
+
+some_open : (tree : Tree) (history path : List Event) → OpenAt tree history path → 0 < open_leaves tree
+some_open (Open block) history path here = omega arith
+some_open (Closed block) history path here = absurd here
+some_open (Split block d first second) history path (inl here) = (let l = some_open first (Took d ∷ after block history) path here in omega (arith, l))
+some_open (Split block d first second) history path (inr here) = (let r = some_open second (Refused d ∷ after block history) path here in omega (arith, r))
+
+pub has_paths : HasPaths
+has_paths tree = (some_path tree [], λ at. some_open tree [] at.0 at.1)

@@ -1,12 +1,12 @@
 -- What holds of the pool, whatever steps are done and in whatever order.
-use Rattle.std.specs.Prelude.{◌≡◌, Bool, ℕ, ◌+◌, ◌<◌, ◌≤◌, ◌⊎◌, min, List, [], ◌∷◌, ◌++◌, length, Contains, Option}
+use Rattle.std.specs.Prelude.{◌≡◌, ◌↔◌, Bool, ℕ, ◌+◌, ◌<◌, ◌≤◌, ◌⊎◌, min, List, [], ◌∷◌, ◌++◌, length, Contains, Option}
 use Rattle.cfn_model.specs.declared.step.Event.{Event}
 use Rattle.cfn_model.specs.Sums.{floor}
 use Rattle.cfn_model.specs.Network.{Network, IsNetwork, Fits, cost}
 use Rattle.cfn_model.specs.Tree.{Tree, OpenBelow, open_leaves}
 use Rattle.cfn_model.specs.Paths.{Agrees}
 use Rattle.cfn_machine.specs.Pool.{Mark, Out, PoolTree, Leaf, Shut, Fork, tree_of, IsLeaf, IsAnyLeaf, leaf_of, Task, IsTask, Piece, View, Pool, IsSound, AreNumbered, price, KeepsFitting, IsKept, opening_with, opening_part, opening_pool, row_of, numbered, dealt, recalled, swept}
-use Rattle.cfn_machine.specs.Parts.{others_from, others_among, IsAside, EndsAt}
+use Rattle.cfn_machine.specs.Parts.{others_from, IsAside, EndsAt, OpenAt, HasOwn, AllOthers, HasActiveBelow, NoneActiveBelow}
 use Rattle.cfn_machine.specs.Steps.{PoolTakes, Lack, HasNone, IsOut, PoolGives, IsNotOut, PoolReturns, PoolSweeps, joined, PoolStep, Takes, Gives, Returns, Recalls, Sweeps, Meets, Notes, PoolSteps, IsLegal, Move, PoolRuns}
 
 -- The pool is sound, its leaves have numbers of their own, and what it keeps fits.
@@ -26,13 +26,10 @@ OpensWith = (P : Network) (shares budget : ℕ) (tree : Tree) (best : Option (Li
 abbrev pub OpensPart : Type 0
 OpensPart = (mine : ℕ → Bool) (P : Network) (shares budget : ℕ) (tree : Tree) (best : Option (List ℕ)) → IsNetwork P → IsKept P tree best → IsPool P (opening_part mine P shares budget tree best)
 
--- The leaves that are left to others are set aside then; so many they are; and where all leaves were called back and swept each is
+-- The leaves that are left to others are set aside then, and no more; and where all leaves were called back and swept each is
 -- still there, open or closed.
 abbrev pub SetsAside : Type 0
-SetsAside = (mine : ℕ → Bool) (tree : Tree) (path : List Event) → Contains (others_from mine 0 [] tree) path → IsAside (dealt mine (numbered 0 tree)) path
-
-abbrev pub CountsOthers : Type 0
-CountsOthers = (mine : ℕ → Bool) (tree : Tree) → length (others_from mine 0 [] tree) ≡ others_among mine 0 (open_leaves tree)
+SetsAside = (mine : ℕ → Bool) (tree : Tree) (path : List Event) → Contains (others_from mine 0 [] tree) path ↔ IsAside (dealt mine (numbered 0 tree)) path
 
 abbrev pub EndsOthers : Type 0
 EndsOthers = (P : Network) (k : ℕ) (tree : PoolTree) (path : List Event) → IsAside tree path → EndsAt (tree_of (swept P k (recalled tree) [])) [] path
@@ -50,6 +47,20 @@ MayMake Notes = Unit {0}
 abbrev pub KeepsAside : Type 0
 KeepsAside = (P : Network) (pool new : Pool) (word : ℕ) (step : PoolStep) → AreNumbered pool → IsLegal P pool word step → MayMake step → PoolSteps P pool word step new →
     (n worker : ℕ) (path : List Event) → IsLeaf pool.tree [] n (Out worker 0) path → IsLeaf new.tree [] n (Out worker 0) path
+
+-- No step sets another aside.
+abbrev pub WasAside : Type 0
+WasAside = (P : Network) (pool new : Pool) (word : ℕ) (step : PoolStep) → IsPool P pool → PoolSteps P pool word step new → (path : List Event) → IsAside new.tree path → IsAside pool.tree path
+
+-- Where all leaves are called back and swept at a threshold, some open leaf is a search's own where one that was not set aside had
+-- a floor below the threshold, and all are others' where none had.
+abbrev pub TellsOwnLeaves : Type 0
+TellsOwnLeaves = (P : Network) (k : ℕ) (tree : PoolTree) (aside : List (List Event)) → ((path : List Event) → Contains aside path ↔ IsAside tree path) →
+    (HasActiveBelow P tree k → HasOwn aside (tree_of (swept P k (recalled tree) []))) × (NoneActiveBelow P tree k → AllOthers aside (tree_of (swept P k (recalled tree) [])))
+
+-- A tree has open leaves exactly where it has paths of open leaves.
+abbrev pub HasPaths : Type 0
+HasPaths = (tree : Tree) → (0 < open_leaves tree) ↔ ((path : List Event) × OpenAt tree [] path)
 
 abbrev pub KeepsSound : Type 0
 KeepsSound = (P : Network) (pool new : Pool) (word : ℕ) (step : PoolStep) → IsLegal P pool word step → IsSound P pool → PoolSteps P pool word step new → IsSound P new

@@ -1,6 +1,6 @@
 //! What holds of the pool's steps, each the contract of a function with nothing to do.
 
-ghost use Rattle.cfn_machine.specs.Laws.{Opens, OpensWith, OpensPart, KeepsAside, SetsAside, CountsOthers, EndsOthers, KeepsSound, KeepsNumbered, KeepsRows, Keeps, Holds, Agreed, Covered, Rises, SweepsAll, HandsOutTasks, TakesOut, StaysOut, WasOut, TakesOrNone, NeverBoth, OneLack, GivesOrNot, GivesOut, ReturnsOrNot, ReturnsOut, OneTask, OnePool, Joins};
+ghost use Rattle.cfn_machine.specs.Laws.{Opens, OpensWith, OpensPart, KeepsAside, SetsAside, EndsOthers, WasAside, TellsOwnLeaves, HasPaths, KeepsSound, KeepsNumbered, KeepsRows, Keeps, Holds, Agreed, Covered, Rises, SweepsAll, HandsOutTasks, TakesOut, StaysOut, WasOut, TakesOrNone, NeverBoth, OneLack, GivesOrNot, GivesOut, ReturnsOrNot, ReturnsOut, OneTask, OnePool, Joins};
 
 /// The pool at the opening, also one with a kept tree, is sound, its leaves have numbers of their own, and what it keeps
 /// fits. Each legal step keeps that, and so does every list of legal steps, in whatever order they come. The rows of
@@ -16,13 +16,16 @@ pub fn law_every_step()
     ensures holds { Holds }
 {}
 
-/// The leaves that a part of a search leaves to others are set aside at the opening, and stay so until all leaves are called back.
-/// So many they are; and after a sweep behind that each is still there, open or closed.
+/// Exactly the leaves that a part of a search leaves to others are set aside at the opening. They stay so until all leaves are called
+/// back, and no step sets another aside. After a sweep behind that each is still there, open or closed, and whether some open leaf is
+/// the part's own is told by the leaves before. Open leaves have paths.
 pub fn law_parts()
     ensures sets { SetsAside }
-    ensures counts { CountsOthers }
     ensures aside { KeepsAside }
+    ensures was { WasAside }
     ensures ends { EndsOthers }
+    ensures own { TellsOwnLeaves }
+    ensures paths { HasPaths }
 {}
 
 /// Of all leaves of a tree, closed ones too, exactly one has a path that agrees with an assignment. In a sound pool that

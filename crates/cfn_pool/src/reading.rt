@@ -1,9 +1,10 @@
 //! What is read of the pool.
 
-ghost use Rattle.std.specs.Prelude.{◌≡◌, ◌+◌, ◌≤◌, ◌^◌, []};
+ghost use Rattle.std.specs.Prelude.{◌≡◌, ◌+◌, ◌≤◌, ◌^◌, [], IsTrue, IsFalse};
 ghost use Rattle.cfn_model.specs.Tree.{bound, open_leaves};
 ghost use Rattle.cfn_machine.specs.Pool as machine;
-ghost use Rattle.cfn_machine.specs.Pool.{granted};
+ghost use Rattle.cfn_machine.specs.Parts.{HasActiveBelow, NoneActiveBelow};
+ghost use Rattle.cfn_machine.specs.Pool.{granted, price};
 ghost use Rattle.cfn_machine.specs.Laws.{IsPool};
 ghost use Rattle.cfn_pool.specs.Views.{pool, AreReached};
 
@@ -41,6 +42,17 @@ impl<M: Incumbent> Pool<M> {
         ensures few { result ≤ 2 ^ 32 }
     {
         self.leaves.open_leaves()
+    }
+
+    /// Whether a leaf is open that is not set aside, and has a floor below the price of what the pool keeps. It takes no memory, and
+    /// goes over all leaves that have a number.
+    pub fn has_own(&self) -> bool
+        ensures some { IsTrue result → HasActiveBelow M.network (pool self.now).tree (price M.network (pool self.now).view.best) }
+        ensures none { IsFalse result → NoneActiveBelow M.network (pool self.now).tree (price M.network (pool self.now).view.best) }
+    {
+        let best = self.holder.best();
+        best.law_priced();
+        self.leaves.has_active_below(best.price())
     }
 
     /// How many nodes may be made.

@@ -1,22 +1,21 @@
 -- What a search begins with.
-use Rattle.std.proofs.Common.{◌≡◌, ℕ, zero, suc, ◌+◌, ◌<◌, Contains, length, ◌∙◌, refl, sym, ap, subst, List, [], ◌∷◌, Option, Some, None, Bool, true, false, nat_lt, if◌then◌else◌, min, arith, ltb-true, ltb-false}
+use Rattle.std.proofs.Common.{◌≡◌, ◌↔◌, ℕ, ◌<◌, Contains, ◌∙◌, refl, sym, ap, subst, List, [], ◌∷◌, Option, Some, None, Bool, true, false, nat_lt, if◌then◌else◌, min, arith, ltb-true, ltb-false}
 use Rattle.std.specs.Prelude.{IfSome}
 use Rattle.cfn_model.specs.declared.report.Row.{Row}
 use Rattle.cfn_model.specs.Network.{Network, IsNetwork}
 use Rattle.cfn_model.specs.Certificate.{Solution}
 use Rattle.cfn_model.specs.Sums.{floor}
-use Rattle.cfn_model.specs.Tree.{Open, Tree, count, open_leaves}
+use Rattle.cfn_model.specs.Tree.{Open, Tree, count}
 use Rattle.cfn_proof.specs.declared.tree.Node.{Node}
 use Rattle.cfn_proof.specs.Nodes.{tree_of, open_node}
 use Rattle.cfn_net.specs.Scoring.{Scoring}
 use Rattle.cfn_low.specs.Outcome.{Start, fresh}
 use Rattle.cfn_model.specs.declared.step.Event.{Event}
 use Rattle.cfn_machine.specs.declared.part.Part.{Part}
-use Rattle.cfn_machine.specs.Parts.{IsPart, has_leaf, others_among, others_of}
-use Rattle.cfn_machine.specs.Pool.{IsKept, Pool, PoolTree, dealt, numbered, opening_part, opening_pool, price, row_of}
-use Rattle.cfn_machine.specs.Pool.{tree_of as tree_at}
-use Rattle.cfn_machine.specs.Laws.{CountsOthers, SetsAside}
-use Rattle.cfn_machine.proofs.CallerLemmas.{dealt_is, numbered_is, opening_small}
+use Rattle.cfn_machine.specs.Parts.{IsAside, IsPart, has_leaf, others_of}
+use Rattle.cfn_machine.specs.Pool.{IsKept, Pool, dealt, numbered, opening_part, opening_pool, price, row_of}
+use Rattle.cfn_machine.specs.Laws.{SetsAside}
+use Rattle.cfn_machine.proofs.CallerLemmas.{opening_small}
 use Rattle.cfn_search.specs.Searching.{IsSearch}
 use Rattle.cfn_low.specs.Holding.{kept}
 use Rattle.cfn_pool.specs.Views.{values_of}
@@ -73,7 +72,7 @@ opening_search P start part shares budget tree best sets begun first aside = rec
   begun_is = sym begun;
   others = [];
   begin = ap (λ (r : Row). r ∷ []) (sym first);
-  aside = λ path there. sets (has_leaf part) tree path (subst (λ paths. Contains paths path) aside there);
+  aside = λ path. subst (λ paths. Contains paths path ↔ IsAside (dealt (has_leaf part) (numbered 0 tree)) path) (sym aside) (sets (has_leaf part) tree path);
 }
 
 -- a pool that begins with one open leaf and nothing known is at the usual opening
@@ -85,15 +84,3 @@ fresh_opening P part shares budget tree held now fresh is =
     ∙ ap (λ (h : Option Solution). opening_part (has_leaf part) P shares budget (Open []) (values_of h)) fresh.1
     ∙ ap (λ (p : Option Part). opening_part (has_leaf p) P shares budget (Open []) None) fresh.2 in
     (shares, opened ∙ ap (opening_pool P shares) (sym (ap (λ (p : Pool). p.budget) opened)))
-
--- so many leaves are left to others
-pub opened_others : (part : Option Part) (tree : Tree) (pool : PoolTree) (aside : List (List Event)) (n : ℕ) → CountsOthers → pool ≡ dealt (has_leaf part) (numbered 0 tree) → n ≡ others_among (has_leaf part) 0 (open_leaves (tree_at pool)) →
-    aside ≡ others_of part tree → n ≡ length aside
-opened_others part tree pool aside n counts pool_is is same =
-    let whole : tree_at pool ≡ tree = ap tree_at pool_is ∙ dealt_is (has_leaf part) (numbered 0 tree) ∙ numbered_is tree 0 in
-    is ∙ ap (λ t. others_among (has_leaf part) 0 (open_leaves t)) whole ∙ sym (counts (has_leaf part) tree) ∙ sym (ap length same)
-
--- a search that has all leaves leaves none to others
-pub no_others : (n next : ℕ) → others_among (λ k. true) next n ≡ 0
-no_others zero next = refl
-no_others (suc n) next = let none = no_others n (next + 1) in omega (arith, none)

@@ -24,7 +24,7 @@ use Rattle.cfn_proof.specs.Certificates.{solution_of}
 use Rattle.cfn_low.specs.Holding.{Holding}
 use Rattle.cfn_pool.proofs.CallerLemmas.{price_is}
 use Rattle.cfn_machine.specs.Pool.{View, Mark, PoolTree, Leaf, Shut, Fork, tree_of, IsLeaf, Pool, IsRow, price, KeepsFitting}
-use Rattle.cfn_machine.specs.Parts.{EndsAt}
+use Rattle.cfn_machine.specs.Parts.{EndsAt, TellsOwn}
 use Rattle.cfn_machine.specs.Laws.{IsPool}
 use Rattle.cfn_low.specs.Steps.{IsCost}
 use Rattle.cfn_pool.specs.Views.{view_of, AreReached}
@@ -94,12 +94,13 @@ rows_each P c tree seen best (row ∷ rows) network fits is last lower all reach
   rows_each P c tree seen best rows network fits is last lower all.1 reached.1,
 )
 
-cause_is : (stop : Stop) (leaves nodes budget : ℕ) (timed : Bool) (others : ℕ) → nodes ≤ budget → IsStop stop leaves nodes budget timed others → HasCause stop leaves nodes (timed_nodes budget timed) others
-cause_is Done leaves nodes budget timed others allowed why = why
-cause_is Budget leaves nodes budget timed others allowed why = ((let h = why.0 in omega (arith, h)), why.1)
-cause_is Part leaves nodes budget timed others allowed why = ((let h = why.0 in omega (arith, h)), why.2, (let h = why.1 in omega (arith, h, allowed)))
-cause_is Time leaves nodes budget timed others allowed why = (why.0, (let h = why.1 in omega (arith, h, allowed)), why.2)
-cause_is Memory leaves nodes budget timed others allowed why = (why.0, (let h = why.1 in omega (arith, h, allowed)))
+cause_is : (stop : Stop) (own : Bool) (aside : List (List Event)) (tree : trees.Tree) (nodes budget : ℕ) (timed : Bool) → nodes ≤ budget → TellsOwn own aside tree → IsStop stop (open_leaves tree) own nodes budget timed →
+    HasCause stop aside tree nodes (timed_nodes budget timed)
+cause_is Done own aside tree nodes budget timed allowed tells why = why
+cause_is Part own aside tree nodes budget timed allowed tells why = ((let h = why.0 in omega (arith, h)), subst (λ o. TellsOwn o aside tree) why.1 tells)
+cause_is Budget own aside tree nodes budget timed allowed tells why = (subst (λ o. TellsOwn o aside tree) why.0 tells, why.1)
+cause_is Time own aside tree nodes budget timed allowed tells why = (subst (λ o. TellsOwn o aside tree) why.0 tells, (let h = why.1 in omega (arith, h, allowed)), why.2)
+cause_is Memory own aside tree nodes budget timed allowed tells why = (subst (λ o. TellsOwn o aside tree) why.0 tells, (let h = why.1 in omega (arith, h, allowed)))
 
 -- the threshold is the price of what the last part of the word keeps
 pub price_held : (P : Network) (best : Scoring) (part : Holding) (view : View) (result : Option Scoring) → best ≡ record { network = P; held = part.held } → view_of part ≡ view → view.seen ≡ price P view.best → IsPriced best.network best.held →
@@ -113,8 +114,8 @@ best_held P best part result is solution = subst (λ (s : Scoring). IsBest s.net
 
 module _ (P : Network) (pool : Pool) (network : IsNetwork P) (is : IsPool P pool) (reached : AreReached P pool.rows) (start : Start) (search : IsEnded start pool) (last : IsLast P pool) where
   pub searched : (c : Certificate) (stop : Stop) (timed : Bool) → c.variables ≡ length P.sizes → c.functions ≡ length P.functions → c.upper ≡ P.upper → IsBest P c.best → threshold_of P.upper c.best ≡ pool.view.seen → c.tree ≡ tree_of pool.tree → IsSpelledTree c.tree → HasTree c.version c.tree →
-      c.lower ≡ bound P [] (tree_of pool.tree) pool.view.seen → IsStop stop (open_leaves (tree_of pool.tree)) pool.nodes pool.budget timed (length start.aside) → IsSearched P start (timed_nodes pool.budget timed) pool.nodes c pool.rows stop
-  searched c stop timed variables functions upper best price_same is_tree spelled has_tree lower why =
+      c.lower ≡ bound P [] (tree_of pool.tree) pool.view.seen → (own : Bool) → TellsOwn own start.aside (tree_of pool.tree) → IsStop stop (open_leaves (tree_of pool.tree)) own pool.nodes pool.budget timed → IsSearched P start (timed_nodes pool.budget timed) pool.nodes c pool.rows stop
+  searched c stop timed variables functions upper best price_same is_tree spelled has_tree lower own tells why =
       let k : threshold c ≡ pool.view.seen = ap (λ u. threshold_of u c.best) upper ∙ price_same in
       let b : c.lower ≡ bound P [] c.tree (threshold c) = lower ∙ ap (λ t. bound P [] t pool.view.seen) (sym is_tree) ∙ ap (bound P [] c.tree) (sym k) in
       let seen = is.sound.seen in
@@ -153,5 +154,5 @@ module _ (P : Network) (pool : Pool) (network : IsNetwork P) (is : IsPool P pool
           begin = search.begin;
           each = rows_each P c pool.tree pool.view.seen pool.view.best pool.rows network is.keeps price_same last.seen lower is.sound.rows reached;
         };
-        cause = subst (λ t. HasCause stop (open_leaves t) pool.nodes (timed_nodes pool.budget timed) (length start.aside)) (sym is_tree) (cause_is stop (open_leaves (tree_of pool.tree)) pool.nodes pool.budget timed (length start.aside) (omega (arith, within)) why);
+        cause = subst (λ t. HasCause stop start.aside t pool.nodes (timed_nodes pool.budget timed)) (sym is_tree) (cause_is stop own start.aside (tree_of pool.tree) pool.nodes pool.budget timed (omega (arith, within)) tells why);
       }

@@ -1,5 +1,5 @@
 -- What holds of the pool of a search.
-use Rattle.std.specs.Prelude.{◌≡◌, ℕ, ◌<◌, ◌≤◌, ◌⊎◌, Bool, List, ◌∷◌, Contains, is_some}
+use Rattle.std.specs.Prelude.{◌≡◌, ◌↔◌, ℕ, ◌<◌, ◌≤◌, ◌⊎◌, Bool, List, ◌∷◌, Contains, is_some}
 use Rattle.cfn_model.specs.declared.report.Row.{Row}
 use Rattle.cfn_model.specs.declared.step.Event.{Event}
 use Rattle.cfn_model.specs.Network.{Network}
@@ -17,12 +17,12 @@ use Rattle.cfn_search.specs.declared.steps.Asked.TheVariants as asked
 use Rattle.cfn_search.specs.declared.hand.Unplaced.{Unplaced}
 use Rattle.cfn_search.specs.declared.hand.Unplaced.TheVariants.{Late, Memory}
 
--- It began as a search begins, and the leaves that it leaves to others are set aside.
+-- It began as a search begins, and exactly the leaves that it leaves to others are set aside.
 pub record IsSearch (start : Start) (pool : Pool) : Type 0 where
   pub begun_is : pool.begun ≡ start.begun
   pub others : List Row
   pub begin : pool.rows ≡ start.first ∷ others
-  pub aside : (path : List Event) → Contains start.aside path → IsAside pool.tree path
+  pub aside : (path : List Event) → Contains start.aside path ↔ IsAside pool.tree path
 
 -- From one pool of a search to another: the budget and the shares of the word stay, and what was seen never rises.
 pub record GoesOn (start : Start) (old new : Pool) : Type 0 where

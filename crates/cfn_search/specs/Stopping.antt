@@ -1,5 +1,5 @@
 -- What holds of the pool of a search that stopped, and why it stopped.
-use Rattle.std.specs.Prelude.{◌≡◌, ◌≢◌, true, ℕ, ◌<◌, ◌≤◌, Bool, List, [], ◌∷◌, Contains}
+use Rattle.std.specs.Prelude.{◌≡◌, ◌≢◌, true, false, ℕ, Bool, List, [], ◌∷◌, Contains}
 use Rattle.cfn_model.specs.declared.report.Row.{Row}
 use Rattle.cfn_model.specs.declared.step.Event.{Event}
 use Rattle.cfn_model.specs.Network.{Network}
@@ -24,10 +24,10 @@ pub record IsEnded (start : Start) (pool : Pool) : Type 0 where
   pub begin : pool.rows ≡ start.first ∷ rest
   pub others : (path : List Event) → Contains start.aside path → EndsAt (tree_of pool.tree) [] path
 
--- Why a search stopped, by what is tested, where so many leaves were left to others.
-abbrev pub IsStop : Stop → ℕ → ℕ → ℕ → Bool → ℕ → Type 0
-IsStop Done leaves nodes budget timed others = leaves ≡ 0
-IsStop Budget leaves nodes budget timed others = (leaves ≢ 0) × (nodes ≡ budget)
-IsStop Part leaves nodes budget timed others = (leaves ≢ 0) × (nodes ≢ budget) × (leaves ≤ others)
-IsStop Time leaves nodes budget timed others = (others < leaves) × (nodes ≢ budget) × (timed ≡ true)
-IsStop Memory leaves nodes budget timed others = (others < leaves) × (nodes ≢ budget)
+-- Why a search stopped, by what is tested: how many leaves are open, and whether one of them is its own.
+abbrev pub IsStop : Stop → ℕ → Bool → ℕ → ℕ → Bool → Type 0
+IsStop Done leaves own nodes budget timed = leaves ≡ 0
+IsStop Part leaves own nodes budget timed = (leaves ≢ 0) × (own ≡ false)
+IsStop Budget leaves own nodes budget timed = (own ≡ true) × (nodes ≡ budget)
+IsStop Time leaves own nodes budget timed = (own ≡ true) × (nodes ≢ budget) × (timed ≡ true)
+IsStop Memory leaves own nodes budget timed = (own ≡ true) × (nodes ≢ budget)

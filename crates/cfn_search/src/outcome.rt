@@ -1,11 +1,13 @@
 //! What a search that stopped hands out.
 
-ghost use Rattle.std.specs.Prelude.{◌≡◌, ◌≤◌, ◌+◌, length, min, IfSome, IsTrue, is_some};
+ghost use Rattle.std.specs.Prelude.{◌≡◌, ◌≤◌, ◌+◌, min, IfSome, IsTrue, is_some};
 ghost use Rattle.std.specs.Option.{ForSome};
 ghost use Rattle.cfn_model.specs.Certificate.{IsBest, threshold, threshold_of};
 ghost use Rattle.cfn_net.specs.Scoring.{IsPriced};
 ghost use Rattle.cfn_proof.specs.Certificates.{certificate_of, solution_of};
 ghost use Rattle.cfn_low.specs.Outcome.{IsOutcome, timed_nodes};
+ghost use Rattle.cfn_machine.specs.Parts.{TellsOwn};
+ghost use Rattle.cfn_machine.specs.Pool.{tree_of};
 ghost use Rattle.cfn_machine.specs.Word.{all_shares};
 ghost use Rattle.cfn_pool.specs.Recorded.{HasSpare, IsExactRecordOf};
 ghost use Rattle.cfn_pool.specs.Views.{pool};
@@ -33,35 +35,40 @@ pub(crate) fn meet<M: Incumbent>(low: &Low<M>, held: &mut Pool<M>, part: Holder<
     held.meet(low, part);
 }
 
-/// Calls back what is out, and closes what need not be searched, where all parts of the word were met. It takes no memory: where a
-/// record is kept, there has to be room for two entries.
-pub(crate) fn wind_up<M: Incumbent>(low: &Low<M>, held: &mut Pool<M>)
+/// Calls back what is out, and closes what need not be searched, where all parts of the word were met; and answers whether some leaf
+/// that is open then is not one that was left to others. It takes no memory: where a record is kept, there has to be room for two
+/// entries.
+pub(crate) fn wind_up<M: Incumbent>(low: &Low<M>, held: &mut Pool<M>) -> bool
     requires search { IsSearch M.start (pool held.old) }
     requires shares { (pool held.old).view.shares ≡ all_shares }
     requires spare { HasSpare 2 held.old.recorded }
     ensures ended { IsEnded M.start (pool held.new) }
     ensures budget { (pool held.new).budget ≡ (pool held.old).budget }
     ensures last { IsLast M.network (pool held.new) }
+    ensures own { TellsOwn result M.start.aside (tree_of (pool held.new).tree) }
     ensures falls { (pool held.new).view.seen ≤ (pool held.old).view.seen }
     ensures recorded { IfSome held.new.recorded (λ r. IsExactRecordOf M.network (pool held.new) r.told) }
     ensures kept { is_some held.new.recorded ≡ is_some held.old.recorded }
 {
+    held.law_kept();
+    let own = held.has_own();
     held.recall();
     held.sweep(low);
+    own
 }
 
-/// The outcome of a search that was wound up, and that left so many leaves to others: the certificate's threshold is what the pool
-/// has seen. Beside it is what was done to the pool, where that is recorded. It takes no memory.
+/// The outcome of a search that was wound up; `own` is whether some open leaf is not one that was left to others. The certificate's
+/// threshold is what the pool has seen. Beside it is what was done to the pool, where that is recorded. It takes no memory.
 pub(crate) fn conclude<M: Incumbent, H: Halt>(
     network: &Network,
     low: Low<M>,
     held: Pool<M>,
-    others: u64,
+    own: bool,
     halt: &H,
 ) -> (Outcome, Option<History>)
     requires own { network.now ≡ M.network }
     requires ended { IsEnded M.start (pool held) }
-    requires others { others ≡ length M.start.aside }
+    requires tells { TellsOwn own M.start.aside (tree_of (pool held).tree) }
     requires last { IsLast M.network (pool held) }
     requires recorded { IfSome held.recorded (λ r. IsExactRecordOf M.network (pool held) r.told) }
     ensures outcome { IsOutcome network.now M.start (timed_nodes (pool held).budget (H.limited halt.now)) result.0 }
@@ -73,7 +80,7 @@ pub(crate) fn conclude<M: Incumbent, H: Halt>(
     held.law_kept();
     let lower = held.bound();
     let leaves = held.open_leaves();
-    let stop = stop_of(leaves, held.nodes(), held.budget(), others, halt);
+    let stop = stop_of(leaves, own, held.nodes(), held.budget(), halt);
     let finished = held.finish();
     finished.tree.law_linked();
     let (best, _) = low.end(finished.holder);
@@ -93,18 +100,19 @@ pub(crate) fn conclude<M: Incumbent, H: Halt>(
     (outcome, finished.history)
 }
 
-/// Why a search stopped: where leaves are open and nodes are left, they are others', or time is past, or else memory was refused.
-fn stop_of<H: Halt>(leaves: u64, nodes: u64, budget: u64, others: u64, halt: &H) -> Stop
-    ensures { IsStop result leaves nodes budget (H.limited halt.now) others }
+/// Why a search stopped: where leaves are open, all are others'; or one is its own, and the budget is spent, or time is past, or else
+/// memory was refused.
+fn stop_of<H: Halt>(leaves: u64, own: bool, nodes: u64, budget: u64, halt: &H) -> Stop
+    ensures { IsStop result leaves own nodes budget (H.limited halt.now) }
 {
     if leaves == 0 {
         return Stop::Done;
     }
+    if !own {
+        return Stop::Part;
+    }
     if nodes == budget {
         return Stop::Budget;
-    }
-    if leaves <= others {
-        return Stop::Part;
     }
     match halt.past() {
         Some(_) => Stop::Time,

@@ -7,7 +7,7 @@ ghost use Rattle.cfn_model.specs.Certificate.{threshold};
 ghost use Rattle.cfn_proof.specs.Certificates.{certificate_of};
 ghost use Rattle.cfn_proof.specs.Nodes.{tree_of};
 ghost use Rattle.cfn_low.specs.Outcome.{IsOutcome, fresh, nodes_alone, timed_nodes};
-ghost use Rattle.cfn_machine.specs.Parts.{IsPart, has_leaf, others_among, others_of};
+ghost use Rattle.cfn_machine.specs.Parts.{IsPart, others_of};
 ghost use Rattle.cfn_machine.specs.Pool as machine;
 ghost use Rattle.cfn_machine.specs.Pool.{IsKept, opening_pool, price, row_of};
 ghost use Rattle.cfn_machine.specs.Word.{all_shares};
@@ -117,7 +117,7 @@ fn search<M: Incumbent, X: Explorers, G: Gate, H: Halt>(
     } = begin;
     know(&low, &mut holder, &best);
     let mut account = Account::open(low.split(&mut holder, empty));
-    let (mut held, others) = open(alloc, network, &low, holder, tree, part, recorded, budget)?;
+    let mut held = open(alloc, network, &low, holder, tree, part, recorded, budget)?;
     work(
         alloc,
         network,
@@ -128,7 +128,7 @@ fn search<M: Incumbent, X: Explorers, G: Gate, H: Halt>(
         gate,
         halt,
     );
-    Ok(ended(network, low, held, others, account, halt))
+    Ok(ended(network, low, held, account, halt))
 }
 
 /// Lets all of the word know an assignment: its price is seen then. It takes no memory.
@@ -147,8 +147,7 @@ pub(crate) fn know<M: Incumbent>(low: &Low<M>, holder: &mut Holder<M>, best: &Sc
 }
 
 /// A pool at the beginning of a search, with a tree, of which a part of a search has not all open leaves, and a part of the word that
-/// has seen the price of what it keeps; and how many leaves are left to others. What is done to it is recorded exactly where that is
-/// asked for. An `Err` is want of memory.
+/// has seen the price of what it keeps. What is done to it is recorded exactly where that is asked for. An `Err` is want of memory.
 pub(crate) fn open<M: Incumbent>(
     alloc: Global,
     network: &Network,
@@ -158,7 +157,7 @@ pub(crate) fn open<M: Incumbent>(
     part: Option<Part>,
     recorded: bool,
     budget: u64,
-) -> Result<(Pool<M>, u64), AllocError>
+) -> Result<Pool<M>, AllocError>
     requires own { network.now ≡ M.network }
     requires part { IfSome part IsPart }
     requires few { count (tree_of tree) < 2 ^ 64 }
@@ -169,21 +168,19 @@ pub(crate) fn open<M: Incumbent>(
     requires aside { M.start.aside ≡ others_of part (tree_of tree) }
     requires fresh { IsTrue recorded → (tree_of tree ≡ Open []) × (holder.held ≡ None) × (part ≡ None) }
     requires most { budget ≤ GREATEST }
-    ensures search { IfOk result (λ made. IsSearch M.start (pool made.0)) }
-    ensures budget { IfOk result (λ made. (pool made.0).budget ≡ budget) }
-    ensures shares { IfOk result (λ made. (pool made.0).view.shares ≡ holder.shares) }
-    ensures others { IfOk result (λ made. made.1 ≡ length M.start.aside) }
-    ensures recorded { IfOk result (λ made. is_some made.0.recorded ≡ recorded) }
-    ensures spare { IfOk result (λ made. HasSpare 2 made.0.recorded) }
+    ensures search { IfOk result (λ made. IsSearch M.start (pool made)) }
+    ensures budget { IfOk result (λ made. (pool made).budget ≡ budget) }
+    ensures shares { IfOk result (λ made. (pool made).view.shares ≡ holder.shares) }
+    ensures recorded { IfOk result (λ made. is_some made.recorded ≡ recorded) }
+    ensures spare { IfOk result (λ made. HasSpare 2 made.recorded) }
 {
     law_parts();
     let Ok(mut held) = Pool::begin_with(alloc, network, holder, budget, tree, part) else {
         return Err(AllocError);
     };
-    let others = others_among(part, &held);
     record_if(recorded, alloc, network, &mut held)?;
     sweep(low, &mut held);
-    Ok((held, others))
+    Ok(held)
 }
 
 /// Begins a record of what is done to a pool from its usual opening on, where that is asked for. An `Err` is want of memory.
@@ -207,28 +204,15 @@ fn record_if<M: Incumbent>(
     Ok(())
 }
 
-/// How many of a pool's open leaves, by their numbers, a part leaves to others.
-fn others_among<M: Incumbent>(part: Option<Part>, held: &Pool<M>) -> u64
-    requires part { IfSome part IsPart }
-    ensures { result ≡ others_among (has_leaf part) 0 (open_leaves (machine.tree_of (pool held.now).tree)) }
-{
-    match part {
-        Some(part) => part.others_among(held.open_leaves()),
-        None => 0,
-    }
-}
-
 /// The outcome of a search once its one worker has ended, and the least threshold at which that made a piece.
 fn ended<M: Incumbent, H: Halt>(
     network: &Network,
     low: Low<M>,
     mut held: Pool<M>,
-    others: u64,
     account: Account<M>,
     halt: &H,
 ) -> (Outcome, Option<History>, Threshold)
     requires own { network.now ≡ M.network }
-    requires others { others ≡ length M.start.aside }
     requires search { IsSearch M.start (pool held) }
     requires spare { HasSpare 2 held.recorded }
     requires shares { (pool held).view.shares + account.part.shares ≡ all_shares }
@@ -241,8 +225,8 @@ fn ended<M: Incumbent, H: Halt>(
 {
     let (part, threshold) = account.close();
     meet(&low, &mut held, part);
-    wind_up(&low, &mut held);
-    let (outcome, history) = conclude(network, low, held, others, halt);
+    let own = wind_up(&low, &mut held);
+    let (outcome, history) = conclude(network, low, held, own, halt);
     (outcome, history, threshold)
 }
 

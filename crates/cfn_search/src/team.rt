@@ -190,13 +190,13 @@ fn search<
     know(&low, &mut holder, &best);
     let (parts, ends) = supplies(alloc, network, &low, &mut holder, workers)?;
     let crew: Vec<Worker<M>> = Vec::with_capacity(alloc, workers as usize)?;
-    let Ok((held, others)) = open(alloc, network, &low, holder, tree, part, recorded, budget) else {
+    let Ok(held) = open(alloc, network, &low, holder, tree, part, recorded, budget) else {
         crew.destroy_empty();
         return Err(AllocError);
     };
     let crew = start_workers(crew, parts, ends);
     let (held, crew) = run(rt, alloc, network, explorers, &low, held, crew, gate, halt);
-    Ok(end_all(network, low, held, others, crew, thresholds, halt))
+    Ok(end_all(network, low, held, crew, thresholds, halt))
 }
 
 /// The pool and the workers once there is no leaf to take.
@@ -234,13 +234,11 @@ fn end_all<M: Incumbent, H: Halt>(
     network: &Network,
     low: Low<M>,
     mut held: Pool<M>,
-    others: u64,
     crew: Vec<Worker<M>>,
     thresholds: Vec<Threshold>,
     halt: &H,
 ) -> Teamwork
     requires own { network.now ≡ M.network }
-    requires others { others ≡ length M.start.aside }
     requires search { IsSearch M.start (pool held) }
     requires spare { HasSpare 2 held.recorded }
     requires shares { (pool held).view.shares + length crew.items ≡ all_shares }
@@ -255,8 +253,8 @@ fn end_all<M: Incumbent, H: Halt>(
     ensures least { All (λ k. threshold (certificate_of result.outcome.certificate) ≤ k) result.thresholds.items }
 {
     let thresholds = end_workers(&low, &mut held, crew, thresholds);
-    wind_up(&low, &mut held);
-    let (outcome, history) = conclude(network, low, held, others, halt);
+    let own = wind_up(&low, &mut held);
+    let (outcome, history) = conclude(network, low, held, own, halt);
     Teamwork {
         outcome,
         thresholds,

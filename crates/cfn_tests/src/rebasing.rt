@@ -210,3 +210,51 @@ fn part_has_its_own_leaves(rt: HostRuntime) -> Result<(), Fail> {
     }
     Ok(())
 }
+
+/// `TINY` with a lower upper bound, and a certificate of two open leaves, of which the first has a floor that reaches it.
+const LOWERED: &[u8] = b"tiny 1 2 1 3\n2\n1 0 3 1\n1 1\n";
+
+const TWO_FLOORS: &[u8] =
+    b"wcspcert 2\nnetwork 1 1 10\nlower 0\nbest none\ntree\nsplit 0 0\np 0 0 0 3\nu 0 3\nopen\nopen\nend\n";
+
+/// The part of two, its limit, and the result: the first leaf is closed at the end, whose ever it is, and the second is open.
+const LEFT: [(&str, &str, &[u8]); 4] = [
+    ("1", "--seconds", b"nodes 0\nresult part"),
+    ("1", "--budget", b"nodes 0\nresult part"),
+    ("2", "--seconds", b"nodes 0\nresult time"),
+    ("2", "--budget", b"nodes 0\nresult budget"),
+];
+
+/// The rest is others' where each open leaf is, and not where as few are open.
+#[test]
+fn rest_is_told_by_leaves(rt: HostRuntime) -> Result<(), Fail> {
+    for (place, (part, limit, lines)) in LEFT.iter().enumerate() {
+        let words = [
+            "wcspsolve",
+            "rebase",
+            "in",
+            "cert",
+            "out",
+            "--part",
+            part,
+            "--parts",
+            "2",
+            limit,
+            "0",
+        ];
+        let run = Run::over(
+            &rt,
+            &words,
+            &[("in", LOWERED), ("cert", TWO_FLOORS)],
+            &[],
+            "out",
+        )?;
+        assert!(rt;
+            run.status == 2
+                && run.says(lines)
+                && run.certificate().ends_with(b"\nclosed\nopen\nend\n"),
+            "row {place}"
+        );
+    }
+    Ok(())
+}

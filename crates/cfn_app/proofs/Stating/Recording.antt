@@ -23,6 +23,7 @@ use Rattle.cfn_app.specs.Saying.{Counts}
 use Rattle.cfn_app.specs.Runs.Solving.{IsReported, limits_of, status_of}
 use Rattle.cfn_app.specs.Runs.Recording.{Certified, IsRecordOf, OutputsBoth, PutsRecord, Recorded, RecordedSays, RecordedStatus, Records, SearchesRecorded}
 use Rattle.cfn_app.specs.Runs.Recording as recording
+use Rattle.cfn_app.proofs.Causes.{none_others}
 use Rattle.cfn_app.proofs.Counting.{by, counted, ends_idle, hindered, unheard, by_due, one_more}
 use Rattle.cfn_app.proofs.Files.{same_bytes, read_refused}
 use Rattle.cfn_app.proofs.Stating.Solving.{by_result, word_counts, word_reported}
@@ -34,7 +35,7 @@ module _ (ask : RecordedRequest) (old new : Outside) where
   reported words.Nothing done = done
   reported words.Budget done = inl done
   reported words.Time done = inr done
-  reported words.Part done = absurd (let left = done.certified.promise.causes.left_to_others.0 refl in let some = left.0 in let few = left.1 in omega (arith, some, few))
+  reported words.Part done = absurd (none_others done.certified.certificate.tree (done.certified.promise.causes.left_to_others.0 refl))
   reported words.Memory done = inr done
 
   -- ---- a network that was searched

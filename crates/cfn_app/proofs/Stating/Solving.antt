@@ -22,6 +22,7 @@ use Rattle.cfn_app.specs.Runs.Solving.{Searches, Solves, limits_of, status_of}
 use Rattle.cfn_app.specs.Runs.Solving as solving
 use Rattle.cfn_app.specs.Saying.{Counts}
 use Rattle.cfn_app.specs.Runs.Solving.{SolveSays, Solved, IsReported, SolveStatus}
+use Rattle.cfn_app.proofs.Causes.{none_others}
 use Rattle.cfn_app.proofs.Counting.{by, counted, ends_idle, hindered, unheard, by_due, one_more}
 use Rattle.cfn_app.proofs.Writing.{stored_at, output_counts, output_idle}
 use Rattle.cfn_app.proofs.Files.{same_bytes, read_refused}
@@ -32,7 +33,7 @@ module _ (ask : SolveRequest) (old new : Outside) where
   reported words.Nothing solved = solved
   reported words.Budget solved = inl solved
   reported words.Time solved = inr solved
-  reported words.Part solved = absurd (let left = solved.promise.causes.left_to_others.0 refl in let some = left.0 in let few = left.1 in omega (arith, some, few))
+  reported words.Part solved = absurd (none_others solved.certificate.tree (solved.promise.causes.left_to_others.0 refl))
   reported words.Memory solved = inr solved
 
   module _ (status : Status) where

@@ -54,10 +54,10 @@ returns-clause-outcome g c =
     (spelled_law finished.tree c.law_linked.ensures)
     (lines_law finished.tree)
     c.bound-lower.ensures
-    (subst (IsStop c.stop_of-stop.result (open_leaves (tree_of held.tree)) held.nodes held.budget timed) c.requires.others
-    (subst (λ (b : ℕ). IsStop c.stop_of-stop.result (open_leaves (tree_of held.tree)) held.nodes b timed c.args.others) c.budget.ensures
-    (subst (λ (n : ℕ). IsStop c.stop_of-stop.result (open_leaves (tree_of held.tree)) n c.budget.result timed c.args.others) c.nodes.ensures
-    (subst (λ (l : ℕ). IsStop c.stop_of-stop.result l c.nodes.result c.budget.result timed c.args.others) c.open_leaves-leaves.ensures.is c.stop_of-stop.ensures)))))))
+    c.args.own c.requires.tells
+    (subst (λ (b : ℕ). IsStop c.stop_of-stop.result (open_leaves (tree_of held.tree)) c.args.own held.nodes b timed) c.budget.ensures
+    (subst (λ (n : ℕ). IsStop c.stop_of-stop.result (open_leaves (tree_of held.tree)) c.args.own n c.budget.result timed) c.nodes.ensures
+    (subst (λ (l : ℕ). IsStop c.stop_of-stop.result l c.args.own c.nodes.result c.budget.result timed) c.open_leaves-leaves.ensures.is c.stop_of-stop.ensures))))))
 
 -- the threshold is what the pool has seen
 pub returns-clause-threshold : goal.returns-clause-threshold

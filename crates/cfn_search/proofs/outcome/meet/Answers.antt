@@ -1,4 +1,4 @@
-use Rattle.std.proofs.Common.{◌∙◌, sym, ap, subst}
+use Rattle.std.proofs.Common.{◌↔◌, ◌∙◌, Contains, sym, ap, subst}
 use Rattle.cfn_machine.specs.Parts.{IsAside}
 use Rattle.cfn_machine.specs.Pool.{Pool}
 use Rattle.cfn_search.proofs.outcome.meet.Goals as goal
@@ -11,5 +11,5 @@ returns-clause-search g c =
       begun_is = ap (λ (p : Pool). p.begun) met ∙ search.begun_is;
       others = search.others;
       begin = ap (λ (p : Pool). p.rows) met ∙ search.begin;
-      aside = λ path there. subst (λ (p : Pool). IsAside p.tree path) (sym met) (search.aside path there);
+      aside = λ path. subst (λ (p : Pool). Contains g.M.Incumbent.start.aside path ↔ IsAside p.tree path) (sym met) (search.aside path);
     }

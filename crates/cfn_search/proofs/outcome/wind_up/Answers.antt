@@ -1,7 +1,10 @@
-use Rattle.std.proofs.Common.{◌≡◌, ◌∙◌, sym, ap, subst, arith, []}
-use Rattle.cfn_machine.specs.Parts.{EndsAt}
-use Rattle.cfn_machine.specs.Pool.{Pool, Out, IsLeaf, tree_of, recalled, swept}
-use Rattle.cfn_machine.proofs.CallerLemmas.{ends_others, recalled_free, sweeps_all}
+use Rattle.std.proofs.Common.{◌≡◌, ℕ, ◌∙◌, ◌↔◌, List, Bool, true, false, Contains, refl, sym, ap, subst, arith, []}
+use Rattle.std.specs.Prelude.{IsTrue, IsFalse}
+use Rattle.cfn_model.specs.declared.step.Event.{Event}
+use Rattle.cfn_model.specs.Network.{Network}
+use Rattle.cfn_machine.specs.Parts.{EndsAt, IsAside, TellsOwn, HasActiveBelow, NoneActiveBelow}
+use Rattle.cfn_machine.specs.Pool.{Pool, PoolTree, Out, IsLeaf, price, tree_of, recalled, swept}
+use Rattle.cfn_machine.proofs.CallerLemmas.{ends_others, recalled_free, sweeps_all, tells_own}
 use Rattle.cfn_pool.specs.Views.{pool}
 use Rattle.cfn_search.proofs.outcome.wind_up.Goals as goal
 
@@ -44,5 +47,25 @@ returns-clause-ended g c =
       begun_is = ap (λ (p : Pool). p.begun) sweeps.sweeps ∙ ap (λ (p : Pool). p.begun) c.recall.ensures.recalls ∙ search.begun_is;
       rest = search.others;
       begin = ap (λ (p : Pool). p.rows) sweeps.sweeps ∙ ap (λ (p : Pool). p.rows) c.recall.ensures.recalls ∙ search.begin;
-      others = λ path there. subst (λ t. EndsAt (tree_of t) [] path) (sym tree_is) (ends_others P sweeps.word old.tree path (search.aside path there));
+      others = λ path there. subst (λ t. EndsAt (tree_of t) [] path) (sym tree_is) (ends_others P sweeps.word old.tree path ((search.aside path).0 there));
     }
+
+-- whether some open leaf is its own was told by the leaves before they were called back and swept
+told : (P : Network) (k : ℕ) (tree : PoolTree) (aside : List (List Event)) (own : Bool) → ((path : List Event) → Contains aside path ↔ IsAside tree path) →
+    (IsTrue own → HasActiveBelow P tree k) → (IsFalse own → NoneActiveBelow P tree k) → TellsOwn own aside (tree_of (swept P k (recalled tree) []))
+told P k tree aside true are some none = (tells_own P k tree aside are).0 (some refl)
+told P k tree aside false are some none = (tells_own P k tree aside are).1 (none refl)
+
+pub returns-clause-own : goal.returns-clause-own
+returns-clause-own g c =
+    let P = g.M.Incumbent.network in
+    let old = pool c.args.held.now in
+    let new = pool c.sweep.new.self in
+    let search = c.requires.search in
+    let sweeps = c.sweep.ensures.sweeps in
+    let shares = ap (λ (p : Pool). p.view.shares) c.recall.ensures.recalls ∙ c.requires.shares in
+    let word : sweeps.word ≡ price P old.view.best = sweeps.whole shares ∙ ap (λ (p : Pool). price P p.view.best) c.recall.ensures.recalls in
+    let tree_is : new.tree ≡ swept P (price P old.view.best) (recalled old.tree) [] =
+    ap (λ (p : Pool). p.tree) sweeps.sweeps ∙ ap (λ (p : Pool). swept P sweeps.word p.tree []) c.recall.ensures.recalls ∙ ap (λ k. swept P k (recalled old.tree) []) word in
+    subst (λ t. TellsOwn c.has_own-own.result g.M.Incumbent.start.aside (tree_of t)) (sym tree_is)
+    (told P (price P old.view.best) old.tree g.M.Incumbent.start.aside c.has_own-own.result search.aside c.has_own-own.ensures.some c.has_own-own.ensures.none)

@@ -3,7 +3,7 @@ use Rattle.cfn_proof.specs.Nodes.{tree_of}
 use Rattle.cfn_machine.specs.Pool.{Pool}
 use Rattle.cfn_pool.specs.Views.{pool, values_of}
 use Rattle.cfn_search.specs.Searching.{IsSearch}
-use Rattle.cfn_search.proofs.Beginnings.{fresh_opening, opened_others, opening_search}
+use Rattle.cfn_search.proofs.Beginnings.{fresh_opening, opening_search}
 use Rattle.cfn_search.proofs.search.open.Goals as goal
 
 pub record_if-requires-clause-opening : goal.record_if-requires-clause-opening
@@ -16,8 +16,3 @@ sweep-requires-clause-search g c =
     let opening = opening_search g.M.Incumbent.network start c.args.part c.args.holder.shares c.args.budget (tree_of c.args.tree) (values_of c.args.holder.held)
     c.law_parts.ensures.sets c.requires.begun c.requires.first c.requires.aside in
     subst (λ (p : Pool). IsSearch start p) (sym (c.record_if.ensures.pool ∙ c.in-Ok.ensures.pool)) opening
-
-pub returns-clause-others : goal.returns-clause-others
-returns-clause-others g c =
-    opened_others c.args.part (tree_of c.args.tree) (pool c.in-Ok.held).tree g.M.Incumbent.start.aside c.others_among-others.result
-    c.law_parts.ensures.counts (ap (λ (p : Pool). p.tree) c.in-Ok.ensures.pool) c.others_among-others.ensures c.requires.aside

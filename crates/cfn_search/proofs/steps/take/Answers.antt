@@ -4,4 +4,4 @@ use Rattle.cfn_search.proofs.steps.take.Goals as goal
 
 pub returns-in-Given-clause-goes : goal.returns-in-Given-clause-goes
 returns-in-Given-clause-goes g c =
-    goes_taken g.M.Incumbent.network g.M.Incumbent.start (pool c.args.held.now) (pool c.take.new.self) c.args.worker c.args.want c.in-Given.task.task c.law_kept.ensures.pool.numbered c.in-Given.ensures.takes.1 c.requires.search
+    goes_taken g.M.Incumbent.network g.M.Incumbent.start (pool c.args.held.now) (pool c.take.new.self) c.args.worker c.args.want c.in-Given.task.task c.law_kept.ensures.pool c.in-Given.ensures.takes.1 c.requires.search

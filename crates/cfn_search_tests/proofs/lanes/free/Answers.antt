@@ -9,5 +9,5 @@ by_answer false returned none same = inr (same refl, none refl)
 
 pub returns-clause-goes : goal.returns-clause-goes
 returns-clause-goes g c =
-    goes_back g.M.Incumbent.network g.M.Incumbent.start c.args.held.now c.back.new.self c.args.task.now.task c.law_kept.ensures.pool.numbered c.law_kept-2.ensures.some
+    goes_back g.M.Incumbent.network g.M.Incumbent.start c.args.held.now c.back.new.self c.args.task.now.task c.law_kept.ensures.pool c.law_kept-2.ensures.some
     (by_answer c.back.result c.back.ensures.back c.back.ensures.none c.back.ensures.same) c.requires.search

@@ -13,5 +13,5 @@ returns-clause-back g c = subst (λ given. IsReturned c.args.held.now given.task
 
 pub returns-clause-goes : goal.returns-clause-goes
 returns-clause-goes g c =
-    goes_back g.M.Incumbent.network g.M.Incumbent.start c.args.held.now c.back.new.self c.self.inside.task.task c.law_kept.ensures.pool.numbered c.law_kept-2.ensures.some
+    goes_back g.M.Incumbent.network g.M.Incumbent.start c.args.held.now c.back.new.self c.self.inside.task.task c.law_kept.ensures.pool c.law_kept-2.ensures.some
     (by_answer c.back.result c.back.ensures.back c.back.ensures.none c.back.ensures.same) c.requires.search

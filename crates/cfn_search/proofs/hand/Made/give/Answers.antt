@@ -1,5 +1,6 @@
 use Rattle.std.proofs.Common.{◌⊎◌, inl, inr, Bool, true, false, IsTrue, IsFalse, refl, sym, ap, ◌∙◌, subst, arith}
-use Rattle.cfn_machine.specs.Pool.{IsPiece, Task, AreNumbered}
+use Rattle.cfn_machine.specs.Pool.{IsPiece, Task}
+use Rattle.cfn_machine.specs.Laws.{IsPool}
 use Rattle.cfn_explore.specs.Values.{PieceValue, piece_of}
 use Rattle.cfn_pool.specs.Views.{Held, pool}
 use Rattle.cfn_search.specs.Searching.{IsSearch, GoesOn}
@@ -18,7 +19,7 @@ returns-in-Done-clause-goes g c =
     let made = ap (λ (p : PieceValue). p.threshold) is in
     let least = c.requires.least in
     let note = c.note-note.ensures.least in
-    goes_given g.M.Incumbent.network g.M.Incumbent.start (pool c.args.held.now) (pool c.give.new.self) c.self.inside.piece c.note-note.result c.law_kept.ensures.pool.numbered
+    goes_given g.M.Incumbent.network g.M.Incumbent.start (pool c.args.held.now) (pool c.give.new.self) c.self.inside.piece c.note-note.result c.law_kept.ensures.pool
     (subst (λ P. IsPiece P (piece_of c.self.inside.piece)) own c.law_kept-2.ensures.piece) (omega (arith, made, least, note)) c.in-Done.ensures.gives c.requires.search
 
 pub returns-clause-goes : goal.returns-clause-goes
@@ -32,6 +33,6 @@ returns-clause-goes g c =
     let of = ap (λ (t : Task). t.grant) c.task-in-Memory.ensures.task in
     subst (λ (held : Held). GoesOn start (pool held) (pool c.back.new.self)) same
     (goes_back g.M.Incumbent.network start c.give.new.self c.back.new.self c.task-in-Memory.result.now.task
-    (subst (λ (held : Held). AreNumbered (pool held)) (sym same) c.law_kept.ensures.pool.numbered) (omega (arith, some, few, given, of))
+    (subst (λ (held : Held). IsPool g.M.Incumbent.network (pool held)) (sym same) c.law_kept.ensures.pool) (omega (arith, some, few, given, of))
     (by_answer c.back.result c.back.ensures.back c.back.ensures.none c.back.ensures.same)
     (subst (λ (held : Held). IsSearch start (pool held)) (sym same) c.requires.search))
