@@ -1,12 +1,11 @@
 #!/usr/bin/env python3
 """A roster: who works each shift of a week.
 
-`write` prints roster.wcsp, `read` the plan of a report, `alternatives` the plans of a report of `kbest`.
+`solve` prints the best plan, a number as many of the cheapest ones, and `write` the file roster.wcsp.
 """
 
 from collections import Counter
 from functools import partial
-from itertools import pairwise
 
 from model import Model, Plan, main
 
@@ -39,7 +38,7 @@ def roster() -> Model:
     for place, shift in enumerate(SHIFTS):
         model.variable(shift, WISHES)
         model.cost(shift, {person: costs[place] for person, costs in WISHES.items()})
-    for shift, later in pairwise(SHIFTS):  # early and late of a day, late and early of the next
+    for shift, later in zip(SHIFTS, SHIFTS[1:]):  # early and late of a day, late and early of the next
         model.forbid([shift, later], is_same)
     for lates in zip(LATE, LATE[1:], LATE[2:]):
         model.forbid(lates, is_same)
@@ -55,7 +54,7 @@ def price(plan: Plan) -> int:
     """What a plan costs by the tables above. ValueError where it breaks a rule."""
     people = [plan[shift] for shift in SHIFTS]
     lates = people[1::2]
-    if any(one == other for one, other in pairwise(people)):
+    if any(one == other for one, other in zip(people, people[1:])):
         raise ValueError("a person works twice a day, or early behind a late shift")
     if any(lates[day] == lates[day + 1] == lates[day + 2] for day in range(5)):
         raise ValueError("a person has three late shifts in a row")

@@ -1,12 +1,13 @@
 #!/usr/bin/env python3
-"""A timetable: each lesson gets a period and a room. `write` prints timetable.wcsp, `read` the plan of a report."""
+"""A timetable: each lesson gets a period and a room. `solve` prints the best one, `write` the file timetable.wcsp."""
 
 from functools import partial
 from itertools import combinations, product
+from typing import Tuple
 
 from model import Model, Plan, main
 
-Slot = tuple[str, str]  # period and room
+Slot = Tuple[str, str]  # period and room
 
 PERIODS = ("Mon 1", "Mon 2", "Tue 1", "Tue 2")
 SEATS = {"hall": 30, "lab": 20}

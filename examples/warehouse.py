@@ -1,5 +1,5 @@
 #!/usr/bin/env python3
-"""Warehouses: which ones open, and which one serves each shop. `write` prints warehouse.wcsp, `read` the plan of a report."""
+"""Warehouses: which ones open, and which one serves each shop. `solve` prints the best plan, `write` the file warehouse.wcsp."""
 
 from functools import partial
 
@@ -20,12 +20,6 @@ SHOPS = {  # trucks a week, and what serving it costs from each warehouse, in th
     "Tilburg": (2, (4.5, 1.0, 3.5, 6.5)),
     "Venlo": (2, (3.5, 3.0, 5.5, 6.0)),
 }
-SCALE = 10  # a cost in the file is a tenth of a thousand euros
-
-
-def whole(cost: float) -> int:
-    """A cost of the tables in the file's units."""
-    return round(cost * SCALE)
 
 
 def needs(warehouse: str, state: str, chosen: str) -> bool:
@@ -40,10 +34,10 @@ def warehouse_choice() -> Model:
     model = Model("warehouse")
     for warehouse, (opening, _) in WAREHOUSES.items():
         model.variable(warehouse, ["closed", "open"])
-        model.cost(warehouse, {"open": whole(opening)})
+        model.cost(warehouse, {"open": opening})
     for shop, (_, costs) in SHOPS.items():
         model.variable(shop, WAREHOUSES)
-        model.cost(shop, {warehouse: whole(cost) for warehouse, cost in zip(WAREHOUSES, costs)})
+        model.cost(shop, dict(zip(WAREHOUSES, costs)))
         for warehouse in WAREHOUSES:
             model.forbid([warehouse, shop], partial(needs, warehouse))
     for warehouse, (_, capacity) in WAREHOUSES.items():
@@ -51,7 +45,7 @@ def warehouse_choice() -> Model:
     return model
 
 
-def price(plan: Plan) -> int:
+def price(plan: Plan) -> float:
     """What a plan costs by the tables above. ValueError where it breaks a rule."""
     cost = 0.0
     for place, (warehouse, (opening, capacity)) in enumerate(WAREHOUSES.items()):
@@ -60,7 +54,7 @@ def price(plan: Plan) -> int:
             raise ValueError(f"{warehouse} serves more than it can")
         cost += opening if plan[warehouse] == "open" else 0
         cost += sum(SHOPS[shop][1][place] for shop in served)
-    return whole(cost)
+    return cost
 
 
 if __name__ == "__main__":
