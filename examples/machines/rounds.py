@@ -10,7 +10,7 @@ rounds. Where there is no CERT yet, a short search on this machine makes the fir
 
 Each part is a command of its own. It is started on this machine, all at once; or behind a prefix, as 'srun -N1 -n1 --exclusive';
 or all are written, one a line, to the standard input of one command, as 'parallel --sshloginfile hosts'. FILE, CERT and its parts
-(CERT.part1 and so on) lie where all machines see them, by the same names.
+(CERT.round12345.part1 and so on) lie where all machines see them, by the same names.
 
 A part that is lost, killed or has a broken file is left out of the merge: it costs its own seconds alone. No machine has to be
 trusted, since `merge` judges each part by itself, and `check` judges CERT.
@@ -18,7 +18,6 @@ trusted, since `merge` judges each part by itself, and `check` judges CERT.
 The program is `wcspsolve` on the path, or what the variable WCSPSOLVE names. Standard library alone.
 """
 import argparse
-import glob
 import os
 import math
 import shlex
@@ -78,7 +77,8 @@ class Round:
         return math.ceil(reading + max(self.given.seconds, 10 * reading))
 
     def part(self, number):
-        return f"{self.given.certificate}.part{number}"
+        """A name of this run's own, so that no other file is touched."""
+        return f"{self.given.certificate}.round{os.getpid()}.part{number}"
 
     def command(self, number, parts, seconds):
         words = ["rebase", self.given.file, self.given.certificate, self.part(number)]
@@ -103,17 +103,19 @@ class Round:
         found = [self.part(number) for number in range(1, parts + 1)]
         good = [it for it in found if os.path.exists(it) and self.run("check", self.given.file, it)[0] == 0]
         if len(good) < parts:
-            say(f"{parts - len(good)} of {parts} parts are lost")
+            say(f"{parts - len(good)} of {parts} parts are lost" + ("" if good else f", and {self.given.certificate} is as it was"))
         return good
 
     def merge(self, parts):
         """Merges what came back; whether that went well."""
         good = self.good_parts(parts)
-        if not good:
+        merged = good and self.run("merge", self.given.file, self.given.certificate, *good)
+        for number in range(1, parts + 1):
+            if os.path.exists(self.part(number)):
+                os.remove(self.part(number))
+        if not merged:
             return False
-        status, said = self.run("merge", self.given.file, self.given.certificate, *good)
-        for it in glob.glob(glob.escape(self.given.certificate) + ".part*"):
-            os.remove(it)
+        status, said = merged
         say(said)
         return status == 0
 
