@@ -40,7 +40,7 @@ def main(words: Optional[List[str]] = None) -> int:
     except ProgramError as error:
         return _fail(str(error), _NO_PROGRAM if error.status is None else error.status)
     except OSError as error:
-        return _fail(str(error), _FAILED)
+        return _fail(f"{error.filename}: {error.strerror}" if error.filename else str(error), _FAILED)
 
 
 def _fail(message: str, status: int) -> int:
