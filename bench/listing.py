@@ -488,7 +488,7 @@ def main():
     options = parser.parse_args()
     program = options.wcspsolve
     if program is None:
-        subprocess.run([TOP / "wcspsolve"], stdout=subprocess.DEVNULL, check=False)
+        subprocess.run([TOP / "wcspsolve", "prove"], stdout=subprocess.DEVNULL, check=False)
         program = TOP / "crates" / "wcspsolve" / "out" / "wcspsolve"
     answer = measure_all if options.measure else compare_all
     with tempfile.TemporaryDirectory(prefix="listing-") as scratch:

@@ -138,7 +138,7 @@ def main():
     given = asked.parse_args()
     program = given.wcspsolve
     if program is None:
-        subprocess.run([os.path.join(TOP, "wcspsolve")], stdout=subprocess.DEVNULL, check=False)
+        subprocess.run([os.path.join(TOP, "wcspsolve"), "prove"], stdout=subprocess.DEVNULL, check=False)
         program = os.path.join(TOP, "crates", "wcspsolve", "out", "wcspsolve")
     well = True
     with tempfile.TemporaryDirectory() as folder:

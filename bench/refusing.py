@@ -159,7 +159,7 @@ def main():
     parser.add_argument("--wcspsolve", metavar="PATH", help="the program (built by the script at the top)")
     program = parser.parse_args().wcspsolve
     if program is None:
-        subprocess.run([os.path.join(TOP, "wcspsolve")], stdout=subprocess.DEVNULL, check=False)
+        subprocess.run([os.path.join(TOP, "wcspsolve"), "prove"], stdout=subprocess.DEVNULL, check=False)
         program = os.path.join(TOP, "crates", "wcspsolve", "out", "wcspsolve")
     return 0 if measured(os.path.abspath(program)) else 1
 

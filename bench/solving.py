@@ -518,7 +518,7 @@ def find_solvers(options: argparse.Namespace) -> list[Solver]:
     solvers: list[Solver] = []
     if "wcspsolve" in options.solvers:
         if options.wcspsolve is None:
-            subprocess.run([TOP / "wcspsolve"], stdout=subprocess.DEVNULL, check=False)
+            subprocess.run([TOP / "wcspsolve", "prove"], stdout=subprocess.DEVNULL, check=False)
             options.wcspsolve = TOP / "crates" / "wcspsolve" / "out" / "wcspsolve"
         if not os.access(options.wcspsolve, os.X_OK):
             print(f"{options.wcspsolve} is no program", file=sys.stderr)
