@@ -129,6 +129,13 @@ class Reading(unittest.TestCase):
         text = "{problem {mustbe <9} variables {a 2 b 2} functions {f {scope [a] costs [1 2]} g {scope [b] costs f}}}"
         self.assertEqual([price for _, price in prices(cfn.read(text))], [2, 3, 3, 4])
 
+    def test_factors_of_0_and_1_are_exact(self) -> None:
+        self.assertEqual(uai.read("MARKOV 1 3 1 1 0 3 0 1 1.0", "n", 10).rounding, 0)
+
+    def test_a_default_that_no_cell_has_says_nothing(self) -> None:
+        network = cfn.read("{problem {mustbe <9} variables {a 2} functions {f {scope [a] defaultcost 0.125 costs [0 1 1 2]}}}")
+        self.assertEqual(text_of(network, Format.WCSP), "network 1 2 1 9\n2\n1 0 1 1\n1 2\n")
+
     def test_uai_is_rounded_logarithms(self) -> None:
         network = uai.read(UAI, "n", 10**6)
         self.assertEqual(network.rounding, Fraction(2, 2 * 10**6))
@@ -189,6 +196,8 @@ class Reading(unittest.TestCase):
     def test_shared_tables_of_wcsp(self) -> None:
         network = wcsp.read("share 3 2 2 10\n2 2 2\n-2 0 1 0 1\n0 0 4\n2 1 2 0 -1\n")
         self.assertEqual(network.price([0, 0, 0]), 8)
+        network = wcsp.read("share 3 2 2 10\n2 2 2\n-2 0 1 3 1\n0 0 4\n2 1 2 0 -1\n")
+        self.assertEqual([network.price([0, 0, 0]), network.price([0, 1, 1])], [8, 6])
 
     def test_the_last_listing_counts(self) -> None:
         self.assertEqual(wcsp.read("twice 1 2 1 100\n2\n1 0 9 2\n0 5\n0 2\n").price([0]), 2)

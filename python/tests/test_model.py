@@ -14,7 +14,8 @@ from drawn import TOP, best, draw, prices
 
 from wcspsolve import FORBIDDEN, Model, ModelError, said
 from wcspsolve.formats import wcsp
-from wcspsolve.network import Sense, Whole, exact, scale_of
+from wcspsolve.network import Sense, Units, Whole, exact, scale_of
+from wcspsolve.report import interval
 
 
 def vans() -> Model:
@@ -116,6 +117,21 @@ class ExactCosts(unittest.TestCase):
             for (places, price), (_, cost) in zip(prices(network), prices(wcsp.read(text.getvalue()))):
                 told = None if cost is None else whole.units().told(cost)
                 self.assertEqual(told, price, (seed, places))
+
+    def test_bounds_change_places_where_the_greatest_is_asked_for(self) -> None:
+        units = Units(Fraction(1, 2), Fraction(1), Sense.GREATEST)
+        self.assertEqual(interval(2, 6, units), (-4, -2))
+        self.assertEqual(interval(2, None, units), (None, -2))
+        self.assertEqual(interval(2, None, Units()), (2, None))
+
+    def test_a_plan_does_not_show_sums(self) -> None:
+        model = vans()
+        last = model.total("vans in use", ["one", "two"], lambda part, value: value == "van", 1)
+        model.forbid([last], lambda count: count < 1)
+        network = model.network()
+        allowed = [network.plan(places) for places, price in prices(network) if price is not None]
+        plans = [{"one": "van", "two": "truck"}, {"one": "van", "two": "none"}, {"one": "truck", "two": "van"}]
+        self.assertEqual(allowed, plans)
 
     def test_drawn_networks_have_plans(self) -> None:
         self.assertGreater(sum(best(draw(seed)) is not None for seed in range(200)), 100)

@@ -107,6 +107,17 @@ class Faults(WithProgram):
                 result.check()
             self.assertEqual(refused.exception.status, 7)
 
+    def test_a_certificate_of_other_bounds_is_refused(self) -> None:
+        result = solve(hard(4))
+        result.check()
+        result.lower -= 1
+        with self.assertRaises(ProgramError):
+            result.check()
+
+    def test_a_plan_that_costs_something_else_is_refused(self) -> None:
+        with mock.patch.object(Network, "price", return_value=-1), self.assertRaises(ProgramError):
+            solve(hard(4))
+
     def test_words_that_the_program_refuses(self) -> None:
         with self.assertRaises(ProgramError) as refused:
             solve(hard(3), workers=65)
@@ -174,6 +185,8 @@ class CommandLine(WithProgram):
                 write(hard(), file)
             command = [sys.executable, "-B", "-m", "wcspsolve", "solve", "hard.wcsp"]
             world = {**os.environ, "PYTHONPATH": str(TOP / "python")}
+            self.addCleanup(signal.signal, signal.SIGINT, signal.getsignal(signal.SIGINT))
+            signal.signal(signal.SIGINT, signal.default_int_handler)  # what starts in the background inherits that it is ignored
             pipes = {"stdout": subprocess.PIPE, "stderr": subprocess.PIPE, "universal_newlines": True}
             child = subprocess.Popen(command, cwd=folder, env=world, start_new_session=True, **pipes)
             child.stderr.readline()
